@@ -1,9 +1,9 @@
 pub mod Ledger
 pub mod Begun
 pub mod Turn
-pub mod Starts
 pub mod Growing
 pub mod Meaning
+pub mod Starts
 pub mod Strangers
 pub mod Scan
 pub mod Union

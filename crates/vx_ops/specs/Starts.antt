@@ -3,6 +3,7 @@ use Rattle.std.specs.Prelude.{ℕ, ◌≤◌, ◌+◌, ◌*◌}
 use Rattle.vx_plan_nodes.specs.Plan.{union, join}
 use Rattle.vx_ops.specs.Ledger.{Op, scan_op, one_op, two_op, receive}
 use Rattle.vx_ops.specs.Turn.{Coming, sum_below}
+use Rattle.vx_ops.specs.Meaning.{Meaning}
 
 -- the most rows that it may return: no more than its input has; of a union those of both inputs, of a join each left row with each right one;
 -- of the consumer end of an exchange those of all its producers
@@ -24,3 +25,7 @@ op_idle (receive port) c = 0
 pub record StartsWithin (op : Op) (most idle : Coming → ℕ) : Type 0 where
   pub rows : (c : Coming) → most c ≤ op_most op c
   pub turns : (c : Coming) → idle c ≤ op_idle op c
+
+-- so it is with an operator that says this of itself
+abbrev pub Starts : Meaning → Type 0
+Starts m = StartsWithin m.op m.most m.idle

@@ -18,7 +18,7 @@ pub struct Collecting<K> {
 }
 
 impl<K: CollectingKernel> Collecting<K> {
-    ghost use Rattle.std.specs.Prelude.{◌≡◌, [], false};
+    ghost use Rattle.std.specs.Prelude.{◌≡◌, ◌+◌, [], false};
     ghost use Rattle.vx_ops.specs.Ledger.{Ledger, one_op};
     ghost use Rattle.vx_ops.specs.Turn.{fresh_ledger, after, GivesRows, Coming, with_rows, Pays};
     ghost use Rattle.vx_ops.specs.Collecting.{CollectingStands, collecting_op, collecting_types, collecting_most};
@@ -33,6 +33,7 @@ impl<K: CollectingKernel> Collecting<K> {
         ensures stands { CollectingStands K.unary K.HasRead result fresh_ledger }
         ensures op { collecting_op K.unary result ≡ one_op node (K.unary kernel) }
         ensures types { collecting_types K.types result ≡ K.types kernel }
+        ensures most { (c : Coming) → collecting_most K.held result c ≡ K.held kernel + c.left }
     {
         Collecting {
             node,

@@ -1,6 +1,6 @@
 //! The source that is made of a kernel which reads its right input before its left one.
 
-ghost use Rattle.std.specs.Prelude.{◌≡◌, ◌<◌, ◌++◌, [], Some, length};
+ghost use Rattle.std.specs.Prelude.{◌≡◌, ◌<◌, ◌+◌, ◌*◌, ◌++◌, [], Some, length};
 ghost use Rattle.vx_ops.specs.Ledger.{Stream, Ledger, two_op};
 ghost use Rattle.vx_ops.specs.Turn.{Fits, GotTyped, GivesRows, heard, gives, after, fresh_ledger, Coming, with_rows, own_turn, rows_in, idle_turn, Pays};
 ghost use Rattle.vx_ops.specs.Probing.{ProbingStands, probing_op, probing_types, probing_most, probing_idle, reads_next, rest_rows, RestTyped, HoldsSome};
@@ -73,6 +73,8 @@ impl<K: ProbeKernel> Probing<K> {
         ensures stands { ProbingStands K.binary K.HasRead K.HasBuilt result fresh_ledger }
         ensures op { probing_op K.binary result ≡ two_op node (K.binary kernel) }
         ensures types { probing_types K.types result ≡ K.types kernel }
+        ensures most { (c : Coming) → probing_most K.built result c ≡ c.left * (K.built kernel + c.right) }
+        ensures idle { (c : Coming) → probing_idle result c ≡ c.left + 1 }
     {
         Probing {
             node,

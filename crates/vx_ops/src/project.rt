@@ -49,7 +49,8 @@ impl Stepping<Projection> {
     ghost use Rattle.vx_plan_nodes.specs.Plan.{project};
     ghost use Rattle.vx_ops.specs.Ledger.{one_op};
     ghost use Rattle.vx_ops.specs.Turn.{fresh_ledger};
-    ghost use Rattle.vx_ops.specs.Project.{ProjectStands, project_op, project_types};
+    ghost use Rattle.vx_ops.specs.Project.{ProjectStands, project_op, project_types, project_meaning};
+    ghost use Rattle.vx_ops.specs.Starts.{Starts};
 
     /// A projection on these columns of rows of these types, in this order, at the node with this number, to which nothing came.
     pub fn new(
@@ -62,6 +63,7 @@ impl Stepping<Projection> {
         ensures stands { IfOk result (λ s. ProjectStands s fresh_ledger) }
         ensures op { IfOk result (λ s. project_op s ≡ one_op node (project columns.items)) }
         ensures types { IfOk result (λ s. project_types s ≡ record { left = types.now; right = types.now; out = map (type_at types.now) columns.items }) }
+        ensures starts { IfOk result (λ s. Starts (project_meaning s)) }
     {
         let types = Vec::from_slice(alloc, types)?;
         let kernel = Projection {

@@ -25,12 +25,14 @@ impl Drop for Scan {
 impl Scan {
     ghost use Rattle.std.specs.Prelude.{◌≡◌};
     ghost use Rattle.vx_ops.specs.Turn.{fresh_ledger};
-    ghost use Rattle.vx_ops.specs.Scan.{ScanStands, scan_types};
+    ghost use Rattle.vx_ops.specs.Scan.{ScanStands, scan_types, scan_meaning};
+    ghost use Rattle.vx_ops.specs.Starts.{Starts};
 
     /// A scan of a relation with these types, to which nothing came.
     pub fn new(types: Vec<ColType>) -> Scan
         ensures stands { ScanStands result fresh_ledger }
         ensures types { scan_types result ≡ record { left = types.items; right = types.items; out = types.items } }
+        ensures starts { Starts (scan_meaning result) }
     {
         Scan {
             types,

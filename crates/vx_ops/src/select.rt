@@ -37,13 +37,15 @@ impl Stepping<Selection> {
     ghost use Rattle.vx_plan_nodes.specs.Conditions.{conditions_of};
     ghost use Rattle.vx_ops.specs.Ledger.{one_op};
     ghost use Rattle.vx_ops.specs.Turn.{fresh_ledger};
-    ghost use Rattle.vx_ops.specs.Select.{SelectStands, select_op, select_types};
+    ghost use Rattle.vx_ops.specs.Select.{SelectStands, select_op, select_types, select_meaning};
+    ghost use Rattle.vx_ops.specs.Starts.{Starts};
 
     /// A selection over rows of these types at the node with this number, to which nothing came.
     pub fn new(alloc: Global, node: u32, conditions: Vec<Condition>, types: Vec<ColType>) -> Select
         ensures stands { SelectStands result fresh_ledger }
         ensures op { select_op result ≡ one_op node (select (conditions_of conditions.items)) }
         ensures types { select_types result ≡ record { left = types.items; right = types.items; out = types.items } }
+        ensures starts { Starts (select_meaning result) }
     {
         let kernel = Selection {
             alloc,

@@ -49,7 +49,8 @@ impl Collecting<Sorting> {
     ghost use Rattle.vx_plan_nodes.specs.Plan.{sort};
     ghost use Rattle.vx_ops.specs.Ledger.{one_op};
     ghost use Rattle.vx_ops.specs.Turn.{fresh_ledger};
-    ghost use Rattle.vx_ops.specs.Sort.{SortStands, sort_op, sort_types};
+    ghost use Rattle.vx_ops.specs.Sort.{SortStands, sort_op, sort_types, sort_meaning};
+    ghost use Rattle.vx_ops.specs.Starts.{Starts};
 
     /// A sort on these columns of rows of these types, at the node with this number, to which nothing came.
     pub fn new(
@@ -62,6 +63,7 @@ impl Collecting<Sorting> {
         ensures stands { IfOk result (λ s. SortStands s fresh_ledger) }
         ensures op { IfOk result (λ s. sort_op s ≡ one_op node (sort columns.items)) }
         ensures types { IfOk result (λ s. sort_types s ≡ record { left = types.now; right = types.now; out = types.now }) }
+        ensures starts { IfOk result (λ s. Starts (sort_meaning s)) }
     {
         let read = Rows::new(alloc, types)?;
         let kernel = Sorting {

@@ -34,7 +34,8 @@ impl Union {
     ghost use Rattle.vx_plan_nodes.specs.Plan.{union};
     ghost use Rattle.vx_ops.specs.Ledger.{Ledger, two_op};
     ghost use Rattle.vx_ops.specs.Turn.{fresh_ledger, after, GivesRows, Coming, Pays};
-    ghost use Rattle.vx_ops.specs.Union.{UnionStands, union_op, union_types, union_want, union_most, union_idle};
+    ghost use Rattle.vx_ops.specs.Union.{UnionStands, union_op, union_types, union_want, union_most, union_idle, union_meaning};
+    ghost use Rattle.vx_ops.specs.Starts.{Starts};
     ghost use Rattle.vx_ops.specs.declared.fault.StreamState.TheVariants.{Running};
     ghost use Rattle.vx_ops.specs.declared.turn.Polled.TheVariants as polled;
     ghost use Rattle.vx_ops.specs.declared.turn.Got.TheVariants as got_of;
@@ -44,6 +45,7 @@ impl Union {
         ensures stands { UnionStands result fresh_ledger }
         ensures op { union_op result ≡ two_op node union }
         ensures types { union_types result ≡ record { left = types.items; right = types.items; out = types.items } }
+        ensures starts { Starts (union_meaning result) }
     {
         Union {
             node,
