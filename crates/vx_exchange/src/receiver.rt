@@ -44,6 +44,7 @@ impl Receiver {
     ghost use Rattle.vx_ports.specs.Packets.{PacketView, last, FitsContent};
     ghost use Rattle.vx_ops.specs.Ledger.{Ledger, receive, IsFor};
     ghost use Rattle.vx_ops.specs.Turn.{after, fresh_ledger, GivesRows, Coming, with_rows, Pays};
+    ghost use Rattle.vx_ops.specs.Starts.{StartsWithin};
     ghost use Rattle.vx_ops.specs.declared.turn.Got.TheVariants as got;
     ghost use Rattle.vx_exchange.specs.Receiver.{ReceiverStands, receiver_op, receiver_types, receiver_want, receiver_most, receiver_end, unmerged_end, ChangesNext};
 
@@ -60,6 +61,7 @@ impl Receiver {
         ensures stands { IfOk result (λ r. ReceiverStands r fresh_ledger) }
         ensures op { IfOk result (λ r. receiver_op r ≡ receive (unmerged_end exchange place producers types.items)) }
         ensures types { IfOk result (λ r. receiver_types r ≡ record { left = types.items; right = types.items; out = types.items }) }
+        ensures starts { IfOk result (λ r. StartsWithin (receiver_op r) (receiver_most r) (λ c. 0)) }
     {
         let ended = vec![in alloc; false; producers as usize]?;
         Ok(Receiver {
