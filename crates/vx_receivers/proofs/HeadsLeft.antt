@@ -1,15 +1,16 @@
 -- The rows at hand of producers, after the head of one was written, and what turns of a merging consumer end cost.
-use Rattle.std.proofs.Common.{◌≡◌, ℕ, zero, suc, ◌+◌, ◌-◌, ◌<◌, ◌≤◌, List, [], ◌∷◌, ◌++◌, length, drop, set, get_or, refl, sym, ap, ◌∙◌, arith, length-drop}
+use Rattle.std.proofs.Common.{◌≡◌, ℕ, zero, suc, ◌+◌, ◌-◌, ◌<◌, ◌≤◌, List, [], ◌∷◌, ◌++◌, length, All, drop, set, get_or, refl, sym, ap, ◌∙◌, arith, length-drop}
 use Rattle.std.specs.Prelude.{slice_range}
 use Rattle.std.proofs.lemmas.List.{length-append, length-take-le}
-use Rattle.std.proofs.lemmas.List.Sums.{sum_by-set}
+use Rattle.std.proofs.lemmas.List.Sums.{sum_by-set, sum_by-le}
 use Rattle.vx_values.specs.Values.{Row}
+use Rattle.vx_values.specs.declared.value.ColType.{ColType}
 use Rattle.vx_ops.specs.Turn.{Pays, sum_below, with_more, if_running}
 use Rattle.vx_ops.specs.Growing.{running-grows}
 use Rattle.vx_ops.specs.declared.fault.StreamState.{StreamState}
 use Rattle.vx_ops.specs.declared.turn.Polled.TheVariants as polled
 use Rattle.vx_ops.proofs.Costs.{sum-more}
-use Rattle.vx_receivers.specs.Heads.{SameEnds, rows_left, all_left}
+use Rattle.vx_receivers.specs.Heads.{SameEnds, rows_left, all_left, IsFresh}
 use Rattle.vx_receivers.specs.declared.heads.StreamHead.{StreamHead}
 
 -- the same producers have ended
@@ -19,6 +20,12 @@ ends-set (h ∷ hs) zero x g e s zero = s ∙ ap (λ (z : StreamHead). z.ended) 
 ends-set (h ∷ hs) zero x g e s (suc p) = refl
 ends-set (h ∷ hs) (suc i) x g e s zero = refl
 ends-set (h ∷ hs) (suc i) x g e s (suc p) = ends-set hs i x g e s p
+
+-- nothing came of any producer
+pub none-left : (types : List ColType) (hs : List StreamHead) → All (IsFresh types) hs → all_left hs ≡ 0
+none-left types hs fresh =
+    let each = sum_by-le rows_left 0 hs (λ k d lt. let f = fresh k d lt in let e = ap length f.rows in omega (arith, e)) in
+    omega (arith, each)
 
 -- rows of one producer were given, from its position on up to another
 pub run-left : (hs : List StreamHead) (i to : ℕ) (x g : StreamHead) (found more : List Row) → i < length hs → x ≡ get_or hs i x → g.rows ≡ x.rows → g.at ≡ to → x.at ≤ to → to ≤ length x.rows.rows

@@ -39,7 +39,8 @@ impl InOrderReceiver {
     ghost use Rattle.vx_ops.specs.Turn.{after, fresh_ledger, GivesRows, Coming, with_rows, Pays};
     ghost use Rattle.vx_ops.specs.declared.fault.StreamState.TheVariants.{Running};
     ghost use Rattle.vx_ops.specs.declared.turn.Got.TheVariants as got_of;
-    ghost use Rattle.vx_receivers.specs.InOrder.{InOrderStands, in_order_end, in_order_op, in_order_types, in_order_want, in_order_most};
+    ghost use Rattle.vx_ops.specs.Starts.{Starts};
+    ghost use Rattle.vx_receivers.specs.InOrder.{InOrderStands, in_order_end, in_order_op, in_order_types, in_order_want, in_order_most, in_order_meaning};
 
     /// A consumer end at a place of an exchange, by its node number, for this many producers of rows of these types: at least one. Nothing came yet.
     pub fn new(exchange: u32, place: u32, producers: u32, types: Vec<ColType>) -> InOrderReceiver
@@ -47,6 +48,7 @@ impl InOrderReceiver {
         ensures stands { InOrderStands result fresh_ledger }
         ensures op { in_order_op result ≡ receive (record { exchange = exchange; place = place; producers = producers; types = types.items; merge = []; in_order = true }) }
         ensures types { in_order_types result ≡ record { left = types.items; right = types.items; out = types.items } }
+        ensures starts { Starts (in_order_meaning result) }
     {
         InOrderReceiver {
             port: ReceiverPlace {

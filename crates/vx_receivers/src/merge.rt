@@ -86,6 +86,7 @@ impl StreamMerge {
         ensures types { IfOk result (λ m. m.types ≡ types.now) }
         ensures many { IfOk result (λ m. length m.heads ≡ producers) }
         ensures nothing { IfOk result (λ m. HasMerged m (λ p. false) (λ p. []) []) }
+        ensures none_left { IfOk result (λ m. all_left m.heads ≡ 0) }
     {
         let heads = new_heads(alloc, producers, types)?;
         let missing = first_lacking(heads.as_slice());

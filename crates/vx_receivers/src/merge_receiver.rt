@@ -46,7 +46,8 @@ impl MergeReceiver {
     ghost use Rattle.vx_ops.specs.declared.fault.StreamState.TheVariants.{Running};
     ghost use Rattle.vx_ops.specs.declared.turn.Got.TheVariants as got_of;
     ghost use Rattle.vx_ops.specs.declared.turn.Want.TheVariants as want_of;
-    ghost use Rattle.vx_receivers.specs.MergeReceiver.{MergeReceiverStands, merge_end, merge_receiver_op, merge_receiver_types, merge_receiver_want, merge_receiver_most};
+    ghost use Rattle.vx_ops.specs.Starts.{Starts};
+    ghost use Rattle.vx_receivers.specs.MergeReceiver.{MergeReceiverStands, merge_end, merge_receiver_op, merge_receiver_types, merge_receiver_want, merge_receiver_most, merge_receiver_meaning};
 
     /// A consumer end at a place of an exchange, by its node number, for this many producers of rows of these types, each of
     /// which sends them sorted on the columns `merge`: 1 to 64. Nothing came yet.
@@ -64,6 +65,7 @@ impl MergeReceiver {
         ensures stands { IfOk result (λ r. MergeReceiverStands r fresh_ledger) }
         ensures op { IfOk result (λ r. merge_receiver_op r ≡ receive (record { exchange = exchange; place = place; producers = producers; types = types.items; merge = merge.items; in_order = false })) }
         ensures types { IfOk result (λ r. merge_receiver_types r ≡ record { left = types.items; right = types.items; out = types.items }) }
+        ensures starts { IfOk result (λ r. Starts (merge_receiver_meaning r)) }
     {
         let kernel = StreamMerge::new(alloc, producers as usize, merge, types.as_slice())?;
         Ok(MergeReceiver {
