@@ -3,15 +3,16 @@ use Rattle.std.proofs.Common.{ℕ, ◌≡◌, ◌+◌, true, false, ◌∷◌, �
 use Rattle.std.proofs.lemmas.List.{map-append}
 use Rattle.std.proofs.lemmas.List.Concat.{flat_map-append}
 use Rattle.vx_rows.specs.Lists.{each_below}
-use Rattle.vx_plan_nodes.specs.Plan.{Plan, scan, unary, binary, exchange, size}
+use Rattle.vx_plan_nodes.specs.Plan.{Plan, scan, unary, binary, exchange, size, target}
 use Rattle.vx_plan_nodes.specs.Streams.{workers}
 use Rattle.vx_plan_nodes.specs.Workers.{workers_below}
 use Rattle.vx_layout.specs.Layout.{spans_of}
 use Rattle.vx_worker.specs.Fragment.{RunModel}
 use Rattle.vx_worker.specs.Morsels.{morsel_count}
-use Rattle.vx_steps.specs.Crews.{stations_of, sends_below}
+use Rattle.vx_steps.specs.Crews.{stations_of, sends_below, queues_below}
+use Rattle.vx_steps.specs.Queues.{open_line}
 use Rattle.vx_steps.specs.declared.station.Station.TheVariants.{Inner, Exchange}
-use Rattle.vx_exec.specs.Links.{station_in, sends_in}
+use Rattle.vx_exec.specs.Links.{station_in, sends_in, queues_in}
 
 module _ (S : RunModel) where
   -- how many morsels a relation has
@@ -36,3 +37,13 @@ module _ (S : RunModel) where
       flat_map-append sends_in (spans_of S.sizes p top next) (spans_of S.sizes q top last) ∙ λ i. sends-by-spans p top next i ++ sends-by-spans q top last i
   sends-by-spans (exchange n c k m p) top next =
       ap (λ z. each_below (workers S.sizes (size p)) (λ _. n) ++ z) (sends-by-spans p next (next + workers S.sizes (size p)))
+
+  pub queues-by-spans : (p : Plan) (top next : ℕ) → flat_map queues_in (spans_of S.sizes p top next) ≡ queues_below S p
+  queues-by-spans (scan n c r m z) top next = refl
+  queues-by-spans (unary n c op p) top next = queues-by-spans p top next
+  queues-by-spans (binary n c op p q) top next =
+      let last = next + workers_below S.sizes p in
+      flat_map-append queues_in (spans_of S.sizes p top next) (spans_of S.sizes q top last) ∙ λ i. queues-by-spans p top next i ++ queues-by-spans q top last i
+  queues-by-spans (exchange n c k m p) top next =
+      ap (λ z. each_below (workers S.sizes (size p)) (λ _. each_below (workers S.sizes (target k)) (λ _. open_line)) ++ z)
+      (queues-by-spans p next (next + workers S.sizes (size p)))

@@ -18,8 +18,8 @@ use Rattle.vx_ops.specs.declared.fault.Fault.{Fault}
 use Rattle.vx_ops.specs.declared.fault.Fault.TheVariants.{Own, Passed}
 use Rattle.vx_ends.specs.Tasks.{keeps, post_types}
 use Rattle.vx_worker.specs.Fragment.{RunModel}
-use Rattle.vx_operators.specs.Operator.{OperatorStands, operator_op}
-use Rattle.vx_operators.specs.Destination.{DestinationStands, task_of, post_of, bounds_of}
+use Rattle.vx_operators.specs.Operator.{OperatorStands, operator_op, operator_most, operator_idle}
+use Rattle.vx_operators.specs.Destination.{DestinationStands, task_of, post_of, bounds_of, held_in, unclosed_in}
 use Rattle.vx_worker.specs.Trace.{scan_morsels}
 use Rattle.vx_worker.specs.Worker.{role_of, sender_of}
 use Rattle.vx_operators.specs.declared.operator.Operator.{Operator}
@@ -32,12 +32,13 @@ use Rattle.vx_steps.specs.Crews.{Duty, duty_of, root_duty, duties_below}
 use Rattle.vx_steps.specs.LinksView.{LinksView}
 use Rattle.vx_plan_nodes.specs.Workers.{crew_size, IsWithin, worker_group_at}
 use Rattle.vx_steps.specs.Endings.{ReportsFirst}
-use Rattle.vx_steps.specs.Ready.{Ready}
+use Rattle.vx_steps.specs.Ready.{Ready, IsRested}
 use Rattle.vx_steps.specs.Headline.{IsAccepted, IsTrueFault, Answers}
 use Rattle.vx_steps.specs.declared.verdict.RunState.{RunState}
 use Rattle.vx_steps.specs.declared.verdict.RunState.TheVariants as run_state
 use Rattle.vx_steps.proofs.Build.{crew-count}
 use Rattle.vx_steps.proofs.RunSteps.{map-length}
+use Rattle.vx_exec.specs.Crew.{IsNew}
 use Rattle.vx_exec.specs.Job.{model_of, sizes_of}
 use Rattle.vx_runs.specs.Promise.{Reports}
 use Rattle.vx_exec.specs.Promise.{PromiseOnceSet}
@@ -123,15 +124,18 @@ module _ (j : Job) (hash : List ℕ → Row → ℕ → ℕ) where
   pub record IsReadyFor (ws : List (Worker Operator Destination)) (w : LinksView) : Type 0 where
     pub accepted : IsJobAccepted
     pub ready : ReadyIn (model_of hash j) (plan j.plan.now) ws w
+    pub rested : All (IsRested operator_op operator_most operator_idle post_of held_in unclosed_in) ws
 
   -- the workers and links of a crew are ready as the crew is
   pub ready-parts : IsJobAccepted → (crew : Crew) (ws : Vec (Worker Operator Destination) Global) (w : LinksView) → ws ≡ crew.workers → w ≡ board_of crew
-      → ReadyIn (model_of hash j) (plan j.plan.now) crew.workers.items (board_of crew) → IsReadyFor ws.items w
-  ready-parts ok crew ws w e f h =
+      → ReadyIn (model_of hash j) (plan j.plan.now) crew.workers.items (board_of crew) → All (IsNew j) crew.workers.items → IsReadyFor ws.items w
+  ready-parts ok crew ws w e f h new =
       let P : List (Worker Operator Destination) → LinksView → Type 0 = λ z b. ReadyIn (model_of hash j) (plan j.plan.now) z b in
+      let same : crew.workers.items ≡ ws.items = sym (ap (λ (v : Vec (Worker Operator Destination) Global). v.items) e) in
       record {
         accepted = ok;
-        ready = subst (λ z. P z w) (sym (ap (λ (v : Vec (Worker Operator Destination) Global). v.items) e)) (subst (λ b. P crew.workers.items b) (sym f) h);
+        ready = subst (λ z. P z w) same (subst (λ b. P crew.workers.items b) (sym f) h);
+        rested = subst (λ z. All (IsRested operator_op operator_most operator_idle post_of held_in unclosed_in) z) same (λ k d l. (new k d l).rested);
       }
 
   -- they are as many as the plan asks for

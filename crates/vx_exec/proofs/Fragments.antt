@@ -14,11 +14,12 @@ use Rattle.vx_algebra.proofs.ColumnFacts.{columns-below}
 use Rattle.vx_check_rules.specs.Checked.{relations}
 use Rattle.vx_laws.proofs.Bags.{and-left, and-right}
 use Rattle.vx_ops.specs.Ledger.{Op, one_op, two_op, receive}
+use Rattle.vx_ops.specs.Starts.{StartsWithin}
 use Rattle.vx_ops.specs.Turn.{Shape, fresh_ledger}
 use Rattle.vx_ops.specs.Scan.{scan_types}
 use Rattle.vx_ops.specs.declared.scan.Scan.{Scan}
 use Rattle.vx_worker.specs.Fragment.{alone, above, both, fragment}
-use Rattle.vx_operators.specs.Operator.{OperatorStands, operator_op, operator_types}
+use Rattle.vx_operators.specs.Operator.{OperatorStands, operator_op, operator_types, operator_most, operator_idle}
 use Rattle.vx_worker.specs.Trees.{shape as tree_shape}
 use Rattle.vx_worker.specs.Wishes.{Numbered}
 use Rattle.vx_operators.specs.declared.operator.Operator.{Operator}
@@ -46,6 +47,7 @@ scan-tree j place n c r shared z o h = record {
   shape_is = λ hash. ap (λ x. alone n x) (h.op_is hash);
   gives = h.gives;
   stands = (fresh_ledger, h.stands, record { scanned = refl; came = refl }, refl);
+  starts = h.starts;
   numbered = λ i k. leaf-numbered n i 1 (omega arith) (eqb-true n i k);
   typed = λ leaves fit. h.takes ∙ fit;
 }
@@ -56,6 +58,7 @@ exchange-tree j place n c kind merge p o h = record {
   shape_is = λ hash. ap (λ x. alone n x) (h.op_is hash);
   gives = h.gives;
   stands = (fresh_ledger, h.stands, record { scanned = refl; came = refl }, refl);
+  starts = h.starts;
   numbered = λ i k. leaf-numbered n i (suc (nodes p)) (omega arith) (eqb-true n i (and-left (n == i) (is_numbered (suc i) p) k));
   typed = λ leaves fit. h.takes ∙ fit.0;
 }
@@ -66,6 +69,7 @@ unary-tree j place n c op p o b h below = record {
   shape_is = λ hash. ap (λ x. above x (tree_shape operator_op b.value)) (h.op_is hash) ∙ ap (λ x. above (one_op n op) x) (below.shape_is hash);
   gives = h.gives;
   stands = (fresh_ledger, h.stands, below.stands, refl);
+  starts = (h.starts, below.starts);
   numbered = λ i k. widened b.value (suc i) (suc i + nodes p) i (i + suc (nodes p)) (omega arith) (omega arith) (below.numbered (suc i) (and-right (n == i) (is_numbered (suc i) p) k));
   typed = λ leaves fit. (h.takes ∙ sym below.gives, below.typed leaves fit);
 }
@@ -79,6 +83,7 @@ binary-tree j place n c op p q o a b h left right = record {
       ∙ ap (λ x. both (two_op n op) (fragment (model_of hash j) place p) x) (right.shape_is hash);
   gives = h.gives;
   stands = (fresh_ledger, h.stands, left.stands, right.stands, refl);
+  starts = (h.starts, left.starts, right.starts);
   numbered = λ i k.
       let inputs = and-right (n == i) (is_numbered (suc i) p && is_numbered (suc i + nodes p) q) k in (
         suc i + nodes p,
@@ -90,11 +95,13 @@ binary-tree j place n c op p q o a b h left right = record {
 }
 
 pub scan-operator : (j : Job) (place n : ℕ) (c : Claim) (r : ℕ) (shared : Bool) (z : Size) (s : Scan) (o : Operator) (types : List ColType)
-    → o.kind ≡ of_kind.Scan s → OperatorStands o fresh_ledger → scan_types s ≡ record { left = types; right = types; out = types }
+    → o.kind ≡ of_kind.Scan s → OperatorStands o fresh_ledger → StartsWithin (operator_op o) (operator_most o) (operator_idle o)
+    → scan_types s ≡ record { left = types; right = types; out = types }
     → types ≡ types_of (relations j.plan.now) (scan n c r shared z) → IsOperatorOf j place (scan n c r shared z) o
-scan-operator j place n c r shared z s o types is stands shape e = record {
+scan-operator j place n c r shared z s o types is stands starts shape e = record {
   op_is = λ hash. ap kind_op is;
   stands = stands;
+  starts = starts;
   takes = ap (λ k. (kind_types k).left) is ∙ ap (λ (x : Shape). x.left) shape ∙ e;
   gives = ap (λ k. (kind_types k).out) is ∙ ap (λ (x : Shape). x.out) shape ∙ e;
 }
@@ -115,13 +122,15 @@ consumes number place producers types merge in_order = receive (record { exchang
 -- one that was made for an exchange
 pub consumer-made : {E : Type 0} (j : Job) (place n : ℕ) (c : Claim) (kind : ExchangeKind) (merge : List ℕ) (p : Plan) (types : List ColType) (producers : ℕ) (made : Result Operator E)
     → IfOk made (λ o. operator_op o ≡ consumes n place producers types merge (is_concat kind))
-    → IfOk made (λ o. OperatorStands o fresh_ledger) → IfOk made (λ o. (operator_types o).left ≡ types) → IfOk made (λ o. (operator_types o).out ≡ types)
+    → IfOk made (λ o. OperatorStands o fresh_ledger) → IfOk made (λ o. StartsWithin (operator_op o) (operator_most o) (operator_idle o))
+    → IfOk made (λ o. (operator_types o).left ≡ types) → IfOk made (λ o. (operator_types o).out ≡ types)
     → producers ≡ workers (worker_group_at j.layout.worker_groups.items) (size p) → types ≡ types_of (relations j.plan.now) p → IfOk made (IsOperatorOf j place (exchange n c kind merge p))
-consumer-made j place n c kind merge p types producers (Ok o) op stands reads returns many e = record {
+consumer-made j place n c kind merge p types producers (Ok o) op stands starts reads returns many e = record {
   op_is = λ hash.
       op ∙ ap (λ z. consumes n place z types merge (is_concat kind)) many ∙ ap (λ z. consumes n place (workers (worker_group_at j.layout.worker_groups.items) (size p)) z merge (is_concat kind)) e;
   stands = stands;
+  starts = starts;
   takes = reads ∙ e;
   gives = returns ∙ e;
 }
-consumer-made j place n c kind merge p types producers (Err x) op stands reads returns many e = tt
+consumer-made j place n c kind merge p types producers (Err x) op stands starts reads returns many e = tt

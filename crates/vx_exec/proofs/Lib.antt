@@ -6,6 +6,7 @@ pub mod Dealing
 pub mod Each
 pub mod Starting
 pub mod Posts
+pub mod Taking
 pub mod Workers
 pub mod BySpans
 pub mod Outcomes

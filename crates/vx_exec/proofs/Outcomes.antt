@@ -1,5 +1,5 @@
 -- What a run of a job comes to, in terms of the plan, the database and the setup that the job was made of.
-use Rattle.std.proofs.Common.{◌≡◌, ◌⊎◌, ℕ, ◌<◌, List, Ok, Err, Result, sym, ◌∙◌, subst, inl, inr}
+use Rattle.std.proofs.Common.{◌≡◌, ◌⊎◌, ℕ, ◌<◌, List, Ok, Err, Result, IfOk, refl, sym, ◌∙◌, subst, inl, inr}
 use Rattle.std.specs.List.{All}
 use Rattle.std.specs.Result.{IsErrAnd}
 use Rattle.vx_catalog.specs.Database.{Database}
@@ -7,6 +7,11 @@ use Rattle.vx_values.specs.Values.{Row}
 use Rattle.vx_plan_nodes.specs.Plan.{Plan}
 use Rattle.vx_plan_nodes.specs.TypedView.{plan as whole_plan, resolved_of}
 use Rattle.vx_worker.specs.Fragment.{RunModel}
+use Rattle.vx_worker.specs.declared.worker.Worker.{Worker}
+use Rattle.vx_operators.specs.declared.operator.Operator.{Operator}
+use Rattle.vx_operators.specs.declared.destination.Destination.{Destination}
+use Rattle.vx_steps.specs.declared.verdict.RunState.{RunState}
+use Rattle.vx_steps.specs.declared.verdict.RunState.TheVariants as run_state
 use Rattle.vx_plan_nodes.specs.declared.typed_plan.TypedPlan.{TypedPlan}
 use Rattle.vx_plan_nodes.specs.Workers.{crew_size, worker_group_at}
 use Rattle.vx_runs.specs.Sizes.{Sizes}
@@ -16,8 +21,8 @@ use Rattle.vx_setup.specs.Setup.{SetupView}
 use Rattle.vx_exec.specs.Job.{sizes_of, model_of}
 use Rattle.vx_runs.specs.Promise.{Reports}
 use Rattle.vx_exec.specs.Promise.{CrewPromise, PromiseOnceSet, WhereSet}
-use Rattle.vx_exec.specs.Runs.{NamesFirst, IsFirstReported, IsScheduled, IsInRounds, Scheduled, InRounds, IsCountedInRounds, CountedInRounds}
-use Rattle.vx_runs.specs.Runs.{IsSetUp, RunFails, for_fault}
+use Rattle.vx_exec.specs.Runs.{ComesTo, NamesFirst, IsFirstReported, IsScheduled, IsInRounds, Scheduled, InRounds, IsCountedInRounds, CountedInRounds}
+use Rattle.vx_runs.specs.Runs.{IsSetUp, IsWhole, RunFails, for_fault}
 use Rattle.vx_setup.specs.declared.fault.RunFault.{RunFault}
 use Rattle.vx_setup.specs.declared.fault.RunFault.TheVariants as fault
 use Rattle.vx_exec.specs.declared.job.Job.{Job}
@@ -95,6 +100,15 @@ module _ {p : TypedPlan} {db : Database} {setup : SetupView} (hash : List ℕ �
       run = record { done = tt; set = tt; refused = inl (subst (λ z. RunFails (resolved_of p) db setup z) (sym handed) none.refused) };
       first = λ s set. inl (inl (handed ∙ none.memory s set));
     }
+
+-- where all have ended, so has the run
+pub comes-whole : (ws : List (Worker Operator Destination)) (v : RunState) (r : Result RunOutcome RunFault) → (v ≡ run_state.Unfinished → ⊥) → ComesTo ws v r → IfOk r IsWhole
+comes-whole ws run_state.Done (Ok (run_outcome.Done t)) whole h = tt
+comes-whole ws run_state.Done (Ok run_outcome.Unfinished) whole h = absurd h
+comes-whole ws run_state.Unfinished (Ok x) whole h = absurd (whole refl)
+comes-whole ws (run_state.Failed f) (Ok (run_outcome.Done t)) whole h = absurd h
+comes-whole ws (run_state.Failed f) (Ok run_outcome.Unfinished) whole h = absurd h
+comes-whole ws v (Err e) whole h = tt
 
 module _ (hash : List ℕ → Row → ℕ → ℕ) (W : RunModel) (p : Plan) where
   -- each step names a worker, whatever the run comes to

@@ -1,6 +1,7 @@
 -- A worker that was made of a tree and a destination is to do what the plan says, and is new.
 use Rattle.std.proofs.Common.{◌≡◌, ℕ, List, [], sym, ap, ◌∙◌, subst}
-use Rattle.vx_values.specs.Values.{Row}
+use Rattle.std.specs.List.{Contains}
+use Rattle.vx_values.specs.Values.{Row, Val}
 use Rattle.vx_values.specs.declared.value.ColType.{ColType}
 use Rattle.vx_plan_nodes.specs.Plan.{Plan, ExchangeKind, target}
 use Rattle.vx_plan_nodes.specs.Streams.{workers}
@@ -12,21 +13,25 @@ use Rattle.vx_ends.specs.Tasks.{Post, sends_by_ship, keeps}
 use Rattle.vx_ends.specs.Sending.{RoutesAs}
 use Rattle.vx_worker.specs.Fragment.{Frag, fragment, goes}
 use Rattle.vx_worker.specs.Trace.{empty_trace}
-use Rattle.vx_worker.specs.Trees.{shape}
+use Rattle.vx_worker.specs.Remaining.{Starts, TreeStarts}
+use Rattle.vx_worker.specs.Trees.{shape, TakesFrom}
 use Rattle.vx_worker.specs.Wishes.{TreeTyped}
-use Rattle.vx_worker.specs.Worker.{Role, role_of, IsReady, WorkerStands}
-use Rattle.vx_operators.specs.Operator.{OperatorStands, operator_op, operator_types}
-use Rattle.vx_operators.specs.Destination.{DestinationStands, task_of, post_of, bounds_of, is_open, has_closed}
+use Rattle.vx_worker.specs.Worker.{Role, role_of, tree_of, inputs_of as sources_in, IsReady, WorkerStands}
+use Rattle.vx_operators.specs.Operator.{OperatorStands, operator_op, operator_types, operator_most, operator_idle}
+use Rattle.vx_operators.specs.Destination.{DestinationStands, task_of, post_of, bounds_of, is_open, has_closed, held_in, unclosed_in}
 use Rattle.vx_operators.specs.declared.operator.Operator.{Operator}
 use Rattle.vx_operators.specs.declared.destination.Destination.{Destination}
 use Rattle.vx_worker.specs.declared.tree.Tree.{Tree}
 use Rattle.vx_worker.specs.declared.worker.Worker.{Worker}
 use Rattle.vx_steps.specs.Crews.{Duty, root_duty, producer_duty}
+use Rattle.vx_steps.specs.Ready.{IsRested}
 use Rattle.vx_plan_nodes.specs.Workers.{worker_group_at}
+use Rattle.vx_exec.specs.Inputs.{inputs_of}
 use Rattle.vx_exec.specs.Job.{model_of, types_at}
 use Rattle.vx_exec.specs.LeafTypes.{LeavesFit}
 use Rattle.vx_exec.specs.Crew.{IsTreeOf, IsNew}
 use Rattle.vx_exec.specs.declared.job.Job.{Job}
+use Rattle.vx_exec.proofs.Taking.{inputs-take}
 
 duty-with : Frag → Post → Duty
 duty-with f p = record { frag = f; post = p }
@@ -54,6 +59,23 @@ unfolding duty-with
 root-does j hash p tree types post h e same =
     ap (λ z. duty-with z post) (h.shape_is hash) ∙ ap (λ z. duty-with (fragment (model_of hash j) 0 p) z) (e ∙ ap keeps same)
 
+-- made of this tree, over these producers, it has no more to do than its operators have, and takes of no others
+made-rested : (j : Job) (place : ℕ) (p : Plan) (tree : Tree Operator) (inputs : List (ℕ × ℕ)) (post : Post) (bounds : List Val) (w : Worker Operator Destination) → IsTreeOf j place p tree
+    → role_of operator_op post_of bounds_of w ≡ record { frag = shape operator_op tree; post = post; bounds = bounds; inputs = inputs }
+    → inputs ≡ inputs_of (worker_group_at j.layout.worker_groups.items) p
+    → Starts operator_most operator_idle post_of held_in unclosed_in (shape operator_op tree) w
+    → IsRested operator_op operator_most operator_idle post_of held_in unclosed_in w
+made-rested j place p tree inputs post bounds w h role sources starts =
+    let S = model_of (λ name key n. 0) j in
+    let frag : shape operator_op (tree_of w) ≡ shape operator_op tree = ap (λ (x : Role). x.frag) role in
+    let are : sources_in w ≡ inputs_of S.sizes p = ap (λ (x : Role). x.inputs) role ∙ sources in
+    let placed : shape operator_op (tree_of w) ≡ fragment S place p = frag ∙ h.shape_is (λ name key n. 0) in
+    record {
+      starts = subst (λ (f : Frag). Starts operator_most operator_idle post_of held_in unclosed_in f w) (sym frag) starts;
+      takes = λ x i k.
+          subst (λ (f : Frag). TakesFrom x i f) (sym placed) (inputs-take S place p x i (subst (λ (l : List (ℕ × ℕ)). Contains l (x, i)) are k));
+    }
+
 -- made of this tree and destination it is new
 pub made-new : (j : Job) (place : ℕ) (p : Plan) (tree : Tree Operator) (d : Destination) (inputs : List (ℕ × ℕ)) (w : Worker Operator Destination)
     → IsTreeOf j place p tree → LeavesFit (types_at j) (relations j.plan.now) p
@@ -62,9 +84,13 @@ pub made-new : (j : Job) (place : ℕ) (p : Plan) (tree : Tree Operator) (d : De
     → ((goes : Routing) (m : ℕ → ℕ → List Row) → DestinationStands d goes fresh (λ _. []) → WorkerStands OperatorStands operator_op DestinationStands task_of goes m w empty_trace)
     → ((goes : Routing) → DestinationStands d goes fresh (λ _. []))
     → ((hash : List ℕ → Row → ℕ → ℕ) → RoutesAs (post_of d) (bounds_of d) hash (goes (model_of hash j)))
+    → inputs ≡ inputs_of (worker_group_at j.layout.worker_groups.items) p
+    → (TreeStarts operator_op operator_most operator_idle tree → ((k : ℕ) → held_in d k ≡ 0) → Starts operator_most operator_idle post_of held_in unclosed_in (shape operator_op tree) w)
+    → ((k : ℕ) → held_in d k ≡ 0)
     → IsNew j w
-made-new j place p tree d inputs w h leaves ready role stands begins routes = record {
+made-new j place p tree d inputs w h leaves ready role stands begins routes sources starts none = record {
   ready = ready (types_at j) (h.typed (types_at j) leaves);
   stands = λ r m. stands r m (begins r);
   routes = λ hash. subst (λ (x : Role). RoutesAs x.post x.bounds hash (goes (model_of hash j))) (sym role) (routes hash);
+  rested = made-rested j place p tree inputs (post_of d) (bounds_of d) w h role sources (starts h.starts none);
 }

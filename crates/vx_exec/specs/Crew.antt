@@ -11,20 +11,23 @@ use Rattle.vx_plan_nodes.specs.Types.{types_of}
 use Rattle.vx_plan_nodes.specs.Numbering.{is_numbered, nodes}
 use Rattle.vx_check_rules.specs.Checked.{relations}
 use Rattle.vx_ops.specs.Ledger.{fresh, Op, scan_op, one_op, two_op, receive}
+use Rattle.vx_ops.specs.Starts.{StartsWithin}
 use Rattle.vx_ops.specs.Turn.{Shape, fresh_ledger}
 use Rattle.vx_ends.specs.Sending.{RoutesAs}
 use Rattle.vx_worker.specs.Fragment.{RunModel, fragment, goes}
 use Rattle.vx_worker.specs.Trace.{empty_trace}
+use Rattle.vx_worker.specs.Remaining.{TreeStarts}
 use Rattle.vx_worker.specs.Trees.{shape, TreeStands}
 use Rattle.vx_worker.specs.Wishes.{fresh_reads, tree_types, Numbered, TreeTyped}
 use Rattle.vx_worker.specs.Worker.{role_of, sender_of, IsReady, WorkerStands}
-use Rattle.vx_operators.specs.Operator.{OperatorStands, operator_op, operator_types}
-use Rattle.vx_operators.specs.Destination.{DestinationStands, task_of, post_of, bounds_of, is_open, has_closed}
+use Rattle.vx_operators.specs.Operator.{OperatorStands, operator_op, operator_types, operator_most, operator_idle}
+use Rattle.vx_operators.specs.Destination.{DestinationStands, task_of, post_of, bounds_of, is_open, has_closed, held_in, unclosed_in}
 use Rattle.vx_operators.specs.declared.operator.Operator.{Operator}
 use Rattle.vx_operators.specs.declared.destination.Destination.{Destination}
 use Rattle.vx_worker.specs.declared.tree.Tree.{Tree}
 use Rattle.vx_worker.specs.declared.worker.Worker.{Worker}
 use Rattle.vx_steps.specs.Crews.{Duty, duty_of}
+use Rattle.vx_steps.specs.Ready.{IsRested}
 use Rattle.vx_exec.specs.Job.{model_of, types_at}
 use Rattle.vx_exec.specs.LeafTypes.{LeavesFit}
 use Rattle.vx_exec.specs.declared.job.Job.{Job}
@@ -48,6 +51,7 @@ TakesAt catalog (exchange n c k merge p) s = s.left ≡ types_of catalog p
 pub record IsOperatorOf (j : Job) (place : ℕ) (p : Plan) (o : Operator) : Type 0 where
   pub op_is : (hash : List ℕ → Row → ℕ → ℕ) → operator_op o ≡ op_at (model_of hash j) place p
   pub stands : OperatorStands o fresh_ledger
+  pub starts : StartsWithin (operator_op o) (operator_most o) (operator_idle o)
   pub takes : TakesAt (relations j.plan.now) p (operator_types o)
   pub gives : (operator_types o).out ≡ types_of (relations j.plan.now) p
 
@@ -56,6 +60,7 @@ pub record IsTreeOf (j : Job) (place : ℕ) (p : Plan) (tree : Tree Operator) : 
   pub shape_is : (hash : List ℕ → Row → ℕ → ℕ) → shape operator_op tree ≡ fragment (model_of hash j) place p
   pub gives : tree_types operator_types tree ≡ types_of (relations j.plan.now) p
   pub stands : TreeStands OperatorStands tree fresh_reads fresh
+  pub starts : TreeStarts operator_op operator_most operator_idle tree
   pub numbered : (i : ℕ) → is_numbered i p ≡ true → Numbered i (i + nodes p) tree
   pub typed : (leaves : ℕ → List ColType) → LeavesFit leaves (relations j.plan.now) p → TreeTyped operator_types leaves tree
 
@@ -68,3 +73,4 @@ pub record IsNew (j : Job) (w : Worker Operator Destination) : Type 0 where
   pub ready : IsReady operator_types post_of is_open has_closed (types_at j) w
   pub stands : (goes : Routing) (m : ℕ → ℕ → List Row) → WorkerStands OperatorStands operator_op DestinationStands task_of goes m w empty_trace
   pub routes : (hash : List ℕ → Row → ℕ → ℕ) → RoutesAs (post_of (sender_of w)) (bounds_of (sender_of w)) hash (goes (model_of hash j))
+  pub rested : IsRested operator_op operator_most operator_idle post_of held_in unclosed_in w

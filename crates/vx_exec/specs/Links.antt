@@ -4,8 +4,10 @@ use Rattle.vx_rows.specs.Lists.{each_below}
 use Rattle.vx_catalog.specs.Database.{rows_at}
 use Rattle.vx_layout.specs.declared.span.NodeSpan.{NodeSpan}
 use Rattle.vx_layout.specs.declared.span.NodeSpan.TheVariants as span
+use Rattle.vx_ports.specs.LinkView.{LinkView}
 use Rattle.vx_worker.specs.Morsels.{morsel_count}
 use Rattle.vx_steps.specs.LinksView.{LinksView}
+use Rattle.vx_steps.specs.Queues.{open_line}
 use Rattle.vx_steps.specs.Scans.{full_hand}
 use Rattle.vx_steps.specs.declared.station.Station.{Station}
 use Rattle.vx_steps.specs.declared.station.Station.TheVariants as station
@@ -32,6 +34,12 @@ abbrev pub sends_in : NodeSpan → List ℕ
 sends_in span.Inner = []
 sends_in (span.Exchange x) = each_below x.producers (λ _. x.number)
 sends_in (span.Scan s) = []
+
+-- of each producer of a node its queues: one to each consumer, open and without packets
+abbrev pub queues_in : NodeSpan → List (List LinkView)
+queues_in span.Inner = []
+queues_in (span.Exchange x) = each_below x.producers (λ _. each_below x.consumers (λ _. open_line))
+queues_in (span.Scan s) = []
 
 -- what connects the workers of a crew, the first of whom has the first turn
 abbrev pub board_of : Crew → LinksView

@@ -7,8 +7,8 @@ use Rattle.vx_ops.specs.declared.fault.Code.TheVariants.{Overflow, NoMemory, Uns
 use Rattle.vx_ops.specs.declared.fault.Fault.{Fault}
 use Rattle.vx_ops.specs.declared.fault.Fault.TheVariants.{Own, Passed}
 use Rattle.vx_ends.specs.Tasks.{keep, keeps}
-use Rattle.vx_operators.specs.Operator.{OperatorStands, operator_op, operator_want}
-use Rattle.vx_operators.specs.Destination.{DestinationStands, task_of, post_of, bounds_of}
+use Rattle.vx_operators.specs.Operator.{OperatorStands, operator_op, operator_want, operator_most, operator_idle}
+use Rattle.vx_operators.specs.Destination.{DestinationStands, task_of, post_of, bounds_of, held_in, unclosed_in}
 use Rattle.vx_worker.specs.Fragment.{RunModel}
 use Rattle.vx_worker.specs.Trace.{scan_morsels}
 use Rattle.vx_worker.specs.Worker.{sender_of}
@@ -73,7 +73,7 @@ module _ (hash : List ℕ → Row → ℕ → ℕ) (W : RunModel) (p : Plan) whe
     pub ready : Ready OperatorStands operator_op DestinationStands task_of post_of bounds_of hash (scan_morsels W) W p begun links
     pub ended : List (Worker Operator Destination)
     pub links_after : LinksView
-    pub follows : Follows OperatorStands operator_want operator_op DestinationStands task_of post_of bounds_of hash (scan_morsels W) steps begun links ended links_after
+    pub follows : Follows OperatorStands operator_want operator_op operator_most operator_idle DestinationStands task_of post_of bounds_of held_in unclosed_in hash (scan_morsels W) steps begun links ended links_after
     pub verdict : RunState
     pub judged : Judged ended verdict
     pub comes : ComesTo ended verdict result
@@ -85,7 +85,7 @@ module _ (hash : List ℕ → Row → ℕ → ℕ) (W : RunModel) (p : Plan) whe
     pub ready : Ready OperatorStands operator_op DestinationStands task_of post_of bounds_of hash (scan_morsels W) W p begun links
     pub ended : List (Worker Operator Destination)
     pub links_after : LinksView
-    pub follows : FollowsRounds OperatorStands operator_want operator_op DestinationStands task_of post_of bounds_of hash (scan_morsels W) limit begun links ended links_after
+    pub follows : FollowsRounds OperatorStands operator_want operator_op operator_most operator_idle DestinationStands task_of post_of bounds_of held_in unclosed_in hash (scan_morsels W) limit begun links ended links_after
     pub verdict : RunState
     pub judged : Judged ended verdict
     pub comes : ComesTo ended verdict result

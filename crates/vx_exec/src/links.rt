@@ -1,9 +1,7 @@
 //! What connects the workers of a job, by the spans of its layout.
 
-ghost use Rattle.std.specs.Prelude.{◌≡◌, ◌∷◌, ◌++◌, map, flat_map, IfOk, OnOk};
-ghost use Rattle.std.specs.List.{All};
-ghost use Rattle.vx_steps.specs.Queues.{AreEmpty};
-ghost use Rattle.vx_exec.specs.Links.{morsels_in, station_in, sends_in};
+ghost use Rattle.std.specs.Prelude.{◌≡◌, [], ◌∷◌, ◌++◌, map, flat_map, IfOk, OnOk};
+ghost use Rattle.vx_exec.specs.Links.{morsels_in, station_in, sends_in, queues_in};
 
 use crate::job::Job;
 use std::alloc::{AllocError, Global};
@@ -80,8 +78,7 @@ pub fn sends_of(alloc: Global, spans: &[NodeSpan]) -> Result<Vec<u32>, AllocErro
 
 // Adds a queue from each producer of a node to each consumer, if the node is an exchange.
 fn add_ports(ports: &mut Vec<Ports>, alloc: Global, span: NodeSpan) -> Result<(), AllocError>
-    requires { All AreEmpty ports.old.items }
-    ensures { OnOk result (All AreEmpty ports.new.items) }
+    ensures { OnOk result (ports.new.items ≡ ports.old.items ++ queues_in span) }
 {
     let NodeSpan::Exchange(exchange) = span else {
         return Ok(());
@@ -94,7 +91,7 @@ fn add_ports(ports: &mut Vec<Ports>, alloc: Global, span: NodeSpan) -> Result<()
 
 /// The queues of each worker, by their numbers. The root's has none.
 pub fn ports_of(alloc: Global, spans: &[NodeSpan]) -> Result<Vec<Ports>, AllocError>
-    ensures { IfOk result (λ v. All AreEmpty v.items) }
+    ensures { IfOk result (λ v. v.items ≡ [] ∷ flat_map queues_in spans.now) }
 {
     let mut ports = Vec::new(alloc);
     ports.push(Ports::new(alloc, 0)?)?;

@@ -1,9 +1,12 @@
 //! Runs in one thread.
 
-ghost use Rattle.std.specs.Prelude.{◌≡◌, ◌<◌, true, length, List};
+ghost use Rattle.std.specs.Prelude.{◌≡◌, ◌<◌, ◌≤◌, true, length, List, IfOk};
 ghost use Rattle.std.specs.List.{slice_index_or};
 ghost use Rattle.vx_values.specs.declared.value.ColType.{ColType};
+ghost use Rattle.vx_catalog.specs.Database.{rows_at};
 ghost use Rattle.vx_plan_nodes.specs.TypedView.{plan as whole_plan};
+ghost use Rattle.vx_plan_nodes.specs.Workers.{crew_size, worker_group_at};
+ghost use Rattle.vx_layout.specs.Needed.{rounds_needed};
 ghost use Rattle.vx_check_rules.specs.Checked.{is_allowed, is_root_allowed};
 ghost use Rattle.vx_check_rules.specs.CheckedView.{typed_plan};
 ghost use Rattle.vx_ops.specs.declared.fault.Fault.TheVariants.{Passed};
@@ -17,6 +20,8 @@ ghost use Rattle.vx_exec.specs.Job.{model_of, sizes_of};
 ghost use Rattle.vx_setup.specs.Counts.{is_wanted, counts_in};
 ghost use Rattle.vx_exec.specs.Runs.{CountedInRounds, fault_reported, ComesTo, IsBadStepOf, NamesFirst, Scheduled, InRounds};
 ghost use Rattle.vx_runs.specs.Promise.{NothingElse};
+ghost use Rattle.vx_runs.specs.Runs.{IsWhole};
+ghost use Rattle.vx_steps.specs.Schedules.{HoldsRounds};
 ghost use Rattle.vx_exec.specs.Promise.{CrewPromise, PromiseOnceSet, WhereSet};
 
 use crate::counting::keep_counts;
@@ -96,6 +101,7 @@ fn run_job<R: Router>(
     ensures rounds { InRounds (R.route_of router.now) (model_of (R.route_of router.now) job.now) (whole_plan job.now.plan.now) limit result }
     ensures counted { is_wanted counts.old ≡ true
         → CountedInRounds (R.route_of router.now) (model_of (R.route_of router.now) job.now) (whole_plan job.now.plan.now) limit result (counts_in counts.new) }
+    ensures ends { rounds_needed (rows_at job.now.database.now) (worker_group_at job.now.layout.worker_groups.items) (whole_plan job.now.plan.now) ≤ limit → IfOk result IsWhole }
 {
     job.meets();
     let crew = Crew::new(alloc, job)?;
@@ -117,6 +123,8 @@ fn schedule_job<R: Router>(
     ensures run { PromiseOnceSet (R.route_of router.now) (IsBadStepOf steps.now) job.now.plan.now job.now.database.now (sizes_of job.now) result }
     ensures named { NamesFirst steps.now (model_of (R.route_of router.now) job.now) (whole_plan job.now.plan.now) result }
     ensures scheduled { Scheduled (R.route_of router.now) (model_of (R.route_of router.now) job.now) (whole_plan job.now.plan.now) steps.now result }
+    ensures ends { HoldsRounds (rounds_needed (rows_at job.now.database.now) (worker_group_at job.now.layout.worker_groups.items) (whole_plan job.now.plan.now))
+        (crew_size (worker_group_at job.now.layout.worker_groups.items) (whole_plan job.now.plan.now)) steps.now → IfOk result IsWhole }
 {
     job.meets();
     let crew = Crew::new(alloc, job)?;
@@ -128,8 +136,8 @@ fn schedule_job<R: Router>(
 }
 
 /// A run of a plan over a database: at most so many rounds, in each of which every worker makes one step, in number order. Once all
-/// workers have ended and some failed, the fault is that of the lowest-numbered one that failed by itself. That rounds suffice is not promised.
-/// What each worker counted is in `counts` afterwards, also where some failed; memory for it is refused only where it is wanted.
+/// workers have ended and some failed, the fault is that of the lowest-numbered one that failed by itself. As many rounds as `rounds_needed` of
+/// `vx_layout` says are enough: with that limit or a higher one the answer is not Unfinished. What each worker counted is in `counts` afterwards, also where some failed; memory for it is refused only where it is wanted.
 pub fn run_rounds<R: Router>(
     alloc: Global,
     plan: &CheckedPlan,
@@ -143,6 +151,7 @@ pub fn run_rounds<R: Router>(
     ensures rounds { WhereSet (R.route_of router.now) (typed_plan plan.now) database.now setup.now (λ W p. InRounds (R.route_of router.now) W p limit result) }
     ensures counted { is_wanted counts.old ≡ true
         → WhereSet (R.route_of router.now) (typed_plan plan.now) database.now setup.now (λ W p. CountedInRounds (R.route_of router.now) W p limit result (counts_in counts.new)) }
+    ensures ends { WhereSet (R.route_of router.now) (typed_plan plan.now) database.now setup.now (λ W p. rounds_needed W.db W.sizes p ≤ limit → IfOk result IsWhole) }
 {
     let job = job_of(alloc, plan.plan(), database, setup)?;
     run_job(alloc, &job, router, limit, counts)
@@ -150,6 +159,7 @@ pub fn run_rounds<R: Router>(
 
 /// A run of a plan over a database by a schedule: one step of the worker with each of these numbers, in this order.
 /// The root's worker is 0; then come the producers of each exchange, by place, the exchanges in preorder of their nodes.
+/// A schedule that holds as many rounds as `rounds_needed` of `vx_layout` says, with any steps between, is enough: its answer is not Unfinished.
 pub fn run_scheduled<R: Router>(
     alloc: Global,
     plan: &CheckedPlan,
@@ -161,6 +171,8 @@ pub fn run_scheduled<R: Router>(
     ensures promise { CrewPromise (R.route_of router.now) (IsBadStepOf steps.now) (typed_plan plan.now) database.now setup.now result }
     ensures named { WhereSet (R.route_of router.now) (typed_plan plan.now) database.now setup.now (λ W p. NamesFirst steps.now W p result) }
     ensures scheduled { WhereSet (R.route_of router.now) (typed_plan plan.now) database.now setup.now (λ W p. Scheduled (R.route_of router.now) W p steps.now result) }
+    ensures ends { WhereSet (R.route_of router.now) (typed_plan plan.now) database.now setup.now
+        (λ W p. HoldsRounds (rounds_needed W.db W.sizes p) (crew_size W.sizes p) steps.now → IfOk result IsWhole) }
 {
     let job = job_of(alloc, plan.plan(), database, setup)?;
     schedule_job(alloc, &job, router, steps)

@@ -1,5 +1,5 @@
 -- What a run in threads comes to, from what its workers came to.
-use Rattle.std.proofs.Common.{Vec, Global, ◌≡◌, ◌⊎◌, ℕ, List, Ok, Err, Result, IfOk, refl, sym, ap, ◌∙◌, subst, inl, inr, map, length, vec_len, arith}
+use Rattle.std.proofs.Common.{Vec, Global, ◌≡◌, ◌⊎◌, ℕ, List, Ok, Err, Result, sym, ap, ◌∙◌, subst, inl, inr, map, length, vec_len, arith}
 use Rattle.std.specs.List.{All}
 use Rattle.std.specs.Result.{IsErrAnd}
 use Rattle.vx_values.specs.Values.{Row}
@@ -16,21 +16,16 @@ use Rattle.vx_operators.specs.declared.destination.Destination.{Destination}
 use Rattle.vx_steps.proofs.RunSteps.{map-length}
 use Rattle.vx_steps.specs.LinksView.{LinksView}
 use Rattle.vx_steps.specs.Ready.{Ready}
-use Rattle.vx_steps.specs.declared.verdict.RunState.{RunState}
-use Rattle.vx_steps.specs.declared.verdict.RunState.TheVariants as run_state
 use Rattle.vx_setup.specs.declared.fault.RunFault.{RunFault}
 use Rattle.vx_setup.specs.declared.fault.RunFault.TheVariants as fault
 use Rattle.vx_exec.specs.Crew.{IsNew}
 use Rattle.vx_exec.specs.Job.{model_of}
 use Rattle.vx_exec.specs.Links.{board_of}
-use Rattle.vx_exec.specs.Runs.{ComesTo}
 use Rattle.vx_setup.specs.declared.counts.WorkerCounts.{WorkerCounts}
 use Rattle.vx_exec.specs.declared.crew.Crew.{Crew}
 use Rattle.vx_exec.specs.declared.job.Job.{Job}
 use Rattle.vx_runs.specs.declared.outcome.RunOutcome.{RunOutcome}
-use Rattle.vx_runs.specs.declared.outcome.RunOutcome.TheVariants as run_outcome
 use Rattle.vx_parallel.specs.Crew.{AreNew}
-use Rattle.vx_runs.specs.Runs.{IsWhole}
 use Rattle.vx_parallel.specs.Parallel.{IsCountedCrew, CountedByThreads}
 
 -- the workers of a crew are new
@@ -48,15 +43,6 @@ new-parts j crew ws w e f ready new =
       );
       new = subst (λ z. All (IsNew j) z) (sym items) new;
     }
-
--- where all have ended, so has the run
-pub comes-whole : (ws : List (Worker Operator Destination)) (v : RunState) (r : Result RunOutcome RunFault) → (v ≡ run_state.Unfinished → ⊥) → ComesTo ws v r → IfOk r IsWhole
-comes-whole ws run_state.Done (Ok (run_outcome.Done t)) whole h = tt
-comes-whole ws run_state.Done (Ok run_outcome.Unfinished) whole h = absurd h
-comes-whole ws run_state.Unfinished (Ok x) whole h = absurd (whole refl)
-comes-whole ws (run_state.Failed f) (Ok (run_outcome.Done t)) whole h = absurd h
-comes-whole ws (run_state.Failed f) (Ok run_outcome.Unfinished) whole h = absurd h
-comes-whole ws v (Err e) whole h = tt
 
 -- no thread was started, or memory was refused
 abbrev pub IsRefusal : RunFault → Type 0

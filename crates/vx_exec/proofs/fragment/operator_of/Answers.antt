@@ -22,6 +22,7 @@ returns-in_ok-types-in-Scan c =
     let s = c.in-Scan.field-1 in
     subst (λ z. IsOperatorOf j c.args.place (plan_of z) c.of.result) (sym c.in-Scan.is)
     (scan-operator j c.args.place h.number (claim_of h.claim) s.relation s.shared (size_of s.size) c.new-scan.result c.of.result types c.of.ensures.kind c.of.ensures.stands
+    (c.of.ensures.starts c.new-scan.ensures.starts)
     c.new-scan.ensures.types
     (subst (λ z. types ≡ types_of (relations j.plan.now) (plan_of z)) c.in-Scan.is given))
 
@@ -35,7 +36,7 @@ returns-in_ok-types-in-Exchange c =
     let made = c.consumer_operator in
     subst (λ z. IfOk made.result (IsOperatorOf j c.args.place (plan_of z))) (sym c.in-Exchange.is)
     (consumer-made j c.args.place h.number (claim_of h.claim) (kind_of x.kind) x.merge.items (plan_of c.in-Exchange.input.value) types c.workers-producers.result made.result
-    made.ensures.op made.ensures.stands made.ensures.reads made.ensures.returns
+    made.ensures.op made.ensures.stands made.ensures.starts made.ensures.reads made.ensures.returns
     (c.workers-producers.ensures.value ∙ ap (λ z. workers (worker_group_at j.layout.worker_groups.items) z) c.size.ensures ∙ ap (λ z. workers (worker_group_at j.layout.worker_groups.items) (size (plan_of z))) c.deref-in-Exchange.ensures)
     (subst (λ z. types ≡ types_of (relations j.plan.now) (plan_of z)) c.in-Exchange.is given))
 

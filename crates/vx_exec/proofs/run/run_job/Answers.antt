@@ -1,5 +1,5 @@
 use Rattle.std.proofs.Common.{subst}
-use Rattle.vx_plan_nodes.specs.TypedView.{plan as whole_plan}
+use Rattle.vx_plan_nodes.specs.TypedView.{plan as whole_plan, resolved_of}
 use Rattle.vx_plan_nodes.specs.Types.{types_of}
 use Rattle.vx_check_rules.specs.Checked.{relations}
 use Rattle.vx_exec.specs.Counts.{AreCountsOf}
@@ -7,7 +7,7 @@ use Rattle.vx_setup.specs.Counts.{counts_in}
 use Rattle.vx_exec.specs.Job.{model_of}
 use Rattle.vx_runs.specs.Promise.{NothingElse}
 use Rattle.vx_exec.specs.Runs.{IsInRounds}
-use Rattle.vx_exec.proofs.Outcomes.{rounds-reported, counted-reported}
+use Rattle.vx_exec.proofs.Outcomes.{rounds-reported, counted-reported, comes-whole}
 use Rattle.vx_exec.proofs.Finishing.{job-accepted, ready-parts, has-run, first-types, not-passed, comes-kept}
 use Rattle.vx_exec.proofs.run.run_job.Goals as goal
 
@@ -17,7 +17,7 @@ answer_of-requires g c =
     let hash = g.R.Router.route_of c.args.router.now in
     let parts = c.into_parts-workers in
     let ok = job-accepted j hash (g.met.R.Router.in_range c.args.router.now) c.meets.ensures c.requires.allowed c.requires.root in
-    let begun = ready-parts j hash ok c.in_ok-crew.crew parts.result.0 parts.result.1 parts.ensures.workers parts.ensures.links (c.in_ok-crew.ensures.ready hash) in
+    let begun = ready-parts j hash ok c.in_ok-crew.crew parts.result.0 parts.result.1 parts.ensures.workers parts.ensures.links (c.in_ok-crew.ensures.ready hash) c.in_ok-crew.ensures.new in
     let end = c.judge_rounds-verdict in
     let run = has-run j hash parts.result.0.items end.new.workers.items parts.result.1 end.result begun end.ensures.roles end.ensures.answers end.ensures.first in
     record {
@@ -32,7 +32,7 @@ returns g c =
     let hash = g.R.Router.route_of c.args.router.now in
     let parts = c.into_parts-workers in
     let ok = job-accepted j hash (g.met.R.Router.in_range c.args.router.now) c.meets.ensures c.requires.allowed c.requires.root in
-    let begun = ready-parts j hash ok c.in_ok-crew.crew parts.result.0 parts.result.1 parts.ensures.workers parts.ensures.links (c.in_ok-crew.ensures.ready hash) in
+    let begun = ready-parts j hash ok c.in_ok-crew.crew parts.result.0 parts.result.1 parts.ensures.workers parts.ensures.links (c.in_ok-crew.ensures.ready hash) c.in_ok-crew.ensures.new in
     let end = c.judge_rounds-verdict in
     let run = has-run j hash parts.result.0.items end.new.workers.items parts.result.1 end.result begun end.ensures.roles end.ensures.answers end.ensures.first in
     let rounds : IsInRounds hash (model_of hash j) (whole_plan j.plan.now) c.args.limit c.answer_of.result = record {
@@ -52,4 +52,7 @@ returns g c =
       counted = λ wanted.
           counted-reported hash (model_of hash j) (whole_plan j.plan.now) c.answer_of.result c.args.limit (counts_in c.keep_counts.new.counts)
           (record { run = rounds; counted = subst (λ ws. AreCountsOf ws (counts_in c.keep_counts.new.counts)) c.as_slice.ensures.value (c.in_ok-keep_counts.ensures.counts wanted) });
+      ends = λ enough.
+          comes-whole end.new.workers.items end.result c.answer_of.result
+          (end.ensures.ends (model_of hash j) (resolved_of j.plan.now).total (whole_plan j.plan.now) begun.accepted begun.ready begun.rested enough) c.answer_of.ensures;
     }

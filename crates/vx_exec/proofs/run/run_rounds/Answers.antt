@@ -1,6 +1,8 @@
-use Rattle.std.proofs.Common.{refl, subst, inl}
+use Rattle.std.proofs.Common.{◌≤◌, IfOk, refl, subst, inl}
+use Rattle.vx_layout.specs.Needed.{rounds_needed}
 use Rattle.vx_setup.specs.Counts.{counts_in}
 use Rattle.vx_runs.specs.Promise.{NothingElse}
+use Rattle.vx_runs.specs.Runs.{IsWhole}
 use Rattle.vx_exec.specs.Runs.{InRounds, CountedInRounds}
 use Rattle.vx_exec.proofs.Outcomes.{made-of, NoJobOf, where-set, nothing-ran, promise-kept, promise-refused}
 use Rattle.vx_exec.proofs.run.run_rounds.Goals as goal
@@ -14,6 +16,7 @@ returns g c =
       promise = promise-kept hash NothingElse r made c.run_job.ensures.run;
       rounds = where-set hash (λ W q. InRounds hash W q c.args.limit r) made c.run_job.ensures.rounds;
       counted = λ wanted. where-set hash (λ W q. CountedInRounds hash W q c.args.limit r (counts_in c.run_job.new.counts)) made (c.run_job.ensures.counted wanted);
+      ends = where-set hash (λ W q. rounds_needed W.db W.sizes q ≤ c.args.limit → IfOk r IsWhole) made c.run_job.ensures.ends;
     }
 
 pub returns-in_err-job : goal.returns-in_err-job
@@ -27,4 +30,5 @@ returns-in_err-job g c =
       promise = promise-refused hash NothingElse r e handed none;
       rounds = nothing-ran hash (λ W q z. InRounds hash W q c.args.limit z) r e handed none (λ W q. inl refl);
       counted = λ wanted. nothing-ran hash (λ W q z. CountedInRounds hash W q c.args.limit z (counts_in c.args.counts.now)) r e handed none (λ W q. inl refl);
+      ends = nothing-ran hash (λ W q z. rounds_needed W.db W.sizes q ≤ c.args.limit → IfOk z IsWhole) r e handed none (λ W q few. tt);
     }

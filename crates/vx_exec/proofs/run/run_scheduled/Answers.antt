@@ -1,4 +1,8 @@
-use Rattle.std.proofs.Common.{refl, subst, inl}
+use Rattle.std.proofs.Common.{IfOk, refl, subst, inl}
+use Rattle.vx_layout.specs.Needed.{rounds_needed}
+use Rattle.vx_plan_nodes.specs.Workers.{crew_size}
+use Rattle.vx_runs.specs.Runs.{IsWhole}
+use Rattle.vx_steps.specs.Schedules.{HoldsRounds}
 use Rattle.vx_exec.specs.Runs.{Scheduled, IsBadStepOf, NamesFirst}
 use Rattle.vx_exec.proofs.Outcomes.{made-of, NoJobOf, where-set, nothing-ran, promise-kept, promise-refused}
 use Rattle.vx_exec.proofs.run.run_scheduled.Goals as goal
@@ -13,6 +17,7 @@ returns g c =
       promise = promise-kept hash (IsBadStepOf steps) r made c.schedule_job.ensures.run;
       named = where-set hash (λ W q. NamesFirst steps W q r) made c.schedule_job.ensures.named;
       scheduled = where-set hash (λ W q. Scheduled hash W q steps r) made c.schedule_job.ensures.scheduled;
+      ends = where-set hash (λ W q. HoldsRounds (rounds_needed W.db W.sizes q) (crew_size W.sizes q) steps → IfOk r IsWhole) made c.schedule_job.ensures.ends;
     }
 
 pub returns-in_err-job : goal.returns-in_err-job
@@ -27,4 +32,5 @@ returns-in_err-job g c =
       promise = promise-refused hash (IsBadStepOf steps) r e handed none;
       named = nothing-ran hash (λ W q z. NamesFirst steps W q z) r e handed none (λ W q. inl refl);
       scheduled = nothing-ran hash (λ W q z. Scheduled hash W q steps z) r e handed none (λ W q. inl refl);
+      ends = nothing-ran hash (λ W q z. HoldsRounds (rounds_needed W.db W.sizes q) (crew_size W.sizes q) steps → IfOk z IsWhole) r e handed none (λ W q enough. tt);
     }

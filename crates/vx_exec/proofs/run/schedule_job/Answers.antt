@@ -1,12 +1,13 @@
-use Rattle.vx_plan_nodes.specs.TypedView.{plan as whole_plan}
+use Rattle.vx_layout.specs.Needed.{rounds_needed}
+use Rattle.vx_plan_nodes.specs.TypedView.{plan as whole_plan, resolved_of}
 use Rattle.vx_plan_nodes.specs.Types.{types_of}
-use Rattle.std.proofs.Common.{◌<◌, inl, inr, subst}
+use Rattle.std.proofs.Common.{◌<◌, inl, inr, subst, sym}
 use Rattle.std.specs.List.{All}
-use Rattle.vx_steps.specs.Schedules.{IsBadStep}
+use Rattle.vx_steps.specs.Schedules.{HoldsRounds, IsBadStep}
 use Rattle.vx_exec.specs.Runs.{IsBadStepOf}
 use Rattle.vx_exec.specs.Job.{model_of}
 use Rattle.vx_check_rules.specs.Checked.{relations}
-use Rattle.vx_exec.proofs.Outcomes.{names-reported, steps-reported}
+use Rattle.vx_exec.proofs.Outcomes.{names-reported, steps-reported, comes-whole}
 use Rattle.vx_exec.proofs.Finishing.{job-accepted, ready-parts, ready-count, has-run, first-types, not-passed, comes-kept}
 use Rattle.vx_exec.proofs.run.schedule_job.Goals as goal
 
@@ -16,7 +17,7 @@ answer_of-requires g c =
     let hash = g.R.Router.route_of c.args.router.now in
     let parts = c.into_parts-workers in
     let ok = job-accepted j hash (g.met.R.Router.in_range c.args.router.now) c.meets.ensures c.requires.allowed c.requires.root in
-    let begun = ready-parts j hash ok c.in_ok-crew.crew parts.result.0 parts.result.1 parts.ensures.workers parts.ensures.links (c.in_ok-crew.ensures.ready hash) in
+    let begun = ready-parts j hash ok c.in_ok-crew.crew parts.result.0 parts.result.1 parts.ensures.workers parts.ensures.links (c.in_ok-crew.ensures.ready hash) c.in_ok-crew.ensures.new in
     let end = c.judge_schedule in
     let run = has-run j hash parts.result.0.items end.new.workers.items parts.result.1 c.in-Ok.verdict begun end.ensures.roles c.in-Ok.ensures.answers c.in-Ok.ensures.first in
     record {
@@ -31,7 +32,7 @@ returns-in-Ok g c =
     let hash = g.R.Router.route_of c.args.router.now in
     let parts = c.into_parts-workers in
     let ok = job-accepted j hash (g.met.R.Router.in_range c.args.router.now) c.meets.ensures c.requires.allowed c.requires.root in
-    let begun = ready-parts j hash ok c.in_ok-crew.crew parts.result.0 parts.result.1 parts.ensures.workers parts.ensures.links (c.in_ok-crew.ensures.ready hash) in
+    let begun = ready-parts j hash ok c.in_ok-crew.crew parts.result.0 parts.result.1 parts.ensures.workers parts.ensures.links (c.in_ok-crew.ensures.ready hash) c.in_ok-crew.ensures.new in
     let end = c.judge_schedule in
     let run = has-run j hash parts.result.0.items end.new.workers.items parts.result.1 c.in-Ok.verdict begun end.ensures.roles c.in-Ok.ensures.answers c.in-Ok.ensures.first in
     let p = whole_plan j.plan.now in
@@ -51,6 +52,11 @@ returns-in-Ok g c =
         judged = c.in-Ok.ensures.judged;
         comes = c.answer_of.ensures;
       });
+      ends = λ enough.
+          comes-whole end.new.workers.items c.in-Ok.verdict r
+          (c.in-Ok.ensures.ends (model_of hash j) (resolved_of j.plan.now).total p begun.accepted begun.ready begun.rested
+          (subst (λ z. HoldsRounds (rounds_needed (model_of hash j).db (model_of hash j).sizes p) z c.args.steps.now) (sym (ready-count j hash parts.result.0 parts.result.1 begun)) enough))
+          c.answer_of.ensures;
     }
 
 pub returns-in-Err : goal.returns-in-Err
@@ -59,6 +65,6 @@ returns-in-Err g c =
     let hash = g.R.Router.route_of c.args.router.now in
     let parts = c.into_parts-workers in
     let ok = job-accepted j hash (g.met.R.Router.in_range c.args.router.now) c.meets.ensures c.requires.allowed c.requires.root in
-    let begun = ready-parts j hash ok c.in_ok-crew.crew parts.result.0 parts.result.1 parts.ensures.workers parts.ensures.links (c.in_ok-crew.ensures.ready hash) in
+    let begun = ready-parts j hash ok c.in_ok-crew.crew parts.result.0 parts.result.1 parts.ensures.workers parts.ensures.links (c.in_ok-crew.ensures.ready hash) c.in_ok-crew.ensures.new in
     let bad = subst (λ z. IsBadStep c.args.steps.now z c.in-Err.index) (ready-count j hash parts.result.0 parts.result.1 begun) c.in-Err.ensures.bad in
-    record { run = record { done = tt; failed = inr bad; first = inr bad }; named = inr (inl bad); scheduled = inr (inl bad) }
+    record { run = record { done = tt; failed = inr bad; first = inr bad }; named = inr (inl bad); scheduled = inr (inl bad); ends = λ enough. tt }

@@ -60,3 +60,4 @@ returns-clause-new c =
     let B : List Val → Type 0 = λ z. KindRoutesAs kind z hash (goes (model_of hash c.args.job.now)) in
     subst P (sym c.in_ok-sender.ensures.post) (subst K (sym c.in_ok-deal.ensures.kind)
     (subst B (sym (c.in_ok-sender.ensures.bounds ∙ c.in_ok-deal.ensures.bounds)) (deal-routes c.args.job.now hash kind))))
+    c.in_ok-inputs.ensures.sources c.new-2.ensures.starts c.in_ok-sender.ensures.fresh

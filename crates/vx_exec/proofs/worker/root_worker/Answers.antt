@@ -18,4 +18,4 @@ pub returns-clause-new : goal.returns-clause-new
 returns-clause-new c =
     made-new c.args.job.now 0 (plan_of c.args.node.now) c.in_ok-tree.tree (destination.Collect c.in_ok-collector.collector)
     (map source_of c.in_ok-inputs.inputs.items) c.new-3.result c.in_ok-tree.ensures c.requires.leaves c.new-3.ensures.ready c.new-3.ensures.role c.new-3.ensures.stands
-    c.in_ok-collector.ensures.stands (λ hash. tt)
+    c.in_ok-collector.ensures.stands (λ hash. tt) c.in_ok-inputs.ensures.sources c.new-3.ensures.starts c.in_ok-collector.ensures.fresh

@@ -10,7 +10,8 @@ use Rattle.vx_exec.specs.Promise.{PromiseOnceSet}
 use Rattle.vx_exec.proofs.Finishing.{job-accepted, ready-parts, ready-count, has-ended, first-types, not-passed, comes-kept}
 use Rattle.vx_runs.specs.Promise.{NoThreadStarted}
 use Rattle.vx_parallel.specs.Parallel.{NeedsFew, CountedByThreads}
-use Rattle.vx_parallel.proofs.Ends.{new-parts, comes-whole, refusal-reported, counted-reported, same-count}
+use Rattle.vx_exec.proofs.Outcomes.{comes-whole}
+use Rattle.vx_parallel.proofs.Ends.{new-parts, refusal-reported, counted-reported, same-count}
 use Rattle.vx_parallel.proofs.run.run_job.Goals as goal
 
 pub run_crew-requires-clause-new : goal.run_crew-requires-clause-new
@@ -25,7 +26,7 @@ answer_of-requires g c =
     let laws = g.met.R.Router g.world.𝓛 g.world.𝓜 g.world.𝓡 ((λ s x. x), (λ x. x), (λ x. x), λ x. x) in
     let parts = c.into_parts-workers in
     let ok = job-accepted j hash (laws.in_range c.args.router.now) c.meets.ensures c.requires.allowed c.requires.root in
-    let begun = ready-parts j hash ok c.in_ok-crew.crew parts.result.0 parts.result.1 parts.ensures.workers parts.ensures.links (c.in_ok-crew.ensures.ready hash) in
+    let begun = ready-parts j hash ok c.in_ok-crew.crew parts.result.0 parts.result.1 parts.ensures.workers parts.ensures.links (c.in_ok-crew.ensures.ready hash) c.in_ok-crew.ensures.new in
     let x = c.in_ok-ended.ended in
     let ran = c.in_ok-ended.ensures.run ok in
     let run = has-ended j hash parts.result.0.items x.0.items parts.result.1 x.1 begun ran.roles ran.answers ran.first in
@@ -44,7 +45,7 @@ returns g c =
     let laws = g.met.R.Router g.world.𝓛 g.world.𝓜 g.world.𝓡 ((λ s x. x), (λ x. x), (λ x. x), λ x. x) in
     let parts = c.into_parts-workers in
     let ok = job-accepted j hash (laws.in_range c.args.router.now) c.meets.ensures c.requires.allowed c.requires.root in
-    let begun = ready-parts j hash ok c.in_ok-crew.crew parts.result.0 parts.result.1 parts.ensures.workers parts.ensures.links (c.in_ok-crew.ensures.ready hash) in
+    let begun = ready-parts j hash ok c.in_ok-crew.crew parts.result.0 parts.result.1 parts.ensures.workers parts.ensures.links (c.in_ok-crew.ensures.ready hash) c.in_ok-crew.ensures.new in
     let x = c.in_ok-ended.ended in
     let ran = c.in_ok-ended.ensures.run ok in
     let run = has-ended j hash parts.result.0.items x.0.items parts.result.1 x.1 begun ran.roles ran.answers ran.first in

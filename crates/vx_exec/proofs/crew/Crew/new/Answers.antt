@@ -1,4 +1,4 @@
-use Rattle.std.proofs.Common.{◌≡◌, ◌∷◌, map, flat_map, refl, ap, ◌∙◌}
+use Rattle.std.proofs.Common.{◌≡◌, [], ◌∷◌, map, flat_map, refl, ap, ◌∙◌}
 use Rattle.std.proofs.lemmas.List.Elements.{All-map}
 use Rattle.std.proofs.lemmas.Simd.{map-map}
 use Rattle.vx_plan_nodes.specs.Plan.{Plan}
@@ -12,8 +12,8 @@ use Rattle.vx_operators.specs.Operator.{operator_op}
 use Rattle.vx_operators.specs.Destination.{post_of, bounds_of}
 use Rattle.vx_steps.specs.Crews.{duty_of}
 use Rattle.vx_exec.specs.Job.{model_of}
-use Rattle.vx_exec.specs.Links.{morsels_in, station_in, sends_in}
-use Rattle.vx_exec.proofs.BySpans.{stations-by-spans, sends-by-spans}
+use Rattle.vx_exec.specs.Links.{morsels_in, station_in, sends_in, queues_in}
+use Rattle.vx_exec.proofs.BySpans.{stations-by-spans, sends-by-spans, queues-by-spans}
 use Rattle.vx_exec.proofs.crew.Crew.new.Goals as goal
 
 pub returns-clause-ready : goal.returns-clause-ready
@@ -31,7 +31,7 @@ returns-clause-ready c = λ hash.
         outside = 0;
         sends = c.in_ok-sends.ensures ∙ ap (λ z. 0 ∷ z) (ap (flat_map sends_in) laid ∙ sends-by-spans S p 0 1);
         stations = c.in_ok-stations.ensures ∙ ap (map (station_in (morsels_in j))) laid ∙ stations-by-spans S p 0 1;
-        queues = c.in_ok-ports.ensures;
+        queues = c.in_ok-ports.ensures ∙ ap (λ z. [] ∷ z) (ap (flat_map queues_in) laid ∙ queues-by-spans S p 0 1);
       };
       morsels = refl;
       routes = All-map (λ (r : Role). RoutesAs r.post r.bounds hash (goes S)) (role_of operator_op post_of bounds_of) ws (λ k d l. (new k d l).routes hash);
