@@ -36,9 +36,15 @@ returns-in-NoMemory-clause-stands g c =
     )
 
 pub returns-in-Full-clause-stands : goal.returns-in-Full-clause-stands
-returns-in-Full-clause-stands g c = (idle, c.in-Full.ensures.2, search rules, is_full c.in-Some.to c.in-Full.packet refl c.in-Full.ensures.1 refl, refl,
+returns-in-Full-clause-stands g c = (
+  idle,
+  c.in-Full.ensures.2,
+  search rules,
+  is_full c.in-Some.to c.in-Full.packet refl c.in-Full.ensures.1 refl,
+  refl,
   λ goes m t k h. back-spent g.O.Source.most g.O.Source.idle g.S.Sends.post g.S.Sends.held g.S.Sends.unclosed m _ _ c.args.self.now c.in-Some.to c.in-Some.packet c.in-Full.packet t
-      c.requires.running (sym c.take.ensures.value ∙ c.in-Some.is) c.in-Full.ensures.0)
+      c.requires.running (sym c.take.ensures.value ∙ c.in-Some.is) c.in-Full.ensures.0,
+)
 
 pub returns-in-Done-clause-stands : goal.returns-in-Done-clause-stands
 returns-in-Done-clause-stands g c = (
@@ -50,4 +56,3 @@ returns-in-Done-clause-stands g c = (
   λ goes m t k h. put-spent g.O.Source.most g.O.Source.idle g.S.Sends.post g.S.Sends.held g.S.Sends.unclosed m _ _ c.args.self.now c.take.new.self c.add_put.new.self c.in-Some.to c.in-Some.packet t
       c.requires.running (sym c.take.ensures.value ∙ c.in-Some.is) c.take.ensures.after,
 )
-
