@@ -1,5 +1,5 @@
 -- What a step spends of what a worker has still to do.
-use Rattle.std.proofs.Common.{ℕ, zero, suc, ◌≡◌, ◌+◌, ◌*◌, ◌<◌, ◌≤◌, ◌==◌, cond, ◌⊎◌, inl, inr, refl, sym, ap, ◌∙◌, subst, arith, le_refl, Bool, true, false, List, length, Option, Some, None}
+use Rattle.std.proofs.Common.{ℕ, zero, suc, ◌≡◌, ◌+◌, ◌*◌, ◌<◌, ◌≤◌, cond, inl, inr, refl, sym, ap, ◌∙◌, subst, arith, le_refl, Bool, true, false, List, length, Option, Some, None}
 use Rattle.std.proofs.Math.Nat.{mul-le-mul_left}
 use Rattle.std.proofs.lemmas.Bool.{cases_lt}
 use Rattle.std.proofs.lemmas.Bool.Decides.{eqb_tells}
@@ -7,7 +7,7 @@ use Rattle.std.proofs.lemmas.List.{length-map, get_or-map}
 use Rattle.vx_values.specs.Values.{Row}
 use Rattle.vx_rows.proofs.Below.{length-each_below}
 use Rattle.vx_ports.specs.Packets.{Content, brings, last, fault, PacketView, content_rows, closes, is_closed}
-use Rattle.vx_ops.specs.Turn.{Coming, Pays, own_turn, idle_turn, rows_in, sum_below}
+use Rattle.vx_ops.specs.Turn.{Coming, Pays, idle_turn, rows_in, sum_below}
 use Rattle.vx_ops.specs.declared.fault.Fault.{Fault}
 use Rattle.vx_ops.specs.declared.turn.Polled.{Polled}
 use Rattle.vx_ends.specs.Tasks.{Post, sends_by_ship, keeps}
@@ -24,7 +24,6 @@ use Rattle.vx_worker.specs.declared.intake.Intake.{Intake}
 use Rattle.vx_worker.specs.declared.intake.Drained.{Drained}
 use Rattle.vx_worker.specs.declared.intake.Drained.TheVariants as drained
 use Rattle.vx_worker.specs.declared.worker.Worker.{Worker}
-use Rattle.vx_worker.specs.declared.worker.WorkerOutcome.{WorkerOutcome}
 use Rattle.vx_worker.specs.declared.worker.WorkerState.{WorkerState}
 use Rattle.vx_worker.specs.declared.worker.WorkerState.TheVariants.{Running, Failing, Draining, Well, Failed}
 use Rattle.vx_worker.specs.declared.worker.StepOutcome.{StepOutcome}
@@ -422,7 +421,7 @@ module _ {O S : Type 0} (most idle_turns : O → Coming → ℕ) (post : S → P
             let p = pays c in
             let q = sum-rises n (rows_in a) (held v.sender) (held w.sender) holds in
             let z = turn-cost n (tree_most most w.tree d) (tree_most most v.tree c) (tree_idle most idle_turns w.tree d) (tree_idle most idle_turns v.tree c) (sum_below n (held w.sender))
-                (sum_below n (held v.sender)) (unclosed w.sender) (unclosed v.sender) (cond over 0 1) (rows_in a) (idle_turn own a) (arrivals e) (progress None r) p.rows p.turns q shuts gain in
+            (sum_below n (held v.sender)) (unclosed w.sender) (unclosed v.sender) (cond over 0 1) (rows_in a) (idle_turn own a) (arrivals e) (progress None r) p.rows p.turns q shuts gain in
             let b : pending_count w.pending ≡ 0 = ap pending_count before in
             let g : pending_count v.pending ≡ 0 = ap pending_count after in
             let rest : Bool → ℕ = λ i. cond i 0 1 in

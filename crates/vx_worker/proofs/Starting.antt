@@ -1,5 +1,5 @@
 -- What a worker to which nothing came has to do.
-use Rattle.std.proofs.Common.{ℕ, zero, suc, ◌≡◌, ◌+◌, ◌*◌, ◌≤◌, cond, Bool, false, refl, ap, arith, le_refl, le_trans, add-le-add, Option, None}
+use Rattle.std.proofs.Common.{ℕ, zero, suc, ◌≡◌, ◌+◌, ◌≤◌, cond, Bool, false, refl, ap, arith, le_refl, le_trans, add-le-add, None}
 use Rattle.std.proofs.Math.Nat.{mul-le-mul_left}
 use Rattle.vx_ops.specs.Ledger.{Op}
 use Rattle.vx_ops.specs.Turn.{Coming, IsWithin, sum_below}
@@ -9,7 +9,6 @@ use Rattle.vx_worker.specs.Trees.{shape, LeavesComing, leaf_coming, tree_coming,
 use Rattle.vx_worker.specs.Remaining.{frag_most, frag_idle, TreeStarts, pending_count, pending_rows, steps_left_in, rows_left_in, rows_held_in, Starts}
 use Rattle.vx_worker.specs.declared.tree.Tree.{Tree, Leaf, One', Two'}
 use Rattle.vx_worker.specs.declared.worker.Worker.{Worker}
-use Rattle.vx_worker.specs.declared.worker.WorkerState.{WorkerState}
 use Rattle.vx_worker.specs.declared.worker.WorkerState.TheVariants.{Running}
 use Rattle.vx_worker.proofs.TreeCosts.{within-trees}
 

@@ -1,5 +1,5 @@
 -- What was drawn or taken as a tree wished, and what a turn with it costs.
-use Rattle.std.proofs.Common.{ℕ, ◌≡◌, ◌+◌, ◌≤◌, ◌==◌, cond, inl, inr, refl, sym, ap, ◌∙◌, subst, arith, le_refl, false, List, length, Option, Some, None}
+use Rattle.std.proofs.Common.{ℕ, ◌≡◌, ◌+◌, ◌≤◌, ◌==◌, cond, inl, inr, refl, sym, ap, ◌∙◌, subst, arith, le_refl, List, length, Option, Some, None}
 use Rattle.std.proofs.lemmas.Bool.Decides.{eqb_tells}
 use Rattle.vx_values.specs.Values.{Row}
 use Rattle.vx_plan_nodes.specs.Routes.{Routing}
@@ -14,7 +14,7 @@ use Rattle.vx_ops.specs.declared.turn.Polled.TheVariants as polled
 use Rattle.vx_ops.proofs.Costs.{pays-within}
 use Rattle.vx_ends.specs.Tasks.{Task}
 use Rattle.vx_worker.specs.Fragment.{Frag, Reads}
-use Rattle.vx_worker.specs.Trace.{Event, idle, drew_one, took_one, put_one, Trace, ReadsAreOf}
+use Rattle.vx_worker.specs.Trace.{Event, idle, drew_one, took_one, Trace, ReadsAreOf}
 use Rattle.vx_worker.specs.Trees.{shape, TreeStands, IsFormed, ScansAt, TakesFrom, LeavesComing, IsWithinLeaves, tree_most, tree_idle}
 use Rattle.vx_worker.specs.Wishes.{WishOpen, tree_want, with_read}
 use Rattle.vx_worker.specs.Intake.{IsWished, Answers}

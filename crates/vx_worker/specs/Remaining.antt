@@ -1,5 +1,5 @@
 -- What a worker has still to do: a number that every step which goes on makes smaller, whatever the other workers do.
-use Rattle.std.specs.Prelude.{ℕ, ◌≡◌, ◌<◌, ◌≤◌, ◌+◌, ◌*◌, ◌==◌, ◌⊎◌, cond, false, List, length, Option, Some, None, Contains}
+use Rattle.std.specs.Prelude.{ℕ, ◌≡◌, ◌≤◌, ◌+◌, ◌*◌, ◌==◌, ◌⊎◌, cond, false, List, length, Option, Some, None, Contains}
 use Rattle.vx_values.specs.Values.{Row}
 use Rattle.vx_ports.specs.Packets.{PacketView, is_closed}
 use Rattle.vx_ops.specs.Ledger.{Op}

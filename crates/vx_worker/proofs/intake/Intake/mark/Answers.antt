@@ -13,8 +13,8 @@ loop-place-preserved c =
     let is = c.args.self.now.inputs.items in
     let within : k < length is = omega arith in (
       ap (set c.loop-place.self.inputs.items k) (c.mark.ensures ∙ ap (marked x i) c.index_mut.ensures.value)
-      ∙ ap (λ js. set js k (marked x i (get_or js k v))) c.loop-place.invariant.0 ∙ marked-more k x i is v within
-      ∙ ap (λ n. marked_until n x i is) (sym (add-one k)),
+          ∙ ap (λ js. set js k (marked x i (get_or js k v))) c.loop-place.invariant.0 ∙ marked-more k x i is v within
+          ∙ ap (λ n. marked_until n x i is) (sym (add-one k)),
       c.loop-place.invariant.1,
     )
 

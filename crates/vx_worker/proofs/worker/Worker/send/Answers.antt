@@ -57,4 +57,3 @@ returns-in-Done-clause-stands g c = (
   λ goes m t k h. put-spent g.O.Source.most g.O.Source.idle g.S.Sends.post g.S.Sends.held g.S.Sends.unclosed m _ _ c.args.self.now c.take.new.self c.add_put.new.self c.in-Some.to c.in-Some.packet t
       c.requires.running (sym c.take.ensures.value ∙ c.in-Some.is) c.take.ensures.after,
 )
-
