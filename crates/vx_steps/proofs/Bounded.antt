@@ -120,24 +120,32 @@ module _ {O S : Type 0} (OS : O → Ledger → Type 0) (want : O → Want) (op :
     abbrev used : Worker O S → ℕ → ℕ
     used d a = spent a + steps_left most idle_turns post held unclosed (get_or vs a d) no-more
 
-    bounded : (d : Worker O S) → sum_below (crew_size W.sizes p) (used d) ≤ rounds_needed W.db W.sizes p
-    bounded d =
-        let n = crew-length W p bs w ready in
-        uses-all W set m ready.morsels v ts track.stand.agrees roles (length bs) (λ a l. (track.each a d l).few)
-        (λ a l j.
+    -- what a worker put is no more than its operators may return of what came to it
+    puts-few : (d : Worker O S) (a : ℕ) → a < length bs → (j : ℕ) → length (rows_of ((trace_at ts a).sent j)) ≤ frag_most (roles a).frag (after_trace m (trace_at ts a) no-more)
+    puts-few d a l j =
         let c = after_trace m (trace_at ts a) no-more in
         let x = (track.each a d l).rows no-more j in
         let y = (rested a d l).starts.rows c j in
-        subst (λ (r : Role). length (rows_of ((trace_at ts a).sent j)) ≤ frag_most r.frag c) (sym (role-of bs a d l)) (omega (arith, x, y)))
-        (used d)
-        (λ a l.
+        subst (λ (r : Role). length (rows_of ((trace_at ts a).sent j)) ≤ frag_most r.frag c) (sym (role-of bs a d l)) (omega (arith, x, y))
+
+    -- its steps are no more than it had at first with what came to it, and one for each morsel and packet of this
+    uses-most : (d : Worker O S) (a : ℕ) → a < length bs →
+        let n = consumers_of (roles a).post in
+        let c = after_trace m (trace_at ts a) no-more in
+        used d a ≤ (n + 1) * frag_most (roles a).frag c + frag_idle (roles a).frag c + (2 * n + 4) + arrived (roles a).frag (trace_at ts a)
+    uses-most d a l =
         let c = after_trace m (trace_at ts a) no-more in
         let x = (track.each a d l).steps no-more in
         let y = (rested a d l).starts.steps c in
         subst (λ (r : Role). used d a ≤ (consumers_of r.post + 1) * frag_most r.frag c + frag_idle r.frag c + (2 * consumers_of r.post + 4) + arrived r.frag (trace_at ts a)) (sym (role-of bs a d l))
-        (omega (arith, x, y)))
-        p fit (some-workers W.sizes (size p) set.some_workers) wired (crew-root W p (roles_of OS op SS task post bounds hash m bs) w ready.crew)
-        (crew-below W p (roles_of OS op SS task post bounds hash m bs) w ready.crew) (omega (arith, n))
+        (omega (arith, x, y))
+
+    bounded : (d : Worker O S) → sum_below (crew_size W.sizes p) (used d) ≤ rounds_needed W.db W.sizes p
+    bounded d =
+        let all = roles_of OS op SS task post bounds hash m bs in
+        let n = crew-length W p bs w ready in
+        uses-all W set m ready.morsels v ts track.stand.agrees roles (length bs) (λ a l. (track.each a d l).few) (puts-few d) (used d) (uses-most d) p fit
+        (some-workers W.sizes (size p) set.some_workers) wired (crew-root W p all w ready.crew) (crew-below W p all w ready.crew) (omega (arith, n))
 
     -- all steps by which the workers went on
     pub spends-within : sum_below (length bs) spent ≤ rounds_needed W.db W.sizes p
