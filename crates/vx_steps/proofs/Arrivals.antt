@@ -1,5 +1,5 @@
 -- What came to the leaves of a fragment: what might have come in all, and how many morsels and packets did.
-use Rattle.std.proofs.Common.{ℕ, zero, suc, ◌≡◌, ◌≢◌, ◌<◌, ◌≤◌, ◌+◌, ◌*◌, ◌==◌, ◌||◌, ◌⊎◌, ⊎_elim, cond, Bool, true, false, List, [], ◌∷◌, ◌++◌, length, Option, Some, None, refl, sym, ap, ◌∙◌, subst, arith, inl, inr, length-append, true≢false, le_refl}
+use Rattle.std.proofs.Common.{ℕ, zero, suc, ◌≡◌, ◌<◌, ◌≤◌, ◌+◌, ◌||◌, ◌⊎◌, ⊎_elim, cond, Bool, true, false, List, [], ◌∷◌, ◌++◌, length, Option, Some, None, refl, sym, ap, subst, arith, inl, inr, length-append, le_refl}
 use Rattle.std.proofs.Math.Path.{fun_ext}
 use Rattle.std.proofs.lemmas.Bool.Decides.{eqb_tells}
 use Rattle.std.specs.List.{Contains}
@@ -7,7 +7,7 @@ use Rattle.vx_values.specs.Values.{Row}
 use Rattle.vx_ports.specs.Packets.{Content, brings, last, fault, PacketView, content_rows, rows_of, closes, is_closed}
 use Rattle.vx_ops.specs.Ledger.{Op, scan_op, one_op, two_op, receive}
 use Rattle.vx_ops.specs.Turn.{with_packet, with_more, packet_rows, sum_below}
-use Rattle.vx_ends.specs.Queued.{rows_to, closings}
+use Rattle.vx_ends.specs.Queued.{closings}
 use Rattle.vx_worker.specs.Morsels.{morsels}
 use Rattle.vx_worker.specs.Fragment.{Frag, alone, above, both}
 use Rattle.vx_worker.specs.Trace.{Event, idle, drew_one, took_one, put_one, Trace, empty_trace, added}
@@ -143,9 +143,9 @@ came-grows t (drew_one k d) n i = le_refl _
 came-grows t (took_one x j None) n i = elim (eqb_tells n x) [ inl e ↦ rw e.0 (le_refl _) | inr e ↦ rw e.0 (le_refl _) ]
 came-grows t (took_one x j (Some p)) n i = elim (eqb_tells n x) [
   | inl e ↦ rw e.0 (elim (eqb_tells i j) [
-      | inl q ↦ rw q.0 (let a = length-append (t.came n i) (p ∷ []) in omega (arith, a))
-      | inr q ↦ rw q.0 (le_refl _)
-    ])
+    | inl q ↦ rw q.0 (let a = length-append (t.came n i) (p ∷ []) in omega (arith, a))
+    | inr q ↦ rw q.0 (le_refl _)
+  ])
   | inr e ↦ rw e.0 (le_refl _)
 ]
 came-grows t (put_one j p) n i = le_refl _
@@ -179,9 +179,9 @@ drawn-more (both o f g) t k x (inr h) = let a = arrived-grows f t (drew_one k (S
 one-taken : (t : Trace) (x i n : ℕ) (p : PacketView) → n ≡ x → length (t.came n i) + 1 ≤ length ((added t (took_one x i (Some p))).came n i)
 one-taken t x i n p is = elim (eqb_tells n x) [
   | inl e ↦ rw e.0 (elim (eqb_tells i i) [
-      | inl q ↦ rw q.0 (let a = length-append (t.came n i) (p ∷ []) in omega (arith, a))
-      | inr q ↦ absurd (q.1 refl)
-    ])
+    | inl q ↦ rw q.0 (let a = length-append (t.came n i) (p ∷ []) in omega (arith, a))
+    | inr q ↦ absurd (q.1 refl)
+  ])
   | inr e ↦ absurd (e.1 is)
 ]
 
@@ -252,9 +252,9 @@ few-event f inputs t (drew_one k d) fits few x i = few x i
 few-event f inputs t (took_one y j None) fits few x i = elim (eqb_tells x y) [ inl e ↦ rw e.0 (few x i) | inr e ↦ rw e.0 (few x i) ]
 few-event f inputs t (took_one y j (Some p)) fits few x i = elim (eqb_tells x y) [
   | inl e ↦ rw e.0 (elim (eqb_tells i j) [
-      | inl q ↦ rw q.0 (few-push (t.came x i) p (subst (λ z. is_closed (t.came z i) ≡ false) (sym e.1) (subst (λ z. is_closed (t.came y z) ≡ false) (sym q.1) fits.1)) fits.2 (few x i))
-      | inr q ↦ rw q.0 (few x i)
-    ])
+    | inl q ↦ rw q.0 (few-push (t.came x i) p (subst (λ z. is_closed (t.came z i) ≡ false) (sym e.1) (subst (λ z. is_closed (t.came y z) ≡ false) (sym q.1) fits.1)) fits.2 (few x i))
+    | inr q ↦ rw q.0 (few x i)
+  ])
   | inr e ↦ rw e.0 (few x i)
 ]
 few-event f inputs t (put_one j p) fits few x i = few x i

@@ -1,5 +1,5 @@
 -- A run that was ready: at any moment its workers have gone on by no more steps than the plan needs rounds.
-use Rattle.std.proofs.Common.{ℕ, zero, suc, ◌≡◌, ◌<◌, ◌≤◌, ◌+◌, ◌-◌, ◌*◌, List, [], ◌∷◌, length, Some, IsSome, refl, sym, ap, ◌∙◌, subst, arith, inl, inr, le_refl, true}
+use Rattle.std.proofs.Common.{ℕ, zero, suc, ◌≡◌, ◌<◌, ◌≤◌, ◌+◌, ◌-◌, ◌*◌, List, [], ◌∷◌, length, IsSome, refl, sym, ap, subst, arith, inl, inr, true}
 use Rattle.std.proofs.Math.ListN.{get_or, set}
 use Rattle.std.proofs.lemmas.Bool.{cases_lt}
 use Rattle.std.specs.List.{All}
@@ -11,16 +11,15 @@ use Rattle.vx_plan_nodes.specs.Numbering.{is_fit}
 use Rattle.vx_plan_nodes.specs.Routes.{Routing}
 use Rattle.vx_ports.specs.Packets.{PacketView, rows_of}
 use Rattle.vx_ops.specs.Ledger.{Stream, Ledger, Op}
-use Rattle.vx_ops.specs.Turn.{Coming, with_more, sum_below}
+use Rattle.vx_ops.specs.Turn.{Coming, sum_below}
 use Rattle.vx_ops.specs.declared.turn.Want.{Want}
-use Rattle.vx_ops.proofs.Costs.{sum-more}
 use Rattle.vx_ends.specs.Tasks.{Task, Post}
 use Rattle.vx_ends.specs.Queued.{consumers_of}
-use Rattle.vx_worker.specs.Fragment.{RunModel, IsSet, goes, fragment}
-use Rattle.vx_worker.specs.Trace.{Trace, added}
-use Rattle.vx_worker.specs.Trees.{LeavesComing, shape, IsFormed, fragment-formed}
-use Rattle.vx_worker.specs.Worker.{Role, role_of, outcome_in, outcome_of}
-use Rattle.vx_worker.specs.Remaining.{frag_most, frag_idle, progress, steps_left_in, steps_left}
+use Rattle.vx_worker.specs.Fragment.{RunModel, IsSet, goes}
+use Rattle.vx_worker.specs.Trace.{Trace}
+use Rattle.vx_worker.specs.Trees.{LeavesComing, IsFormed, fragment-formed}
+use Rattle.vx_worker.specs.Worker.{Role, role_of, outcome_in}
+use Rattle.vx_worker.specs.Remaining.{frag_most, frag_idle, steps_left_in, steps_left}
 use Rattle.vx_worker.specs.declared.worker.Worker.{Worker}
 use Rattle.vx_worker.specs.declared.worker.WorkerState.{WorkerState}
 use Rattle.vx_worker.specs.declared.worker.WorkerState.TheVariants.{Running, Failing, Draining, Well, Failed}
@@ -28,11 +27,10 @@ use Rattle.vx_layout.specs.Needed.{rounds_needed}
 use Rattle.vx_steps.specs.LinksView.{LinksView}
 use Rattle.vx_steps.specs.Agrees.{trace_at}
 use Rattle.vx_steps.specs.Roles.{no_role, role_at, RolesBelow, Wired}
-use Rattle.vx_steps.specs.Runs.{RoutesAll, roles_of, Stand}
-use Rattle.vx_steps.specs.Following.{Steps, Follows}
+use Rattle.vx_steps.specs.Runs.{roles_of}
 use Rattle.vx_steps.specs.Ready.{Ready, IsRested}
 use Rattle.vx_steps.specs.Verdicts.{HasEnded}
-use Rattle.vx_steps.proofs.Arrivals.{after_trace, arrived, AreFewPackets, sum-le}
+use Rattle.vx_steps.proofs.Arrivals.{after_trace, arrived}
 use Rattle.vx_steps.proofs.Build.{crew-count, crew-root, crew-below}
 use Rattle.vx_steps.proofs.Needs.{no-more, uses-all}
 use Rattle.vx_steps.proofs.RunSteps.{get-map, map-length}
@@ -122,24 +120,32 @@ module _ {O S : Type 0} (OS : O → Ledger → Type 0) (want : O → Want) (op :
     abbrev used : Worker O S → ℕ → ℕ
     used d a = spent a + steps_left most idle_turns post held unclosed (get_or vs a d) no-more
 
+    -- what a worker put is no more than its operators may return of what came to it
+    puts-few : (d : Worker O S) (a : ℕ) → a < length bs → (j : ℕ) → length (rows_of ((trace_at ts a).sent j)) ≤ frag_most (roles a).frag (after_trace m (trace_at ts a) no-more)
+    puts-few d a l j =
+        let c = after_trace m (trace_at ts a) no-more in
+        let x = (track.each a d l).rows no-more j in
+        let y = (rested a d l).starts.rows c j in
+        subst (λ (r : Role). length (rows_of ((trace_at ts a).sent j)) ≤ frag_most r.frag c) (sym (role-of bs a d l)) (omega (arith, x, y))
+
+    -- its steps are no more than it had at first with what came to it, and one for each morsel and packet of this
+    uses-most : (d : Worker O S) (a : ℕ) → a < length bs →
+        let n = consumers_of (roles a).post in
+        let c = after_trace m (trace_at ts a) no-more in
+        used d a ≤ (n + 1) * frag_most (roles a).frag c + frag_idle (roles a).frag c + (2 * n + 4) + arrived (roles a).frag (trace_at ts a)
+    uses-most d a l =
+        let c = after_trace m (trace_at ts a) no-more in
+        let x = (track.each a d l).steps no-more in
+        let y = (rested a d l).starts.steps c in
+        subst (λ (r : Role). used d a ≤ (consumers_of r.post + 1) * frag_most r.frag c + frag_idle r.frag c + (2 * consumers_of r.post + 4) + arrived r.frag (trace_at ts a)) (sym (role-of bs a d l))
+        (omega (arith, x, y))
+
     bounded : (d : Worker O S) → sum_below (crew_size W.sizes p) (used d) ≤ rounds_needed W.db W.sizes p
     bounded d =
+        let all = roles_of OS op SS task post bounds hash m bs in
         let n = crew-length W p bs w ready in
-        uses-all W set m ready.morsels v ts track.stand.agrees roles (length bs) (λ a l. (track.each a d l).few)
-        (λ a l j.
-            let c = after_trace m (trace_at ts a) no-more in
-            let x = (track.each a d l).rows no-more j in
-            let y = (rested a d l).starts.rows c j in
-            subst (λ (r : Role). length (rows_of ((trace_at ts a).sent j)) ≤ frag_most r.frag c) (sym (role-of bs a d l)) (omega (arith, x, y)))
-        (used d)
-        (λ a l.
-            let c = after_trace m (trace_at ts a) no-more in
-            let x = (track.each a d l).steps no-more in
-            let y = (rested a d l).starts.steps c in
-            subst (λ (r : Role). used d a ≤ (consumers_of r.post + 1) * frag_most r.frag c + frag_idle r.frag c + (2 * consumers_of r.post + 4) + arrived r.frag (trace_at ts a)) (sym (role-of bs a d l))
-            (omega (arith, x, y)))
-        p fit (some-workers W.sizes (size p) set.some_workers) wired (crew-root W p (roles_of OS op SS task post bounds hash m bs) w ready.crew)
-        (crew-below W p (roles_of OS op SS task post bounds hash m bs) w ready.crew) (omega (arith, n))
+        uses-all W set m ready.morsels v ts track.stand.agrees roles (length bs) (λ a l. (track.each a d l).few) (puts-few d) (used d) (uses-most d) p fit
+        (some-workers W.sizes (size p) set.some_workers) wired (crew-root W p all w ready.crew) (crew-below W p all w ready.crew) (omega (arith, n))
 
     -- all steps by which the workers went on
     pub spends-within : sum_below (length bs) spent ≤ rounds_needed W.db W.sizes p
@@ -166,9 +172,3 @@ module _ {O S : Type 0} (OS : O → Ledger → Type 0) (want : O → Want) (op :
         let one = one-of (crew_size W.sizes p) left a (subst (λ k. a < k) n l) in
         let some = some-left most idle_turns post held unclosed (get_or vs a d) no-more still in
         subst (λ k. sum_below k spent + 1 ≤ rounds_needed W.db W.sizes p) (sym n) (omega (arith, h, b, one, some))
-
-  -- by how many steps workers went on in steps that were made
-  abbrev pub gained : (steps : List ℕ) (ws : List (Worker O S)) (w : LinksView) (vs : List (Worker O S)) (v : LinksView)
-      → Follows OS want op most idle_turns SS task post bounds held unclosed hash m steps ws w vs v → ℕ
-  gained [] ws w vs v h = 0
-  gained (s ∷ rest) ws w vs v h = progress (outcome_of h.2.before) h.2.answer + gained rest h.0 h.1 vs v h.3

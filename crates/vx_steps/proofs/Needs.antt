@@ -1,21 +1,17 @@
 -- At any moment of a run: how many rows, morsels and packets came to each worker at most, and so how many steps all workers needed.
-use Rattle.std.proofs.Common.{ℕ, zero, suc, ◌≡◌, ◌<◌, ◌≤◌, ◌+◌, ◌-◌, ◌*◌, ◌/◌, ◌==◌, ◌&&◌, Bool, true, false, cond, List, [], ◌∷◌, ◌++◌, length, take, drop, Some, slice_get, refl, sym, ap, ◌∙◌, subst, arith, inl, inr, length-append, length-take, length-drop, le_refl, eqb-true, true≢false}
+use Rattle.std.proofs.Common.{ℕ, zero, suc, ◌≡◌, ◌<◌, ◌≤◌, ◌+◌, ◌-◌, ◌*◌, ◌==◌, ◌&&◌, Bool, true, false, cond, List, [], ◌∷◌, ◌++◌, length, drop, refl, sym, ap, ◌∙◌, subst, arith, length-append, length-take, length-drop, le_refl, eqb-true, true≢false}
 use Rattle.std.proofs.Math.Path.{fun_ext}
 use Rattle.std.proofs.Math.Nat.{mul-le-mul_left, mul-le-mul_right, mul-div-le}
 use Rattle.std.proofs.lemmas.Nat.{mul-le}
-use Rattle.std.proofs.lemmas.Bool.{cases_lt}
-use Rattle.std.specs.List.{All, Contains}
-use Rattle.vx_values.specs.Values.{Val, Row}
+use Rattle.vx_values.specs.Values.{Row}
 use Rattle.vx_plan_nodes.specs.Plan.{ExchangeKind, Claim, Plan, scan, unary, binary, exchange, Binary, union, join, Size, one_worker, group_of, size, size_eq, target}
 use Rattle.vx_plan_nodes.specs.Streams.{workers}
 use Rattle.vx_plan_nodes.specs.Workers.{workers_below, crew_size}
 use Rattle.vx_plan_nodes.specs.Numbering.{is_fit}
-use Rattle.vx_plan_nodes.specs.Routes.{Routing}
-use Rattle.vx_ports.specs.Packets.{PacketView, rows_of, is_closed}
-use Rattle.vx_morsel.specs.Draws.{Draws, AllAbove, Rises}
+use Rattle.vx_ports.specs.Packets.{rows_of, is_closed}
+use Rattle.vx_morsel.specs.Draws.{Draws, Rises}
 use Rattle.vx_ops.specs.Ledger.{two_op}
-use Rattle.vx_ops.specs.Turn.{Coming, sum_below}
-use Rattle.vx_ends.specs.Tasks.{Task, Post, sends_by_ship, keeps}
+use Rattle.vx_ops.specs.Turn.{sum_below}
 use Rattle.vx_ends.specs.Queued.{consumers_of}
 use Rattle.vx_worker.specs.Morsels.{morsel_of, morsel_count, morsels}
 use Rattle.vx_worker.specs.Fragment.{RunModel, IsSet, Frag, both, fragment}
@@ -27,11 +23,11 @@ use Rattle.vx_layout.specs.Needed.{most_rows, most_turns, worker_steps, steps_be
 use Rattle.vx_steps.specs.Scans.{hand_in}
 use Rattle.vx_steps.specs.LinksView.{LinksView, station_at, queue_at}
 use Rattle.vx_steps.specs.Agrees.{trace_at, AllUnder, HasDealt, Agrees}
-use Rattle.vx_steps.specs.Roles.{IsRoot, IsProducer, RolesBelow, IsShared, IsWhole, Wired}
+use Rattle.vx_steps.specs.Roles.{IsRoot, RolesBelow, IsShared, IsWhole, Wired}
 use Rattle.vx_steps.specs.declared.station.Station.{Station}
 use Rattle.vx_steps.specs.declared.station.Station.TheVariants.{Inner, Exchange, Shared, Whole}
 use Rattle.vx_laws.proofs.Bags.{and-left, and-right}
-use Rattle.vx_steps.proofs.Arrivals.{after_trace, arrived, AreFewPackets, sum-le, rows-both}
+use Rattle.vx_steps.proofs.Arrivals.{after_trace, arrived, AreFewPackets, rows-both}
 use Rattle.vx_steps.proofs.FlatRuns.{le-left, le-right, lt-first}
 
 -- a morsel is full, or it is the last of the relation's rows
@@ -150,7 +146,6 @@ pub record IsWithinNeeds (S : RunModel) (m : ℕ → ℕ → List Row) (p : Plan
   pub rows : frag_most f (after_trace m t no-more) ≤ most_rows S.db S.sizes p
   pub turns : frag_idle f (after_trace m t no-more) + arrived f t ≤ most_turns S.db S.sizes p
 
-
 -- a scan, of which these morsels were drawn
 scan-needs : (S : RunModel) (m : ℕ → ℕ → List Row) (n r : ℕ) (d : Draws) → m ≡ scan_morsels S → 0 < S.morsel → (S.relation_of n == r) ≡ true
     → DrewOf (morsel_count S.morsel (length (S.db r))) d → (length (morsels (m n) d.numbers) ≤ length (S.db r)) × (length d.numbers ≤ length (S.db r))
@@ -250,9 +245,9 @@ module _ (S : RunModel) (set : IsSet S) (m : ℕ → ℕ → List Row) (em : m �
   -- so many steps for each worker: those that it has at first with what came to it, and one for each morsel and packet of this
   module _ (uses : ℕ → ℕ)
       (used : (a : ℕ) → a < total →
-          let n = consumers_of (roles a).post in
-          let c = after_trace m (trace_at ts a) no-more in
-          uses a ≤ (n + 1) * frag_most (roles a).frag c + frag_idle (roles a).frag c + (2 * n + 4) + arrived (roles a).frag (trace_at ts a)) where
+      let n = consumers_of (roles a).post in
+      let c = after_trace m (trace_at ts a) no-more in
+      uses a ≤ (n + 1) * frag_most (roles a).frag c + frag_idle (roles a).frag c + (2 * n + 4) + arrived (roles a).frag (trace_at ts a)) where
     -- those of one worker
     one-uses : (p : Plan) (n a : ℕ) (f : Frag) → a < total → (roles a).frag ≡ f → consumers_of (roles a).post ≡ n → IsWithinNeeds S m p f (trace_at ts a) → uses a ≤ worker_steps S.db S.sizes n p
     one-uses p n a f l ef en h =

@@ -103,7 +103,7 @@ module _ {O S : Type 0} (OS : O → Ledger → Type 0) (want : O → Want) (op :
   }
 
   -- how many workers there are
-  track-length : (goes : Routing) (bs ws : List (Worker O S)) (w : LinksView) (ts : List Trace) (spent : ℕ → ℕ) → Track goes bs ws w ts spent → length ws ≡ length bs
+  pub track-length : (goes : Routing) (bs ws : List (Worker O S)) (w : LinksView) (ts : List Trace) (spent : ℕ → ℕ) → Track goes bs ws w ts spent → length ws ≡ length bs
   track-length goes bs ws w ts spent h =
       let a = map-length (role_of op post bounds) ws in
       let b = map-length (role_of op post bounds) bs in
