@@ -1,3 +1,4 @@
 pub mod MergeJoins
 pub mod Fewer
 pub mod MergePays
+pub mod MergeStarts

@@ -3,7 +3,7 @@ use Rattle.std.specs.Prelude.{◌≡◌, ◌≤◌, ℕ, ◌+◌, ◌*◌, Bool,
 use Rattle.std.proofs.Common.{le_refl, add-le-add, mul-le-mul}
 use Rattle.vx_plan_nodes.specs.Plan.{join}
 use Rattle.vx_merging.specs.Merged.{MergeView, HasJoined, merge_need}
-use Rattle.vx_merging.specs.AtHand.{lefts_at_hand, rights_at_hand, rows_at_hand}
+use Rattle.vx_merging.specs.AtHand.{lefts_at_hand, rows_at_hand}
 use Rattle.vx_merging.specs.declared.merging.MergeFault.{MergeFault}
 use Rattle.vx_merging.specs.declared.merging.MergeFault.TheVariants as stops
 use Rattle.vx_merging.specs.declared.merging.MergeNeed.{MergeNeed}

@@ -52,7 +52,8 @@ impl FirstRows {
     ghost use Rattle.vx_plan_nodes.specs.Plan.{distinct};
     ghost use Rattle.vx_ops.specs.Ledger.{one_op};
     ghost use Rattle.vx_ops.specs.Turn.{fresh_ledger};
-    ghost use Rattle.vx_match.specs.Distinct.{DistinctStands, distinct_op, distinct_types};
+    ghost use Rattle.vx_ops.specs.Starts.{Starts};
+    ghost use Rattle.vx_match.specs.Distinct.{DistinctStands, distinct_op, distinct_types, distinct_meaning};
 
     /// A distinct on these columns of rows of these types, in this order, at the node with this number, to which nothing came.
     /// Keys are hashed by the seed.
@@ -67,6 +68,7 @@ impl FirstRows {
         ensures stands { IfOk result (λ s. DistinctStands s fresh_ledger) }
         ensures op { IfOk result (λ s. distinct_op s ≡ one_op node (distinct columns.items)) }
         ensures types { IfOk result (λ s. distinct_types s ≡ record { left = types.now; right = types.now; out = map (type_at types.now) columns.items }) }
+        ensures starts { IfOk result (λ s. Starts (distinct_meaning s)) }
     {
         let types = Vec::from_slice(alloc, types)?;
         let kernel = FirstRows {

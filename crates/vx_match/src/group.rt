@@ -56,7 +56,8 @@ impl KeyedGroups {
     ghost use Rattle.vx_plan_nodes.specs.Types.{unary_types};
     ghost use Rattle.vx_ops.specs.Ledger.{one_op};
     ghost use Rattle.vx_ops.specs.Turn.{fresh_ledger};
-    ghost use Rattle.vx_match.specs.Group.{GroupStands, group_op, group_types};
+    ghost use Rattle.vx_ops.specs.Starts.{Starts};
+    ghost use Rattle.vx_match.specs.Group.{GroupStands, group_op, group_types, group_meaning};
 
     /// The group by these columns with these aggregates over rows of these types, at the node with this number, to which nothing came.
     /// Keys are hashed by the seed.
@@ -73,6 +74,7 @@ impl KeyedGroups {
         ensures stands { IfOk result (λ s. GroupStands s fresh_ledger) }
         ensures op { IfOk result (λ s. group_op s ≡ one_op node (group (phase_of phase) by.now (map aggregate_of aggregates.now))) }
         ensures types { IfOk result (λ s. group_types s ≡ record { left = types.now; right = types.now; out = unary_types (group (phase_of phase) by.now (map aggregate_of aggregates.now)) types.now }) }
+        ensures starts { IfOk result (λ s. Starts (group_meaning s)) }
     {
         let grouping = Grouping::new(alloc, seed, types, by, aggregates)?;
         let kernel = KeyedGroups {

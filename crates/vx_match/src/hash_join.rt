@@ -63,7 +63,8 @@ impl HashJoining {
     ghost use Rattle.vx_plan_nodes.specs.Plan.{join};
     ghost use Rattle.vx_ops.specs.Ledger.{two_op};
     ghost use Rattle.vx_ops.specs.Turn.{fresh_ledger};
-    ghost use Rattle.vx_match.specs.HashJoin.{HashJoinStands, hash_join_op, hash_join_types};
+    ghost use Rattle.vx_ops.specs.Starts.{Starts};
+    ghost use Rattle.vx_match.specs.HashJoin.{HashJoinStands, hash_join_op, hash_join_types, hash_join_meaning};
 
     /// A hash join on these pairs of a left and a right column, of rows of these types, at the node with this number, to
     /// which nothing came. Keys are hashed by the seed.
@@ -80,6 +81,7 @@ impl HashJoining {
         ensures stands { IfOk result (λ s. HashJoinStands s fresh_ledger) }
         ensures op { IfOk result (λ s. hash_join_op s ≡ two_op node (join false on.items)) }
         ensures types { IfOk result (λ s. hash_join_types s ≡ record { left = left.now; right = right.now; out = left.now ++ right.now }) }
+        ensures starts { IfOk result (λ s. Starts (hash_join_meaning s)) }
     {
         let left_columns = left_columns(alloc, on.as_slice())?;
         let right_columns = right_columns(alloc, on.as_slice())?;

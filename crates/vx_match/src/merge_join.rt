@@ -51,7 +51,8 @@ impl MergeJoin {
     ghost use Rattle.vx_ops.specs.declared.turn.Polled.TheVariants as polled;
     ghost use Rattle.vx_ops.specs.declared.turn.Got.TheVariants as got_of;
     ghost use Rattle.vx_ops.specs.declared.turn.Want.TheVariants as want_of;
-    ghost use Rattle.vx_match.specs.MergeJoin.{MergeJoinStands, merge_join_op, merge_join_types, merge_join_most, merge_join_idle, own_where};
+    ghost use Rattle.vx_ops.specs.Starts.{Starts};
+    ghost use Rattle.vx_match.specs.MergeJoin.{MergeJoinStands, merge_join_op, merge_join_types, merge_join_most, merge_join_idle, own_where, merge_join_meaning};
 
     /// A merge join on these pairs of a left and a right column, over rows of these types, at the node with this number,
     /// to which nothing came.
@@ -67,6 +68,7 @@ impl MergeJoin {
         ensures stands { IfOk result (λ s. MergeJoinStands s fresh_ledger) }
         ensures op { IfOk result (λ s. merge_join_op s ≡ two_op node (join true on.now)) }
         ensures types { IfOk result (λ s. merge_join_types s ≡ record { left = left.now; right = right.now; out = left.now ++ right.now }) }
+        ensures starts { IfOk result (λ s. Starts (merge_join_meaning s)) }
     {
         let lefts = left_columns(alloc, on)?;
         let rights = right_columns(alloc, on)?;

@@ -8,7 +8,8 @@ ghost use Rattle.vx_plan_nodes.specs.Typed.{is_unary, is_binary, may_merge};
 ghost use Rattle.vx_plan_nodes.specs.Types.{unary_types, binary_types};
 ghost use Rattle.vx_ops.specs.Ledger.{one_op, two_op, receive};
 ghost use Rattle.vx_ops.specs.Turn.{fresh_ledger};
-ghost use Rattle.vx_operators.specs.Operator.{OperatorStands, operator_op, operator_types};
+ghost use Rattle.vx_ops.specs.Starts.{StartsWithin};
+ghost use Rattle.vx_operators.specs.Operator.{OperatorStands, operator_op, operator_types, operator_most, operator_idle};
 ghost use Rattle.vx_values.specs.Limits.{max_group_workers};
 
 use crate::kind::OperatorKind;
@@ -35,6 +36,7 @@ pub fn unary_operator(
     requires { is_unary input.now (unary_of unary.now) ≡ true }
     ensures op { IfOk result (λ o. operator_op o ≡ one_op number (unary_of unary.now)) }
     ensures stands { IfOk result (λ o. OperatorStands o fresh_ledger) }
+    ensures starts { IfOk result (λ o. StartsWithin (operator_op o) (operator_most o) (operator_idle o)) }
     ensures reads { IfOk result (λ o. (operator_types o).left ≡ input.now) }
     ensures returns { IfOk result (λ o. (operator_types o).out ≡ unary_types (unary_of unary.now) input.now) }
 {
@@ -82,6 +84,7 @@ pub fn binary_operator(
     requires { is_binary left.now right.now (binary_of binary.now) ≡ true }
     ensures op { IfOk result (λ o. operator_op o ≡ two_op number (binary_of binary.now)) }
     ensures stands { IfOk result (λ o. OperatorStands o fresh_ledger) }
+    ensures starts { IfOk result (λ o. StartsWithin (operator_op o) (operator_most o) (operator_idle o)) }
     ensures left { IfOk result (λ o. (operator_types o).left ≡ left.now) }
     ensures right { IfOk result (λ o. (operator_types o).right ≡ right.now) }
     ensures returns { IfOk result (λ o. (operator_types o).out ≡ binary_types (binary_of binary.now) left.now right.now) }
@@ -127,6 +130,7 @@ pub fn consumer_operator(
     ensures op { IfOk result (λ o. operator_op o
         ≡ receive (record { exchange = number; place = place; producers = producers; types = types.items; merge = exchange.now.merge.items; in_order = is_concat (kind_of exchange.now.kind) })) }
     ensures stands { IfOk result (λ o. OperatorStands o fresh_ledger) }
+    ensures starts { IfOk result (λ o. StartsWithin (operator_op o) (operator_most o) (operator_idle o)) }
     ensures reads { IfOk result (λ o. (operator_types o).left ≡ types.items) }
     ensures returns { IfOk result (λ o. (operator_types o).out ≡ types.items) }
 {

@@ -27,8 +27,9 @@ impl Drop for Operator {
 impl Operator {
     ghost use Rattle.std.specs.Prelude.{◌≡◌};
     ghost use Rattle.vx_ops.specs.Turn.{fresh_ledger};
-    ghost use Rattle.vx_operators.specs.Kind.{KindStands};
-    ghost use Rattle.vx_operators.specs.Operator.{OperatorStands, node_in, counts_in};
+    ghost use Rattle.vx_ops.specs.Starts.{Starts, StartsWithin};
+    ghost use Rattle.vx_operators.specs.Kind.{KindStands, kind_meaning};
+    ghost use Rattle.vx_operators.specs.Operator.{OperatorStands, operator_op, operator_most, operator_idle, node_in, counts_in};
     ghost use Rattle.vx_setup.specs.Counts.{no_turns};
 
     /// The operator at the node with this number, to which nothing came.
@@ -38,6 +39,7 @@ impl Operator {
         ensures kind { result.kind ≡ kind }
         ensures counts { counts_in result ≡ no_turns }
         ensures stands { OperatorStands result fresh_ledger }
+        ensures starts { Starts (kind_meaning kind) → StartsWithin (operator_op result) (operator_most result) (operator_idle result) }
     {
         Operator {
             node,
