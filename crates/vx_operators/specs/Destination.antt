@@ -5,10 +5,11 @@ use Rattle.vx_plan_nodes.specs.Routes.{Routing}
 use Rattle.vx_ports.specs.Packets.{PacketView}
 use Rattle.vx_ops.specs.Ledger.{Stream}
 use Rattle.vx_ends.specs.Tasks.{Task, Post, BeganSending, IsAt}
-use Rattle.vx_exchange.specs.Sender.{SenderStands, sender_task, sender_post, sender_bounds, sender_is_open, sender_has_closed, sender_open_first, sender_begun, sender_at_post}
-use Rattle.vx_exchange.specs.Collector.{CollectorStands, collector_task, collector_post, collector_bounds, collector_is_open, collector_has_closed, collector_held, collector_unclosed, collector_held_for, collector_few_closings, collector_open_first, collector_begun, collector_at_post}
+use Rattle.vx_exchange.specs.Sender.{SenderStands, sender_task, sender_post, sender_bounds, sender_is_open, sender_has_closed, sender_open_first, sender_begun, sender_at_post, sender_streams}
+use Rattle.vx_exchange.specs.Collector.{CollectorStands, collector_task, collector_post, collector_bounds, collector_is_open, collector_has_closed, collector_held, collector_unclosed, collector_held_for, collector_few_closings, collector_open_first, collector_begun, collector_at_post, collector_streams}
 use Rattle.vx_exchange.specs.Queued.{sender_held, sender_unclosed, sender_held_for, sender_few_closings}
 use Rattle.vx_ends.specs.Queued.{consumers_of}
+use Rattle.vx_ends.specs.Streams.{AreStreams}
 use Rattle.vx_operators.specs.declared.destination.Destination.{Destination}
 use Rattle.vx_operators.specs.declared.destination.Destination.TheVariants as destination
 
@@ -65,3 +66,7 @@ begun (destination.Collect s) goes a g h e = collector_begun s goes a g h e
 pub at_post : (s : Destination) → IsAt (post_of s) (task_of s)
 at_post (destination.Send s) = sender_at_post s
 at_post (destination.Collect s) = collector_at_post s
+
+pub streams : (s : Destination) (goes : Routing) (a : Stream) (g : ℕ → List PacketView) → DestinationStands s goes a g → AreStreams (consumers_of (post_of s)) g
+streams (destination.Send s) goes a g h = sender_streams s goes a g h
+streams (destination.Collect s) goes a g h = collector_streams s goes a g h

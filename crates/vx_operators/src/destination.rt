@@ -14,7 +14,7 @@ pub enum Destination {
 }
 
 impl Sends for Destination {
-    ghost use Rattle.vx_operators.specs.Destination.{DestinationStands, task_of, post_of, bounds_of, is_open, has_closed, held_in, unclosed_in, held_for, few_closings, open_first, begun, at_post};
+    ghost use Rattle.vx_operators.specs.Destination.{DestinationStands, task_of, post_of, bounds_of, is_open, has_closed, held_in, unclosed_in, held_for, few_closings, open_first, begun, at_post, streams};
 
     ghost Stands = { DestinationStands };
 
@@ -41,6 +41,8 @@ impl Sends for Destination {
     ghost begun = { begun };
 
     ghost at_post = { at_post };
+
+    ghost streams = { streams };
 
     fn accept<R: Router>(&mut self, router: &R, polled: Polled) -> Result<(), AllocError> {
         match self {
