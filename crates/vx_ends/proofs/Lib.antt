@@ -4,3 +4,4 @@ pub mod Deals
 pub mod Sendings
 pub mod Parts
 pub mod Joined
+pub mod PortStreams

@@ -7,3 +7,4 @@ pub mod Beginnings
 pub mod Parts
 pub mod InTurn
 pub mod Queued
+pub mod Streams

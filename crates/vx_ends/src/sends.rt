@@ -18,6 +18,7 @@ pub trait Sends {
     ghost use Rattle.vx_ends.specs.Tasks.{Task, Post, post_types, Finished, Stopped, BeganSending, IsAt};
     ghost use Rattle.vx_ends.specs.Sending.{RoutesAs, is_open_after};
     ghost use Rattle.vx_ends.specs.Queued.{consumers_of, IsTakenOut, IsNoMore};
+    ghost use Rattle.vx_ends.specs.Streams.{AreStreams};
 
     // That this may have accepted such a stream and returned such packets for each consumer, where rows go so.
     ghost Stands: { Self → Routing → Stream → (ℕ → List PacketView) → Type 0 };
@@ -86,4 +87,7 @@ pub trait Sends {
 
     // Each consumer is closed once at most.
     ghost few_closings: { (s : Self) → unclosed s ≤ consumers_of (post s) };
+
+    // What it returned for each consumer is a stream, also after it has closed some, and nothing went to anyone else.
+    ghost streams: { (s : Self) (goes : Routing) (a : Stream) (g : ℕ → List PacketView) → Stands s goes a g → AreStreams (consumers_of (post s)) g };
 }

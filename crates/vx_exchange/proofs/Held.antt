@@ -14,7 +14,7 @@ use Rattle.vx_ops.proofs.Fewer.{filter-long}
 use Rattle.vx_ends.specs.Ship.{end_to_end}
 use Rattle.vx_ends.specs.Sending.{KindRoutesAs}
 use Rattle.vx_ends.specs.Queued.{rows_to, closings, IsTakenOut}
-use Rattle.vx_exchange.specs.LaneView.{Way, LaneView, parcel_at, Cuts, CutsRest}
+use Rattle.vx_exchange.specs.LaneView.{Way, LaneView, parcel_at, empty_outlet, Cuts, CutsRest}
 use Rattle.vx_exchange.specs.Lanes.{IsLane, closings_of, kind_of, bounds_of, SameLanes, Deals, Finishes, GivesPacket, GivesClosing}
 use Rattle.vx_exchange.specs.LaneLaws.{element_at}
 use Rattle.vx_exchange.specs.Queued.{lane_rows, rows_at_lane, lanes_held, lanes_unclosed}
@@ -137,6 +137,14 @@ cleared-held lanes ready current j = go (slice_get lanes j) refl
         let r = ap (λ ps. length (rows_of ps)) (all-lanes (λ z. z.ready ≡ []) lanes ready j o e) in
         let c = ap length (all-lanes (λ z. z.current ≡ []) lanes current j o e) in
         omega (arith, r, c)
+
+-- nor by lanes that are new
+pub fresh-held : (way : ℕ → Way) (lanes : List LaneView) → ((j : ℕ) (o : LaneView) → IsLane lanes j o → o ≡ empty_outlet (way j)) → (j : ℕ) → lanes_held lanes j ≡ 0
+fresh-held way lanes each j = go (slice_get lanes j) refl
+  where
+    go : (x : Option LaneView) → slice_get lanes j ≡ x → rows_at_lane x ≡ 0
+    go None e = refl
+    go (Some o) e = ap lane_rows (each j o e)
 
 held-set : (lanes : List LaneView) (i : ℕ) (o o' : LaneView) (p : PacketView) → IsLane lanes i o → lane_rows o' + length (content_rows p.content) ≡ lane_rows o
     → (j : ℕ) → lanes_held (set lanes i o') j + rows_to i p j ≤ lanes_held lanes j

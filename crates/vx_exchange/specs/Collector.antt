@@ -6,6 +6,7 @@ use Rattle.vx_plan_nodes.specs.Routes.{Routing}
 use Rattle.vx_ports.specs.Packets.{PacketView}
 use Rattle.vx_ops.specs.Ledger.{Stream}
 use Rattle.vx_ends.specs.Queued.{consumers_of}
+use Rattle.vx_ends.specs.Streams.{AreStreams, no-streams}
 use Rattle.vx_ends.specs.Tasks.{Task, keep, Post, keeps, BeganSending, IsAt}
 use Rattle.vx_exchange.specs.declared.collector.Collector.{Collector}
 
@@ -58,3 +59,7 @@ collector_held_for s j h = refl
 
 pub collector_few_closings : (s : Collector) → collector_unclosed s ≤ consumers_of (collector_post s)
 collector_few_closings s = le_refl 0
+
+-- nothing was returned
+pub collector_streams : (s : Collector) (goes : Routing) (a : Stream) (g : ℕ → List PacketView) → CollectorStands s goes a g → AreStreams (consumers_of (collector_post s)) g
+collector_streams s goes a g h = no-streams 0 g h.nothing

@@ -7,7 +7,7 @@ use Rattle.vx_values.specs.Values.{Val, Row}
 use Rattle.vx_rows.specs.Lists.{IsBeginning}
 use Rattle.vx_plan_nodes.specs.Routes.{Routing, Sends}
 use Rattle.vx_plan_nodes.specs.Streams.{Streams}
-use Rattle.vx_ports.specs.Packets.{Content, last, fault, PacketView}
+use Rattle.vx_ports.specs.Packets.{Content, last, fault, PacketView, is_stream}
 use Rattle.vx_ops.specs.Ledger.{Stream}
 use Rattle.vx_ops.specs.declared.fault.Fault.{Fault}
 use Rattle.vx_ops.specs.declared.fault.StreamState.{StreamState}
@@ -21,6 +21,8 @@ use Rattle.vx_exchange.specs.declared.sender.Sender.{Sender}
 use Rattle.vx_exchange.specs.declared.sender.SenderState.{SenderState}
 use Rattle.vx_exchange.specs.declared.sender.SenderState.TheVariants.{Open, Ending, Failing}
 use Rattle.vx_ends.specs.Beginnings.{begins-along, begins-take, mapped-take}
+use Rattle.vx_ends.specs.Queued.{consumers_of}
+use Rattle.vx_ends.specs.Streams.{AreStreams, packet-stream, rows-stream, prefix-stream, are-streams}
 
 -- what it sends, and where
 abbrev pub sender_ship : Sender → Ship
@@ -167,3 +169,30 @@ begun_at goes s st r lanes a g many h unclosed =
 -- and so the sending end has begun
 pub sender_begun : (s : Sender) (goes : Routing) (a : Stream) (g : ℕ → List PacketView) → SenderStands s goes a g → sender_has_closed s ≡ false → BeganSending goes (sender_task s) a.rows g
 sender_begun s goes a g h e = begun_at goes (sender_ship s) s.stage s.next s.lanes.items a g (length-map s.lanes.items (λ (o : LaneView). o.way)) h e
+
+-- the closing packet of a lane is a stream, and so is none
+closing_stream : (s : Ship) (j : ℕ) (content : Content) (closed : Bool) → is_stream (closing_given s j content closed) ≡ true
+closing_stream s j content true = packet-stream (packet_of s j content)
+closing_stream s j content false = refl
+
+-- what a lane returned is a stream, also once it has closed
+lane_stream : (st : SenderState) (s : Ship) (j : ℕ) (o : LaneView) (rows : List Row) (given : List PacketView) → LaneAt st s j o rows given → is_stream given ≡ true
+lane_stream Open s j o rows given k =
+    let P : List PacketView → Type 0 = λ ps. is_stream ps ≡ true in
+    prefix-stream given o.ready (subst P (append-nil (map (packet_at s j) k.full) ∙ sym k.packets) (rows-stream s j k.full [] refl))
+lane_stream Ending s j o rows given k =
+    let P : List PacketView → Type 0 = λ ps. is_stream ps ≡ true in
+    prefix-stream given o.ready (subst P (sym k.packets) (rows-stream s j k.parts (closing_given s j last o.closed) (closing_stream s j last o.closed)))
+lane_stream Failing s j o rows given k =
+    let P : List PacketView → Type 0 = λ ps. is_stream ps ≡ true in
+    subst P k.packets (rows-stream s j k.parts (closing_given s j fault o.closed) (closing_stream s j fault o.closed))
+
+-- so it is of all lanes
+streams_at : (goes : Routing) (s : Ship) (st : SenderState) (r : ℕ) (lanes : List LaneView) (a : Stream) (g : ℕ → List PacketView) → s.consumers ≡ length lanes
+    → SenderAt goes s st r lanes a g → AreStreams s.consumers g
+streams_at goes s st r lanes a g many h =
+    are-streams s.consumers g (λ j l. let N : ℕ → Type 0 = λ n. j < n in let e = element_at lanes j (subst N many l) in lane_stream st s j e.0 (h.sent j) (g j) (h.gives j e.0 e.1)) h.nothing
+
+-- and so of the sending end
+pub sender_streams : (s : Sender) (goes : Routing) (a : Stream) (g : ℕ → List PacketView) → SenderStands s goes a g → AreStreams (consumers_of (sender_post s)) g
+sender_streams s goes a g h = streams_at goes (sender_ship s) s.stage s.next s.lanes.items a g (length-map s.lanes.items (λ (o : LaneView). o.way)) h

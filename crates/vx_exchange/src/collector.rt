@@ -16,17 +16,18 @@ pub struct Collector {
 }
 
 impl Collector {
-    ghost use Rattle.std.specs.Prelude.{◌≡◌, [], IfOk, true};
+    ghost use Rattle.std.specs.Prelude.{◌≡◌, ℕ, [], IfOk, true};
     ghost use Rattle.vx_plan_nodes.specs.Routes.{Routing};
     ghost use Rattle.vx_ops.specs.Ledger.{fresh};
     ghost use Rattle.vx_ends.specs.Tasks.{keep, keeps};
-    ghost use Rattle.vx_exchange.specs.Collector.{CollectorStands, collector_task, collector_post, collector_is_open};
+    ghost use Rattle.vx_exchange.specs.Collector.{CollectorStands, collector_task, collector_post, collector_is_open, collector_held};
 
     /// No rows yet, of these types.
     pub fn new(alloc: Global, types: &[ColType]) -> Result<Collector, AllocError>
         ensures stands { IfOk result (λ s. (goes : Routing) → CollectorStands s goes fresh (λ _. [])) }
         ensures post { IfOk result (λ s. collector_post s ≡ keeps types.now) }
         ensures open { IfOk result (λ s. collector_is_open s ≡ true) }
+        ensures fresh { IfOk result (λ s. (j : ℕ) → collector_held s j ≡ 0) }
     {
         let rows = Rows::new(alloc, types)?;
         Ok(Collector {
@@ -45,7 +46,7 @@ impl Collector {
 }
 
 impl Sends for Collector {
-    ghost use Rattle.vx_exchange.specs.Collector.{CollectorStands, collector_task, collector_post, collector_bounds, collector_is_open, collector_has_closed, collector_held, collector_unclosed, collector_held_for, collector_few_closings, collector_open_first, collector_begun, collector_at_post};
+    ghost use Rattle.vx_exchange.specs.Collector.{CollectorStands, collector_task, collector_post, collector_bounds, collector_is_open, collector_has_closed, collector_held, collector_unclosed, collector_held_for, collector_few_closings, collector_open_first, collector_begun, collector_at_post, collector_streams};
 
     ghost Stands = { CollectorStands };
 
@@ -72,6 +73,8 @@ impl Sends for Collector {
     ghost begun = { collector_begun };
 
     ghost at_post = { collector_at_post };
+
+    ghost streams = { collector_streams };
 
     fn accept<R: Router>(&mut self, _router: &R, polled: Polled) -> Result<(), AllocError> {
         match polled {

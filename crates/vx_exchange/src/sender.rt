@@ -95,6 +95,7 @@ impl Sender {
             ≡ sends_by_ship (record { exchange = exchange; place = place; consumers = consumers; types = types.now; kind = kind_of deal; size = size })) }
         ensures bounds { IfOk result (λ s. sender_bounds s ≡ bounds_of deal) }
         ensures open { IfOk result (λ s. sender_is_open s ≡ true) }
+        ensures fresh { IfOk result (λ s. (j : ℕ) → sender_held s j ≡ 0) }
     {
         let lanes = make_lanes(alloc, exchange, place, consumers, size, types)?;
         Ok(Sender {
@@ -159,7 +160,7 @@ impl Sender {
 }
 
 impl Sends for Sender {
-    ghost use Rattle.vx_exchange.specs.Sender.{SenderStands, sender_task, sender_post, sender_bounds, sender_is_open, sender_has_closed, sender_open_first, sender_begun, sender_at_post};
+    ghost use Rattle.vx_exchange.specs.Sender.{SenderStands, sender_task, sender_post, sender_bounds, sender_is_open, sender_has_closed, sender_open_first, sender_begun, sender_at_post, sender_streams};
     ghost use Rattle.vx_exchange.specs.Queued.{sender_held, sender_unclosed, sender_held_for, sender_few_closings};
 
     ghost Stands = { SenderStands };
@@ -187,6 +188,8 @@ impl Sends for Sender {
     ghost begun = { sender_begun };
 
     ghost at_post = { sender_at_post };
+
+    ghost streams = { sender_streams };
 
     fn accept<R: Router>(&mut self, router: &R, polled: Polled) -> Result<(), AllocError> {
         match self.take(router, polled) {

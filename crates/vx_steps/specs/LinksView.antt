@@ -1,5 +1,5 @@
 -- What all workers of a run share, as plain data: queues of packets, decks and hands.
-use Rattle.std.specs.Prelude.{ℕ, ◌≡◌, ◌+◌, ◌<◌, length, List, [], ◌∷◌, ◌++◌, Option, Some, None, slice_get, refl, Bool, true}
+use Rattle.std.specs.Prelude.{ℕ, ◌≡◌, ◌+◌, ◌<◌, length, List, [], ◌∷◌, ◌++◌, Option, Some, None, slice_get, refl, Bool, true, false}
 use Rattle.std.specs.List.{slice_index_or}
 use Rattle.vx_ports.specs.Packets.{PacketView, closes}
 use Rattle.vx_ports.specs.LinkView.{LinkView}
@@ -52,12 +52,13 @@ pub record Stays (w v : LinksView) : Type 0 where
   pub closed : SameClosed w v
   pub stations : SameStations w v
 
--- the worker whose turn it is put a packet for consumer j
+-- the worker whose turn it is put a packet for consumer j, on a queue that was open
 pub record Puts (w : LinksView) (j : ℕ) (p : PacketView) (v : LinksView) : Type 0 where
   pub tables : SameTables w v
   pub stations : SameStations w v
   pub here : queue_at v w.turn j ≡ queue_at w w.turn j ++ p ∷ []
   pub others : (a k : ℕ) → ((a ≡ w.turn) × (k ≡ j) → ⊥) → queue_at v a k ≡ queue_at w a k
+  pub was_open : closed_at w w.turn j ≡ false
   pub closes_here : closed_at v w.turn j ≡ closes p.content
   pub closed_others : (a k : ℕ) → ((a ≡ w.turn) × (k ≡ j) → ⊥) → closed_at v a k ≡ closed_at w a k
 

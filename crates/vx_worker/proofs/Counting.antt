@@ -36,7 +36,7 @@ module _ {O S : Type 0} (w : Worker O S) (n : StepCounts) where
       → Waits want refuses lacks phase tree intake w e → Waits want refuses lacks phase tree intake (record w { counts = n }) e
   waits-counted want refuses lacks phase tree intake e (none_came x i p q r) = none_came x i p q r
   waits-counted want refuses lacks phase tree intake e (none_drains f x i p q r) = none_drains f x i p q r
-  waits-counted want refuses lacks phase tree intake e (is_full to packet p q r) = is_full to packet p q r
+  waits-counted want refuses lacks phase tree intake e (is_full to packet s p q r) = is_full to packet s p q r
   waits-counted want refuses lacks phase tree intake e (no_memory f p q r) = no_memory f p q r
 
   module _ (OS : O → Ledger → Type 0) (op : O → Op) (SS : S → Routing → Stream → (ℕ → List PacketView) → Type 0) (task : S → Task) (goes : Routing) (m : ℕ → ℕ → List Row) (t : Trace) where

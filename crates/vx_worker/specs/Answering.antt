@@ -24,7 +24,7 @@ use Rattle.vx_worker.specs.declared.intake.Drained.{Drained}
 use Rattle.vx_worker.specs.declared.intake.Drained.TheVariants as drained
 use Rattle.vx_worker.specs.declared.worker.Worker.{Worker}
 use Rattle.vx_worker.specs.declared.worker.WorkerState.{WorkerState}
-use Rattle.vx_worker.specs.declared.worker.WorkerState.TheVariants.{Running, Failing, Draining}
+use Rattle.vx_worker.specs.declared.worker.WorkerState.TheVariants.{Running, Failing, Draining, Well, Failed}
 use Rattle.vx_worker.specs.declared.worker.StepOutcome.{StepOutcome}
 use Rattle.vx_worker.specs.declared.worker.StepOutcome.TheVariants as step_outcome
 
@@ -57,12 +57,20 @@ NeedsNothing k wish.Nothing = Unit {0}
 NeedsNothing k (wish.Morsel n) = has_met_end k n ≡ true
 NeedsNothing k (wish.Packet x i) = ⊥
 
+-- it runs, or closes its ports
+abbrev pub IsSending : WorkerState → Type 0
+IsSending Running = Unit {0}
+IsSending (Failing f) = Unit {0}
+IsSending (Draining f) = ⊥
+IsSending Well = ⊥
+IsSending (Failed f) = ⊥
+
 -- why a step only waits: no packet had come from the producer that the tree wants one of, or from an open one while packets are taken and dropped;
--- the port of the packet that it holds is full; or memory was refused while packets are taken and dropped
+-- the port of the packet that it holds is full, while it runs or closes its ports; or memory was refused while packets are taken and dropped
 pub data Waits {O S : Type 0} (want : O → Want) (refuses : ℕ → Type 0) (lacks : Type 0) (phase : WorkerState) (tree : Tree O) (intake : Intake) (new : Worker O S) (e : Event) : Type 0 where
   none_came : (x i : ℕ) → phase ≡ Running → tree_want want tree ≡ wish.Packet x i → e ≡ took_one x i None → Waits want refuses lacks phase tree intake new e
   none_drains : (f : Fault) (x i : ℕ) → phase ≡ Draining f → IsOpenInput intake x i → e ≡ took_one x i None → Waits want refuses lacks phase tree intake new e
-  is_full : (to : ℕ) (packet : PacketView) → new.pending ≡ Some (to, packet) → refuses to → e ≡ idle → Waits want refuses lacks phase tree intake new e
+  is_full : (to : ℕ) (packet : PacketView) → IsSending new.phase → new.pending ≡ Some (to, packet) → refuses to → e ≡ idle → Waits want refuses lacks phase tree intake new e
   no_memory : (f : Fault) → phase ≡ Draining f → lacks → e ≡ idle → Waits want refuses lacks phase tree intake new e
 
 -- what a step did that moved: a draw, a take or a put; or the tree's top gave rows or its end; or the worker failed, or has closed all its ports;

@@ -16,7 +16,7 @@ loop-number-preserved g c =
       flag = flag-more c.loop-number.number c.loop-number.workers.items new.workers.items c.loop-number.all_ended c.is_end-all_ended.result one.others here inv.flag;
       ready = one.ready;
       count = inv.count;
-      follows = follows-round g.O.Source.Stands g.O.Source.want g.O.Source.op g.S.Sends.Stands g.S.Sends.task g.S.Sends.post g.S.Sends.bounds (g.R.Router.route_of c.args.router.now) (g.G.Morsels.morsel_of c.args.morsels.now) c.loop-number.number c.args.workers.now.items c.loop-number.workers.items new.workers.items c.args.links.now c.loop-number.links new.links inv.follows one.follows.0;
+      follows = follows-round g.O.Source.Stands g.O.Source.want g.O.Source.op g.O.Source.most g.O.Source.idle g.S.Sends.Stands g.S.Sends.task g.S.Sends.post g.S.Sends.bounds g.S.Sends.held g.S.Sends.unclosed (g.R.Router.route_of c.args.router.now) (g.G.Morsels.morsel_of c.args.morsels.now) c.loop-number.number c.args.workers.now.items c.loop-number.workers.items new.workers.items c.args.links.now c.loop-number.links new.links inv.follows one.follows.0;
       advances = advances-then g.O.Source.Stands g.O.Source.op g.S.Sends.Stands g.S.Sends.task g.S.Sends.post g.S.Sends.bounds (g.R.Router.route_of c.args.router.now) (g.G.Morsels.morsel_of c.args.morsels.now)
           c.args.workers.now.items c.loop-number.workers.items new.workers.items c.args.links.now c.loop-number.links new.links inv.advances one.advances;
     }

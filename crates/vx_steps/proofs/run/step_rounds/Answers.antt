@@ -11,8 +11,8 @@ returns-then-step_round g c =
     record {
       follows = record {
         count = c.loop-done.done + 1;
-        most = omega (arith, lt);
-        follows = follows-rounds g.O.Source.Stands g.O.Source.want g.O.Source.op g.S.Sends.Stands g.S.Sends.task g.S.Sends.post g.S.Sends.bounds (g.R.Router.route_of c.args.router.now) (g.G.Morsels.morsel_of c.args.morsels.now)
+        at_most = omega (arith, lt);
+        follows = follows-rounds g.O.Source.Stands g.O.Source.want g.O.Source.op g.O.Source.most g.O.Source.idle g.S.Sends.Stands g.S.Sends.task g.S.Sends.post g.S.Sends.bounds g.S.Sends.held g.S.Sends.unclosed (g.R.Router.route_of c.args.router.now) (g.G.Morsels.morsel_of c.args.morsels.now)
             c.loop-done.done (length c.args.workers.now.items) (vec_len c.loop-done.workers) c.args.workers.now.items c.loop-done.workers.items c.step_round.new.workers.items c.args.links.now c.loop-done.links c.step_round.new.links
             same c.loop-done.invariant.follows c.step_round.ensures.follows;
         whole = inr (c.step_round.ensures.ended.0 yes);
@@ -28,7 +28,7 @@ loop-done-preserved g c =
     record {
       ready = c.step_round.ensures.ready;
       len = c.step_round.ensures.len ∙ c.loop-done.invariant.len;
-      follows = follows-rounds g.O.Source.Stands g.O.Source.want g.O.Source.op g.S.Sends.Stands g.S.Sends.task g.S.Sends.post g.S.Sends.bounds (g.R.Router.route_of c.args.router.now) (g.G.Morsels.morsel_of c.args.morsels.now)
+      follows = follows-rounds g.O.Source.Stands g.O.Source.want g.O.Source.op g.O.Source.most g.O.Source.idle g.S.Sends.Stands g.S.Sends.task g.S.Sends.post g.S.Sends.bounds g.S.Sends.held g.S.Sends.unclosed (g.R.Router.route_of c.args.router.now) (g.G.Morsels.morsel_of c.args.morsels.now)
           c.loop-done.done (length c.args.workers.now.items) (vec_len c.loop-done.workers) c.args.workers.now.items c.loop-done.workers.items c.step_round.new.workers.items c.args.links.now c.loop-done.links c.step_round.new.links
           same c.loop-done.invariant.follows c.step_round.ensures.follows;
       advances = advances-then g.O.Source.Stands g.O.Source.op g.S.Sends.Stands g.S.Sends.task g.S.Sends.post g.S.Sends.bounds (g.R.Router.route_of c.args.router.now) (g.G.Morsels.morsel_of c.args.morsels.now)
@@ -38,6 +38,6 @@ loop-done-preserved g c =
 
 pub returns-clause-follows : goal.returns-clause-follows
 returns-clause-follows g c =
-    let most : c.loop-done.done ≤ c.args.limit = search rules in
+    let at_most : c.loop-done.done ≤ c.args.limit = search rules in
     let all : c.loop-done.done ≡ c.args.limit = search rules in
-    record { count = c.loop-done.done; most = most; follows = c.loop-done.invariant.follows; whole = inl all }
+    record { count = c.loop-done.done; at_most = at_most; follows = c.loop-done.invariant.follows; whole = inl all }

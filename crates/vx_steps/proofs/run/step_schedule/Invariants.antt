@@ -8,6 +8,6 @@ abbrev pub invariant-loop-step : goal.invariant-loop-step
 invariant-loop-step g l = record {
   len : vec_len l.workers ≡ vec_len l.fn.workers;
   ready : All (IsReady g.O.Source.types g.S.Sends.post g.S.Sends.is_open g.S.Sends.has_closed (g.G.Morsels.types_of l.morsels)) l.workers.items;
-  follows : Follows g.O.Source.Stands g.O.Source.want g.O.Source.op g.S.Sends.Stands g.S.Sends.task g.S.Sends.post g.S.Sends.bounds (g.R.Router.route_of l.router) (g.G.Morsels.morsel_of l.morsels)
+  follows : Follows g.O.Source.Stands g.O.Source.want g.O.Source.op g.O.Source.most g.O.Source.idle g.S.Sends.Stands g.S.Sends.task g.S.Sends.post g.S.Sends.bounds g.S.Sends.held g.S.Sends.unclosed (g.R.Router.route_of l.router) (g.G.Morsels.morsel_of l.morsels)
       (take l.step-index l.steps) l.fn.workers.items l.fn.links l.workers.items l.links;
 }

@@ -8,6 +8,7 @@ use Rattle.vx_ends.specs.Tasks.{sends_by_ship}
 use Rattle.vx_exchange.specs.declared.sender.SenderState.TheVariants.{Open}
 use Rattle.vx_exchange.proofs.LaneLists.{serves-some, fresh-ship, fresh-numbered, fresh-open}
 use Rattle.vx_exchange.proofs.Senders.{sender-fresh}
+use Rattle.vx_exchange.proofs.Held.{fresh-held}
 use Rattle.vx_exchange.proofs.sender.Sender.new.Goals as goal
 
 pub invariant_of-result : goal.invariant_of-result
@@ -46,3 +47,8 @@ pub returns-clause-open : goal.returns-clause-open
 returns-clause-open c =
     let s : Ship = record { exchange = c.args.exchange; place = c.args.place; consumers = c.args.consumers; types = c.args.types.now; kind = kind_of c.args.deal; size = c.args.size } in
     ap not (fresh-open (way_to s) c.in_ok-lanes.lanes.items c.in_ok-lanes.ensures.each)
+
+pub returns-clause-fresh : goal.returns-clause-fresh
+returns-clause-fresh c =
+    let s : Ship = record { exchange = c.args.exchange; place = c.args.place; consumers = c.args.consumers; types = c.args.types.now; kind = kind_of c.args.deal; size = c.args.size } in
+    fresh-held (way_to s) c.in_ok-lanes.lanes.items c.in_ok-lanes.ensures.each

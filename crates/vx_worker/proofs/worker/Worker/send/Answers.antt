@@ -1,7 +1,7 @@
 use Rattle.std.proofs.Common.{refl, rules, sym, ◌∙◌, subst}
 use Rattle.vx_ends.specs.Tasks.{IsAt, BeganSending}
 use Rattle.vx_worker.specs.Trace.{idle}
-use Rattle.vx_worker.specs.Answering.{is_full, by_fault}
+use Rattle.vx_worker.specs.Answering.{IsSending, is_full, by_fault}
 use Rattle.vx_worker.specs.Intake.{IntakeStands}
 use Rattle.vx_worker.specs.Worker.{IsReadyIn}
 use Rattle.vx_worker.proofs.WorkerSteps.{closing-fails, refused, running}
@@ -33,4 +33,6 @@ returns-in-NoMemory-clause-stands g c =
     )
 
 pub returns-in-Full-clause-stands : goal.returns-in-Full-clause-stands
-returns-in-Full-clause-stands g c = (idle, c.in-Full.ensures.2, search rules, is_full c.in-Some.to c.in-Full.packet refl c.in-Full.ensures.1 refl, refl)
+returns-in-Full-clause-stands g c =
+    let sending : IsSending c.args.self.now.phase = subst IsSending (sym c.requires.running) tt in
+    (idle, c.in-Full.ensures.2, search rules, is_full c.in-Some.to c.in-Full.packet sending refl c.in-Full.ensures.1 refl, refl)
