@@ -36,7 +36,7 @@ use Rattle.vx_steps.proofs.Needs.{no-more, uses-all}
 use Rattle.vx_steps.proofs.RunSteps.{get-map, map-length}
 use Rattle.vx_steps.proofs.Spending.{IsFitted, Track}
 
-some-workers : (sizes : ℕ → ℕ) (z : Size) → ((k : ℕ) → 0 < sizes k) → 0 < workers sizes z
+pub some-workers : (sizes : ℕ → ℕ) (z : Size) → ((k : ℕ) → 0 < sizes k) → 0 < workers sizes z
 some-workers sizes one_worker h = omega arith
 some-workers sizes (group_of k) h = h k
 

@@ -1,10 +1,10 @@
 -- At any moment of a run: how many rows, morsels and packets came to each worker at most, and so how many steps all workers needed.
-use Rattle.std.proofs.Common.{ℕ, zero, suc, ◌≡◌, ◌<◌, ◌≤◌, ◌+◌, ◌-◌, ◌*◌, ◌==◌, ◌&&◌, Bool, true, false, cond, List, [], ◌∷◌, ◌++◌, length, drop, refl, sym, ap, ◌∙◌, subst, arith, length-append, length-take, length-drop, le_refl, eqb-true, true≢false}
+use Rattle.std.proofs.Common.{ℕ, zero, suc, ◌≡◌, ◌<◌, ◌≤◌, ◌+◌, ◌-◌, ◌*◌, ◌==◌, ◌&&◌, Bool, true, false, cond, List, [], ◌∷◌, ◌++◌, length, drop, sym, ap, ◌∙◌, subst, arith, length-append, length-take, length-drop, le_refl, eqb-true}
 use Rattle.std.proofs.Math.Path.{fun_ext}
 use Rattle.std.proofs.Math.Nat.{mul-le-mul_left, mul-le-mul_right, mul-div-le}
 use Rattle.std.proofs.lemmas.Nat.{mul-le}
 use Rattle.vx_values.specs.Values.{Row}
-use Rattle.vx_plan_nodes.specs.Plan.{ExchangeKind, Claim, Plan, scan, unary, binary, exchange, Binary, union, join, Size, one_worker, group_of, size, size_eq, target}
+use Rattle.vx_plan_nodes.specs.Plan.{ExchangeKind, Claim, Plan, scan, unary, binary, exchange, Binary, union, join, size, size_eq, target}
 use Rattle.vx_plan_nodes.specs.Streams.{workers}
 use Rattle.vx_plan_nodes.specs.Workers.{workers_below, crew_size}
 use Rattle.vx_plan_nodes.specs.Numbering.{is_fit}
@@ -29,6 +29,7 @@ use Rattle.vx_steps.specs.declared.station.Station.TheVariants.{Inner, Exchange,
 use Rattle.vx_laws.proofs.Bags.{and-left, and-right}
 use Rattle.vx_steps.proofs.Arrivals.{after_trace, arrived, AreFewPackets, rows-both}
 use Rattle.vx_steps.proofs.FlatRuns.{le-left, le-right, lt-first}
+use Rattle.vx_steps.proofs.Origins.{same-size}
 
 -- a morsel is full, or it is the last of the relation's rows
 morsel-length : (m : ℕ) (xs : List Row) (k : ℕ) → length (morsel_of m xs k) ≤ m
@@ -126,12 +127,6 @@ sum-behind : (a b next : ℕ) (f : ℕ → ℕ) → sum_below (a + b) (λ i. f (
 sum-behind a b next f =
     sum-parts a b (λ i. f (next + i))
     ∙ ap (λ (g : ℕ → ℕ). sum_below a (λ i. f (next + i)) + sum_below b g) (fun_ext (λ i. ap f (let e : next + (a + i) ≡ next + a + i = omega arith in e)))
-
-same-size : (sizes : ℕ → ℕ) (a b : Size) → size_eq a b ≡ true → workers sizes a ≡ workers sizes b
-same-size sizes one_worker one_worker e = refl
-same-size sizes one_worker (group_of k) e = absurd (true≢false (sym e))
-same-size sizes (group_of j) one_worker e = absurd (true≢false (sym e))
-same-size sizes (group_of j) (group_of k) e = ap sizes (eqb-true j k e)
 
 one-most : (b : Bool) → cond b 1 0 ≤ 1
 one-most true = omega arith
