@@ -11,8 +11,8 @@ use Rattle.vx_ends.specs.Queued.{closings}
 use Rattle.vx_worker.specs.Morsels.{morsels}
 use Rattle.vx_worker.specs.Fragment.{Frag, alone, above, both}
 use Rattle.vx_worker.specs.Trace.{Event, idle, drew_one, took_one, put_one, Trace, empty_trace, added}
-use Rattle.vx_worker.specs.Trees.{LeavesComing, HasPlace, TakesFrom}
-use Rattle.vx_worker.specs.Remaining.{ScansAt, before_event, arrivals, rows_put, EventFits}
+use Rattle.vx_worker.specs.Trees.{ScansAt, LeavesComing, HasPlace, TakesFrom}
+use Rattle.vx_worker.specs.Remaining.{before_event, arrivals, rows_put, EventFits}
 
 -- what might have come to the leaves in all, where this may still come and what the trace says came already
 abbrev pub after_trace : (m : ℕ → ℕ → List Row) → Trace → LeavesComing → LeavesComing

@@ -1,5 +1,5 @@
 -- As many rounds as a plan needs bring a run of it to its end: in each round some worker goes on, and all of them have no more steps than that.
-use Rattle.std.proofs.Common.{ℕ, zero, suc, ◌≡◌, ◌<◌, ◌≤◌, List, [], ◌∷◌, length, map, refl, ap, subst, arith, inl, inr, true}
+use Rattle.std.proofs.Common.{ℕ, zero, suc, ◌≡◌, ◌<◌, ◌≤◌, List, [], ◌∷◌, length, map, IsSome, refl, ap, subst, arith, inl, inr, true}
 use Rattle.std.proofs.Math.ListN.{set}
 use Rattle.std.specs.List.{All}
 use Rattle.vx_values.specs.Values.{Val, Row}
@@ -23,11 +23,14 @@ use Rattle.vx_steps.specs.Runs.{roles_of}
 use Rattle.vx_steps.specs.Following.{rounds, Steps, Follows, FollowsRounds}
 use Rattle.vx_steps.specs.Schedules.{HoldsRounds}
 use Rattle.vx_steps.specs.Ready.{Ready, IsRested}
-use Rattle.vx_steps.specs.Verdicts.{HasEnded, EndsAt}
+use Rattle.vx_steps.specs.Verdicts.{HasEnded, EndsAt, GoesOn, Judged}
+use Rattle.vx_steps.specs.declared.verdict.RunState.{RunState}
+use Rattle.vx_steps.specs.declared.verdict.RunState.TheVariants as run_state
 use Rattle.vx_steps.proofs.Bounded.{some-workers, crew-fitted, spends-less}
 use Rattle.vx_steps.proofs.Build.{crew-idle}
 use Rattle.vx_steps.proofs.Enough.{rounds-hold, IsLastOpen, all-or-last, Going, rounds-go}
 use Rattle.vx_steps.proofs.GoingOn.{IsCrewAt, crew-begins, crew-steps, goes-on}
+use Rattle.vx_steps.proofs.Settling.{none-is}
 use Rattle.vx_steps.proofs.Spending.{IsFitted, track-length, track-start}
 
 no-sum : (n : ℕ) → sum_below n (λ i. 0) ≡ 0
@@ -102,3 +105,11 @@ module _ {O S : Type 0} (OS : O → Ledger → Type 0) (want : O → Want) (op :
     | inl e ↦ schedule-ends h.count (rounds h.count (length ws)) vs v (rounds-hold h.count (length ws)) h.follows (omega (arith, le, e))
     | inr all ↦ all
   ]
+
+-- where all workers have ended, the verdict is not that some have not
+pub not-unfinished : {O S : Type 0} (ws : List (Worker O S)) (v : RunState) → Judged ws v → All HasEnded ws → v ≡ run_state.Unfinished → ⊥
+not-unfinished {O = O} {S = S} ws v judged all e = go ws all (subst (λ z. Judged ws z) e judged)
+  where
+    go : (xs : List (Worker O S)) → All HasEnded xs → GoesOn xs → ⊥
+    go [] h g = let l = g.within in absurd (omega (arith, l))
+    go (d ∷ rest) h g = none-is (subst (λ o. IsSome o) (g.here d) (h g.number d g.within))
