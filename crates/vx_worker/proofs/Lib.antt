@@ -8,3 +8,6 @@ pub mod WorkerSteps
 pub mod Answering
 pub mod Counting
 pub mod TreeCosts
+pub mod Spending
+pub mod Wishing
+pub mod Starting

@@ -1,12 +1,14 @@
 -- What is marked as ended stays so while more is drawn and taken.
-use Rattle.std.proofs.Common.{ℕ, ◌≡◌, ◌==◌, inl, inr, refl, sym, ap, ◌∙◌, subst, Bool, true, false, true≢false, ◌||◌, List, [], ◌∷◌, ◌++◌, Option, Some, None, map}
+use Rattle.std.proofs.Common.{ℕ, zero, suc, ◌≡◌, ◌+◌, ◌<◌, ◌≤◌, lit<, ◌==◌, inl, inr, refl, sym, ap, ◌∙◌, subst, Bool, true, false, ◌||◌, List, [], ◌∷◌, ◌++◌, length, get_or, Some, None, map, arith}
+use Rattle.std.proofs.Math.ListN.{set}
 use Rattle.std.proofs.lemmas.Bool.Decides.{eqb_tells}
 use Rattle.std.proofs.lemmas.List.Elements.{All-map}
 use Rattle.std.specs.List.{All, list_any}
-use Rattle.vx_ports.specs.Packets.{PacketView, closes, is_closed}
-use Rattle.vx_ops.specs.Turn.{with_packet}
-use Rattle.vx_worker.specs.Trace.{Event, idle, drew_one, took_one, put_one, Trace, added}
-use Rattle.vx_worker.specs.Intake.{source_of, has_met_end, MarksStand, IntakeStands, IsDrained}
+use Rattle.vx_values.specs.declared.value.ColType.{ColType}
+use Rattle.vx_ports.specs.Packets.{Content, brings, last, fault, PacketView, closes, content_rows, is_closed, FitsContent}
+use Rattle.vx_ends.specs.Queued.{closings}
+use Rattle.vx_worker.specs.Trace.{Event, idle, drew_one, took_one, put_one, Trace, added, empty_trace}
+use Rattle.vx_worker.specs.Intake.{source_of, has_met_end, IsFresh, marked, MarksStand, IntakeStands, IsDrained}
 use Rattle.vx_worker.specs.declared.intake.ExchangeInput.{ExchangeInput}
 use Rattle.vx_worker.specs.declared.intake.Intake.{Intake}
 
@@ -14,49 +16,62 @@ or-true : (a : Bool) → (a || true) ≡ true
 or-true true = refl
 or-true false = refl
 
-or-right : (a b c : Bool) → (b ≡ true → c ≡ true) → (a || b) ≡ true → (a || c) ≡ true
-or-right true b c f e = refl
-or-right false b c f e = f e
+or-false : (a : Bool) → (a || false) ≡ a
+or-false true = refl
+or-false false = refl
 
--- a closed list stays closed
-closed-append : (ps qs : List PacketView) → is_closed ps ≡ true → is_closed (ps ++ qs) ≡ true
-closed-append [] qs e = absurd (true≢false (sym e))
-closed-append (p ∷ ps) qs e = or-right (closes p.content) (is_closed ps) (is_closed (ps ++ qs)) (closed-append ps qs) e
+-- a list stays as it was with a packet that does not close
+open-last : (ps : List PacketView) (p : PacketView) → closes p.content ≡ false → is_closed (ps ++ p ∷ []) ≡ is_closed ps
+open-last [] p e = ap (λ b. b || false) e
+open-last (q ∷ ps) p e = ap (λ b. closes q.content || b) (open-last ps p e)
 
 -- with a packet that closes at its end it is closed
 closed-last : (ps : List PacketView) (p : PacketView) → closes p.content ≡ true → is_closed (ps ++ p ∷ []) ≡ true
 closed-last [] p e = ap (λ b. b || false) e
 closed-last (q ∷ ps) p e = ap (λ b. closes q.content || b) (closed-last ps p e) ∙ or-true (closes q.content)
 
-closed-with : (f : ℕ → List PacketView) (i : ℕ) (o : Option PacketView) (j : ℕ) → is_closed (f j) ≡ true → is_closed (with_packet f i o j) ≡ true
-closed-with f i None j e = e
-closed-with f i (Some p) j e = elim (eqb_tells j i) [
-  | inl d ↦ rw d.0 (closed-append (f j) (p ∷ []) e)
-  | inr d ↦ rw d.0 e
-]
-
--- a list that was closed is closed after any event
-pub closed-added : (t : Trace) (e : Event) (x i : ℕ) → is_closed (t.came x i) ≡ true → is_closed ((added t e).came x i) ≡ true
-closed-added t idle x i h = h
-closed-added t (drew_one k d) x i h = h
-closed-added t (took_one k j o) x i h = elim (eqb_tells x k) [
-  | inl d ↦ rw d.0 (closed-with (t.came x) j o i h)
-  | inr d ↦ rw d.0 h
-]
-closed-added t (put_one j p) x i h = h
-
--- after a packet that closes was taken
-pub closed-took : (t : Trace) (x i : ℕ) (p : PacketView) → closes p.content ≡ true → is_closed ((added t (took_one x i (Some p))).came x i) ≡ true
-closed-took t x i p e = elim (eqb_tells x x) [
-  | inl d ↦ elim (eqb_tells i i) [
-    | inl c ↦ rw (d.0, c.0) (closed-last (t.came x i) p e)
-    | inr c ↦ absurd (c.1 refl)
+-- what came of a producer, with a packet of this one
+came-here : (t : Trace) (x i : ℕ) (p : PacketView) (z : ExchangeInput) → (z.exchange ≡ x) × (z.from ≡ i)
+    → (added t (took_one x i (Some p))).came z.exchange z.from ≡ t.came z.exchange z.from ++ p ∷ []
+came-here t x i p z h = elim (eqb_tells z.exchange x) [
+  | inl d ↦ elim (eqb_tells z.from i) [
+    | inl e ↦ rw (d.0, e.0) refl
+    | inr e ↦ absurd (e.1 h.1)
   ]
-  | inr d ↦ absurd (d.1 refl)
+  | inr d ↦ absurd (d.1 h.0)
 ]
 
-pub marks-added : (is : List ExchangeInput) (t : Trace) (e : Event) → MarksStand is t → MarksStand is (added t e)
-marks-added is t e h = λ k d l m. closed-added t e _ _ (h k d l m)
+-- an event after which each list is closed as before
+abbrev pub Keeps : Event → Type 0
+Keeps (took_one x i (Some p)) = closes p.content ≡ false
+Keeps e = Unit {0}
+
+came-kept : (t : Trace) (e : Event) → Keeps e → (x i : ℕ) → is_closed ((added t e).came x i) ≡ is_closed (t.came x i)
+came-kept t idle k x i = refl
+came-kept t (drew_one n d) k x i = refl
+came-kept t (took_one j h None) k x i = elim (eqb_tells x j) [
+  | inl d ↦ rw d.0 refl
+  | inr d ↦ rw d.0 refl
+]
+came-kept t (took_one j h (Some p)) k x i = elim (eqb_tells x j) [
+  | inl d ↦ elim (eqb_tells i h) [
+    | inl e ↦ rw (d.0, e.0) (open-last (t.came x i) p k)
+    | inr e ↦ rw (d.0, e.0) refl
+  ]
+  | inr d ↦ rw d.0 refl
+]
+came-kept t (put_one j p) k x i = refl
+
+-- where a packet that closes was taken, exactly its producer is marked
+mark-one : (t : Trace) (x i : ℕ) (p : PacketView) → closes p.content ≡ true → (z : ExchangeInput) → is_closed (t.came z.exchange z.from) ≡ z.is_closed
+    → is_closed ((added t (took_one x i (Some p))).came z.exchange z.from) ≡ (marked x i z).is_closed
+mark-one t x i p c z h = elim (eqb_tells z.exchange x) [
+  | inl d ↦ elim (eqb_tells z.from i) [
+    | inl e ↦ rw (d.0, e.0) (closed-last (t.came z.exchange z.from) p c ∙ sym (or-true z.is_closed))
+    | inr e ↦ rw (d.0, e.0) (h ∙ sym (or-false z.is_closed))
+  ]
+  | inr d ↦ rw d.0 (h ∙ sym (or-false z.is_closed))
+]
 
 met-kept : (t : Trace) (e : Event) (n : ℕ) → (t.drew n).met_end ≡ true → ((added t e).drew n).met_end ≡ true
 met-kept t idle n h = h
@@ -76,21 +91,57 @@ pub met-same : (old new : Intake) → new.finished.items ≡ old.finished.items 
 met-same old new b n m = ap (λ xs. list_any (λ y. y == n) xs) b ∙ m
 
 -- nothing new is marked
-pub intake-kept : (old new : Intake) (t : Trace) (e : Event) → new.inputs.items ≡ old.inputs.items → new.finished.items ≡ old.finished.items → IntakeStands old t → IntakeStands new (added t e)
-intake-kept old new t e a b h = record {
+pub intake-kept : (old new : Intake) (t : Trace) (e : Event) → Keeps e → new.inputs.items ≡ old.inputs.items → new.finished.items ≡ old.finished.items
+    → IntakeStands old t → IntakeStands new (added t e)
+intake-kept old new t e k a b h = record {
   scans = λ n m. met-kept t e n (h.scans n (ap (λ xs. list_any (λ y. y == n) xs) (sym b) ∙ m));
-  inputs = subst (λ xs. MarksStand xs (added t e)) (sym a) (marks-added old.inputs.items t e h.inputs);
+  inputs = subst (λ xs. MarksStand xs (added t e)) (sym a) (λ j d l. came-kept t e k _ _ ∙ h.inputs j d l);
 }
 
 -- a producer that closed is marked
-pub intake-closed : (old new : Intake) (t : Trace) (x i : ℕ) (p : PacketView) → new.finished.items ≡ old.finished.items
-    → ((s : Trace) → is_closed (s.came x i) ≡ true → MarksStand old.inputs.items s → MarksStand new.inputs.items s)
+pub intake-closed : (old new : Intake) (t : Trace) (x i : ℕ) (p : PacketView) → new.inputs.items ≡ map (marked x i) old.inputs.items → new.finished.items ≡ old.finished.items
     → closes p.content ≡ true → IntakeStands old t → IntakeStands new (added t (took_one x i (Some p)))
-intake-closed old new t x i p b marks c h = record {
+intake-closed old new t x i p a b c h = record {
   scans = λ n m. h.scans n (ap (λ xs. list_any (λ y. y == n) xs) (sym b) ∙ m);
-  inputs = marks (added t (took_one x i (Some p))) (closed-took t x i p c) (marks-added old.inputs.items t (took_one x i (Some p)) h.inputs);
+  inputs = subst (λ xs. MarksStand xs (added t (took_one x i (Some p)))) (sym a)
+      (All-map (λ z. is_closed ((added t (took_one x i (Some p))).came z.exchange z.from) ≡ z.is_closed) (marked x i) old.inputs.items
+      (λ j d l. mark-one t x i p c _ (h.inputs j d l)));
 }
+
+-- a packet whose rows fit its types has some, or closes
+pub fits-some : (types : List ColType) (x : Content) → FitsContent types x → 0 < length (content_rows x) + closings x
+fits-some types (brings xs) h = let some : 1 ≤ length xs = h.0 in omega arith
+fits-some types last h = lit< tt
+fits-some types fault h = lit< tt
+
+-- the sources stay
+pub marked-sources : (x i : ℕ) (is : List ExchangeInput) → map source_of (map (marked x i) is) ≡ map source_of is
+marked-sources x i [] = refl
+marked-sources x i (z ∷ is) = ap (λ ss. source_of z ∷ ss) (marked-sources x i is)
+
+-- before any step nothing is marked
+pub marks-fresh : (is : List ExchangeInput) → All IsFresh is → MarksStand is empty_trace
+marks-fresh is h = λ k d l. sym (h k d l)
+
+-- the first producers are marked
+abbrev pub marked_until : (k x i : ℕ) → List ExchangeInput → List ExchangeInput
+marked_until zero x i is = is
+marked_until (suc k) x i [] = []
+marked_until (suc k) x i (z ∷ is) = marked x i z ∷ marked_until k x i is
+
+-- with one more
+pub marked-more : (k x i : ℕ) (is : List ExchangeInput) (d : ExchangeInput) → k < length is
+    → set (marked_until k x i is) k (marked x i (get_or (marked_until k x i is) k d)) ≡ marked_until (suc k) x i is
+marked-more k x i [] d l = absurd (omega arith)
+marked-more zero x i (z ∷ is) d l = refl
+marked-more (suc k) x i (z ∷ is) d l = ap (λ js. marked x i z ∷ js) (marked-more k x i is d (omega arith))
+
+pub marked-all : (k x i : ℕ) (is : List ExchangeInput) → length is ≤ k → marked_until k x i is ≡ map (marked x i) is
+marked-all zero x i [] l = refl
+marked-all zero x i (z ∷ is) l = absurd (omega arith)
+marked-all (suc k) x i [] l = refl
+marked-all (suc k) x i (z ∷ is) l = ap (λ js. marked x i z ∷ js) (marked-all k x i is (omega arith))
 
 -- where every producer is marked, each stream was taken to its end
 pub drained : (is : List ExchangeInput) (t : Trace) → All (λ i. i.is_closed ≡ true) is → MarksStand is t → IsDrained (map source_of is) t
-drained is t all marks = All-map (λ s. is_closed (t.came s.0 s.1) ≡ true) source_of is (λ k d l. marks k d l (all k d l))
+drained is t all marks = All-map (λ s. is_closed (t.came s.0 s.1) ≡ true) source_of is (λ k d l. marks k d l ∙ all k d l)

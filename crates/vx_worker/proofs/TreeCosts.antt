@@ -20,7 +20,7 @@ use Rattle.vx_worker.specs.declared.wish.Wish.TheVariants as wish
 same-leaf : (k : ℕ) → (k == k) ≡ true
 same-leaf k = grind (arith, nat_tests)
 
-within-trees : (a b c d : ℕ) → a ≤ c → b ≤ d → IsWithin (tree_coming a b) (tree_coming c d)
+pub within-trees : (a b c d : ℕ) → a ≤ c → b ≤ d → IsWithin (tree_coming a b) (tree_coming c d)
 within-trees a b c d h k = record { left = h; right = k; packets = λ i. le_refl 0 }
 
 module _ {O : Type 0} (most idle : O → Coming → ℕ) (most-grows : (o : O) (a b : Coming) → IsWithin a b → most o a ≤ most o b) where
@@ -43,10 +43,10 @@ module _ {O : Type 0} (most idle : O → Coming → ℕ) (most-grows : (o : O) (
       (add-le-add (tree-most-grows x a b h) (tree-idle-grows grows x a b h)))
       (add-le-add (tree-most-grows y a b h) (tree-idle-grows grows y a b h))
 
-more-than : (i n j : ℕ) (f : ℕ → ℕ) → f j ≤ with_more i n f j
+pub more-than : (i n j : ℕ) (f : ℕ → ℕ) → f j ≤ with_more i n f j
 more-than i n j f = elim (eqb_tells j i) [ inl e ↦ rw e.0 (omega arith) | inr e ↦ rw e.0 (omega arith) ]
 
-within-self : (c : LeavesComing) → IsWithinLeaves c c
+pub within-self : (c : LeavesComing) → IsWithinLeaves c c
 within-self c = record { scanned = λ k. le_refl (c.scanned k); came = λ k i. le_refl (c.came k i) }
 
 -- what came might still come before

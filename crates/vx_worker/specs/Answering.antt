@@ -13,7 +13,7 @@ use Rattle.vx_worker.specs.Fragment.{Reads}
 use Rattle.vx_worker.specs.Trace.{Event, idle, drew_one, took_one, put_one}
 use Rattle.vx_worker.specs.Trees.{TreeStands}
 use Rattle.vx_worker.specs.Wishes.{Numbered, tree_want, read}
-use Rattle.vx_worker.specs.Intake.{has_met_end, source_of}
+use Rattle.vx_worker.specs.Intake.{has_met_end, source_of, BringsSome}
 use Rattle.vx_worker.specs.Worker.{outcome_of}
 use Rattle.vx_worker.specs.declared.tree.Tree.{Tree}
 use Rattle.vx_worker.specs.declared.wish.Wish.{Wish}
@@ -43,9 +43,9 @@ pub record IsOpenInput (k : Intake) (x i : ℕ) : Type 0 where
   pub source : (d : ExchangeInput) → source_of (slice_index_or k.inputs.items place d) ≡ (x, i)
   pub is_open : (d : ExchangeInput) → (slice_index_or k.inputs.items place d).is_closed ≡ false
 
--- what was found that takes and drops: a packet, or none at an open producer, or no memory, or each producer is closed
+-- what was found that takes and drops: a packet of an open producer, or none of one, or no memory, or each producer is closed
 abbrev pub DrainFinds : (lacks : Type 0) → Intake → Drained → Event → Type 0
-DrainFinds lacks k drained.Dropped (took_one x i (Some p)) = Unit {0}
+DrainFinds lacks k drained.Dropped (took_one x i (Some p)) = IsOpenInput k x i × BringsSome (Some p)
 DrainFinds lacks k drained.Nothing (took_one x i None) = IsOpenInput k x i
 DrainFinds lacks k drained.Nothing idle = lacks
 DrainFinds lacks k drained.All idle = Unit {0}

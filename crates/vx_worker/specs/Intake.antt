@@ -1,8 +1,9 @@
 -- What a worker reads: the producers from which it takes, and which of them, and which of its scans, have ended.
-use Rattle.std.specs.Prelude.{ℕ, ◌≡◌, ◌==◌, List, [], Bool, true, false, map, Some, None, Result, IfOk}
+use Rattle.std.specs.Prelude.{ℕ, ◌≡◌, ◌<◌, ◌+◌, ◌==◌, ◌||◌, ◌&&◌, List, [], Bool, true, false, length, map, Option, Some, None, Result, IfOk, IfSome}
 use Rattle.std.specs.List.{All, list_any}
 use Rattle.vx_values.specs.Values.{Row}
-use Rattle.vx_ports.specs.Packets.{is_closed}
+use Rattle.vx_ports.specs.Packets.{PacketView, content_rows, is_closed}
+use Rattle.vx_ends.specs.Queued.{closings}
 use Rattle.vx_ops.specs.declared.turn.Got.{Got}
 use Rattle.vx_ops.specs.declared.turn.Got.TheVariants as got
 use Rattle.vx_ops.specs.declared.turn.Polled.TheVariants as polled
@@ -32,11 +33,15 @@ sources_of k = map source_of k.inputs.items
 abbrev pub has_met_end : Intake → ℕ → Bool
 has_met_end k n = list_any (λ y. y == n) k.finished.items
 
--- a producer that is marked as closed sent a packet that closes
-abbrev pub MarksStand : List ExchangeInput → Trace → Type 0
-MarksStand is t = All (λ i. i.is_closed ≡ true → is_closed (t.came i.exchange i.from) ≡ true) is
+-- marked as closed, where it is this producer
+abbrev pub marked : (exchange from : ℕ) → ExchangeInput → ExchangeInput
+marked exchange from i = record i { is_closed = i.is_closed || (i.exchange == exchange && i.from == from) }
 
--- the producers that are marked, and the scans of the list, have ended
+-- a producer is marked as closed exactly where a packet that closes was taken from it
+abbrev pub MarksStand : List ExchangeInput → Trace → Type 0
+MarksStand is t = All (λ i. is_closed (t.came i.exchange i.from) ≡ i.is_closed) is
+
+-- the scans of the list have ended, and of the producers those that are marked
 pub record HaveEnded (is : List ExchangeInput) (finished : List ℕ) (t : Trace) : Type 0 where
   pub scans : (n : ℕ) → list_any (λ y. y == n) finished ≡ true → (t.drew n).met_end ≡ true
   pub inputs : MarksStand is t
@@ -56,6 +61,17 @@ IsRead k (drew_one n d) = has_met_end k n ≡ false
 IsRead k (took_one x i o) = Unit {0}
 IsRead k (put_one j p) = ⊥
 
+-- a packet, where one came, has rows or closes
+abbrev pub BringsSome : Option PacketView → Type 0
+BringsSome o = IfSome o (λ p. 0 < length (content_rows p.content) + closings p.content)
+
+-- what is drawn or taken is what was wished for
+abbrev pub IsWished : Wish → Event → Type 0
+IsWished x idle = Unit {0}
+IsWished (wish.Morsel k) (drew_one j d) = j ≡ k
+IsWished (wish.Packet k i) (took_one j h o) = (j ≡ k) × (h ≡ i) × BringsSome o
+IsWished x e = ⊥
+
 -- what a wish was given, and the event by which: at most one draw or take. A morsel without rows is nothing yet
 abbrev pub Answers : (morsel : ℕ → ℕ → List Row) → (old new : Intake) → Wish → Got → Event → Type 0
 Answers morsel old new wish.Nothing got.Nothing idle = Unit {0}
@@ -69,6 +85,7 @@ Answers morsel old new x g e = ⊥
 -- one draw or take at most for a wish, and what it was given unless memory was refused
 pub record Fetches {E : Type 0} (morsel : ℕ → ℕ → List Row) (old new : Intake) (x : Wish) (result : Result Got E) (e : Event) : Type 0 where
   pub is_read : IsRead old e
+  pub is_wished : IsWished x e
   pub answers : IfOk result (λ g. Answers morsel old new x g e)
   pub stands : (t : Trace) → IntakeStands old t → IntakeStands new (added t e)
   pub sources : sources_of new ≡ sources_of old

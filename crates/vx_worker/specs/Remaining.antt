@@ -1,15 +1,16 @@
 -- What a worker has still to do: a number that every step which goes on makes smaller, whatever the other workers do.
-use Rattle.std.specs.Prelude.{ℕ, ◌≡◌, ◌<◌, ◌≤◌, ◌+◌, ◌*◌, ◌==◌, ◌⊎◌, cond, false, List, length, Option, Some, None, IfSome, Contains}
+use Rattle.std.specs.Prelude.{ℕ, ◌≡◌, ◌≤◌, ◌+◌, ◌*◌, ◌==◌, ◌⊎◌, cond, false, List, length, Option, Some, None, Contains}
 use Rattle.vx_values.specs.Values.{Row}
-use Rattle.vx_ports.specs.Packets.{PacketView, content_rows, is_closed}
-use Rattle.vx_ops.specs.Ledger.{Op, scan_op}
+use Rattle.vx_ports.specs.Packets.{PacketView, is_closed}
+use Rattle.vx_ops.specs.Ledger.{Op}
 use Rattle.vx_ops.specs.Turn.{Coming, packet_rows, with_more, sum_below}
 use Rattle.vx_ops.specs.Starts.{op_most, op_idle, StartsWithin}
 use Rattle.vx_ends.specs.Tasks.{Post}
-use Rattle.vx_ends.specs.Queued.{consumers_of, rows_to, closings}
+use Rattle.vx_ends.specs.Queued.{consumers_of, rows_to}
 use Rattle.vx_worker.specs.Fragment.{Frag, alone, above, both}
 use Rattle.vx_worker.specs.Trace.{Event, idle, drew_one, took_one, put_one, Trace}
-use Rattle.vx_worker.specs.Trees.{TakesFrom, LeavesComing, leaf_coming, tree_coming, tree_most, tree_idle}
+use Rattle.vx_worker.specs.Trees.{TakesFrom, ScansAt, LeavesComing, leaf_coming, tree_coming, tree_most, tree_idle}
+use Rattle.vx_worker.specs.Intake.{BringsSome}
 use Rattle.vx_worker.specs.Worker.{outcome_of}
 use Rattle.vx_worker.specs.declared.tree.Tree.{Tree, Leaf, One', Two'}
 use Rattle.vx_worker.specs.declared.worker.Worker.{Worker}
@@ -36,12 +37,6 @@ abbrev pub TreeStarts : {O : Type 0} → (O → Op) → (most idle_turns : O →
 TreeStarts op most idle_turns (Leaf k o) = StartsWithin (op o) (most o) (idle_turns o)
 TreeStarts op most idle_turns (One' o p c) = StartsWithin (op o) (most o) (idle_turns o) × TreeStarts op most idle_turns c
 TreeStarts op most idle_turns (Two' o p a q b) = StartsWithin (op o) (most o) (idle_turns o) × TreeStarts op most idle_turns a × TreeStarts op most idle_turns b
-
--- a leaf is the scan with this number
-abbrev pub ScansAt : (number : ℕ) → Frag → Type 0
-ScansAt k (alone n x) = (n ≡ k) × (x ≡ scan_op)
-ScansAt k (above x f) = ScansAt k f
-ScansAt k (both x f h) = ScansAt k f ⊎ ScansAt k h
 
 -- what might still come to the leaves before this event brought some of it, where m says the rows of each scan's morsels
 abbrev pub before_event : (m : ℕ → ℕ → List Row) → Event → LeavesComing → LeavesComing
@@ -80,7 +75,7 @@ abbrev pub EventFits : Frag → (inputs : List (ℕ × ℕ)) → Trace → Event
 EventFits f inputs t idle = Unit {0}
 EventFits f inputs t (drew_one k d) = ScansAt k f
 EventFits f inputs t (took_one x i o) =
-    (TakesFrom x i f ⊎ Contains inputs (x, i)) × (is_closed (t.came x i) ≡ false) × IfSome o (λ p. 0 < length (content_rows p.content) + closings p.content)
+    (TakesFrom x i f ⊎ Contains inputs (x, i)) × (is_closed (t.came x i) ≡ false) × BringsSome o
 EventFits f inputs t (put_one j p) = Unit {0}
 
 -- 1 for a packet that is here

@@ -63,6 +63,12 @@ TakesFrom k i (alone n x) = (n ≡ k) × HasPlace i x
 TakesFrom k i (above x f) = TakesFrom k i f
 TakesFrom k i (both x f h) = TakesFrom k i f ⊎ TakesFrom k i h
 
+-- a leaf is the scan with this number
+abbrev pub ScansAt : (number : ℕ) → Frag → Type 0
+ScansAt k (alone n x) = (n ≡ k) × (x ≡ scan_op)
+ScansAt k (above x f) = ScansAt k f
+ScansAt k (both x f h) = ScansAt k f ⊎ ScansAt k h
+
 -- how many rows may still come at most to the leaf with a number: of morsels, and of each producer
 pub record LeavesComing : Type 0 where
   pub scanned : ℕ → ℕ

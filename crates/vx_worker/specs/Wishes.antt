@@ -10,7 +10,7 @@ use Rattle.vx_ops.specs.declared.turn.Want.TheVariants as want
 use Rattle.vx_ops.specs.declared.turn.Got.{Got}
 use Rattle.vx_ops.specs.declared.turn.Got.TheVariants as got
 use Rattle.vx_worker.specs.Fragment.{Frag, Reads}
-use Rattle.vx_worker.specs.Trees.{LeavesComing, TakesFrom}
+use Rattle.vx_worker.specs.Trees.{LeavesComing, TakesFrom, ScansAt}
 use Rattle.vx_worker.specs.declared.tree.Tree.{Tree, Leaf, One', Two'}
 use Rattle.vx_worker.specs.declared.wish.Wish.{Wish}
 use Rattle.vx_worker.specs.declared.wish.Wish.TheVariants as wish
@@ -78,10 +78,10 @@ TreeTyped f m (Leaf k o) = (f o).left ≡ m k
 TreeTyped f m (One' o p c) = ((f o).left ≡ tree_types f c) × TreeTyped f m c
 TreeTyped f m (Two' o p a q b) = ((f o).left ≡ tree_types f a) × ((f o).right ≡ tree_types f b) × TreeTyped f m a × TreeTyped f m b
 
--- what a fragment wishes for is open: a scan whose morsels have not ended, or a producer of one of its leaves of which no closing packet came
+-- what a fragment wishes for is open: a scan of its own whose morsels have not ended, or a producer of one of its leaves of which no closing packet came
 abbrev pub WishOpen : Wish → Frag → Reads → Type 0
 WishOpen wish.Nothing f r = Unit {0}
-WishOpen (wish.Morsel k) f r = (r.scanned k).over ≡ Running
+WishOpen (wish.Morsel k) f r = ScansAt k f × ((r.scanned k).over ≡ Running)
 WishOpen (wish.Packet k i) f r = TakesFrom k i f × (is_closed (r.came k i) ≡ false)
 
 -- what might still come to the leaves before this came

@@ -17,7 +17,7 @@ pub struct ExchangeInput {
 
 impl ExchangeInput {
     ghost use Rattle.std.specs.Prelude.{◌≡◌};
-    ghost use Rattle.vx_worker.specs.Intake.{fresh_input};
+    ghost use Rattle.vx_worker.specs.Intake.{fresh_input, marked};
 
     /// The producer at this place of the exchange with this node number, from which nothing was taken.
     pub fn new(exchange: u32, from: u32) -> ExchangeInput
@@ -27,6 +27,15 @@ impl ExchangeInput {
             exchange,
             from,
             is_closed: false,
+        }
+    }
+
+    // Marks it as closed, where it is this producer.
+    fn mark(&mut self, exchange: u32, from: u32)
+        ensures { self.new ≡ marked exchange from self.old }
+    {
+        if self.exchange == exchange && self.from == from {
+            self.is_closed = true;
         }
     }
 }
@@ -59,22 +68,21 @@ pub enum Drained {
 }
 
 impl Intake {
-    ghost use Rattle.std.specs.Prelude.{◌≡◌, ◌<◌, ℕ, List, true, length, map, IfOk, IfSome, Some, slice_index_or};
+    ghost use Rattle.std.specs.Prelude.{◌≡◌, ℕ, List, map, IfOk, Some};
     ghost use Rattle.std.specs.List.{All};
     ghost use Rattle.vx_values.specs.Values.{Row};
     ghost use Rattle.vx_values.specs.declared.value.ColType.{ColType};
-    ghost use Rattle.vx_ports.specs.Packets.{is_closed};
-    ghost use Rattle.vx_worker.specs.Trace.{Event, Trace, added, took_one};
-    ghost use Rattle.vx_worker.specs.declared.intake.ExchangeInput.{ExchangeInput};
+    ghost use Rattle.vx_ports.specs.Packets.{closes};
+    ghost use Rattle.vx_worker.specs.Trace.{Event, Trace, added, empty_trace, took_one};
     ghost use Rattle.vx_worker.specs.Answering.{DrainFinds};
     ghost use Rattle.vx_worker.specs.Wishes.{WishFits, WishTyped};
-    ghost use Rattle.vx_worker.specs.Intake.{source_of, sources_of, IsFresh, MarksStand, IntakeStands, IsDrained, Fetches, Drains};
+    ghost use Rattle.vx_worker.specs.Intake.{source_of, sources_of, IsFresh, marked, BringsSome, IntakeStands, IsDrained, Fetches, Drains};
 
     /// Nothing was read yet.
     pub fn new(alloc: Global, inputs: Vec<ExchangeInput>) -> Intake
         requires { All IsFresh inputs.items }
         ensures sources { sources_of result ≡ map source_of inputs.items }
-        ensures stands { (t : Trace) → IntakeStands result t }
+        ensures stands { IntakeStands result empty_trace }
     {
         Intake {
             inputs,
@@ -150,7 +158,10 @@ impl Intake {
         ensures sources { sources_of self.new ≡ sources_of self.old }
         ensures scans { self.new.finished.items ≡ self.old.finished.items }
         ensures stands { (t : Trace) → IntakeStands self.old t → IntakeStands self.new (added t (took_one exchange from (Some packet.now))) }
+        ensures brings { BringsSome (Some packet.now) }
     {
+        // One that does not close has rows, which fit these.
+        let _types = packet.types();
         if packet.is_closing() {
             self.mark(exchange, from);
         }
@@ -158,26 +169,12 @@ impl Intake {
 
     // Marks a producer as closed.
     fn mark(&mut self, exchange: u32, from: u32)
-        ensures sources { sources_of self.new ≡ sources_of self.old }
+        ensures marks { self.new.inputs.items ≡ map (marked exchange from) self.old.inputs.items }
         ensures scans { self.new.finished.items ≡ self.old.finished.items }
-        ensures marks { (t : Trace) → is_closed (t.came exchange from) ≡ true → MarksStand self.old.inputs.items t → MarksStand self.new.inputs.items t }
     {
-        if let Some(place) = self.place_of(exchange, from) {
-            self.inputs[place].is_closed = true;
+        for place in 0..self.inputs.len() {
+            self.inputs[place].mark(exchange, from);
         }
-    }
-
-    // Where a producer stands among the inputs.
-    fn place_of(&self, exchange: u32, from: u32) -> Option<usize>
-        ensures { IfSome result (λ k. (k < length self.now.inputs.items)
-            × ((d : ExchangeInput) → source_of (slice_index_or self.now.inputs.items k d) ≡ (exchange, from))) }
-    {
-        for (k, input) in self.inputs.iter().enumerate() {
-            if input.exchange == exchange && input.from == from {
-                return Some(k);
-            }
-        }
-        None
     }
 
     /// Takes from the next producer that has not closed, and drops what came. Memory that is refused counts as nothing.

@@ -80,7 +80,7 @@ impl<O: Drop, S: Drop> Drop for Worker<O, S> {
 }
 
 impl<O: Source, S: Sends> Worker<O, S> {
-    ghost use Rattle.std.specs.Prelude.{◌≡◌, ℕ, List, [], true, false, None, Some, IfSome, IfNone, IsSome, ◌↔◌, map};
+    ghost use Rattle.std.specs.Prelude.{◌≡◌, ◌+◌, ℕ, List, [], length, true, false, None, Some, IfSome, IfNone, IsSome, ◌↔◌, map};
     ghost use Rattle.std.specs.List.{All};
     ghost use Rattle.vx_values.specs.Values.{Row};
     ghost use Rattle.vx_values.specs.declared.value.ColType.{ColType};
@@ -90,13 +90,14 @@ impl<O: Source, S: Sends> Worker<O, S> {
     ghost use Rattle.vx_ends.specs.Tasks.{post_types};
     ghost use Rattle.vx_ends.specs.Sending.{RoutesAs};
     ghost use Rattle.vx_worker.specs.Trace.{Event, Trace, added, empty_trace, IsNoMemory};
-    ghost use Rattle.vx_worker.specs.Trees.{shape, TreeStands};
+    ghost use Rattle.vx_worker.specs.Trees.{shape, TreeStands, IsFormed};
+    ghost use Rattle.vx_worker.specs.Remaining.{TreeStarts, pending_count, Spends, Starts};
     ghost use Rattle.vx_worker.specs.Wishes.{Numbered, TreeTyped, tree_types, fresh_reads};
     ghost use Rattle.vx_worker.specs.Answering.{Answered};
     ghost use Rattle.vx_worker.specs.Intake.{source_of, IsFresh};
     ghost use Rattle.vx_setup.specs.Counts.{no_steps};
     ghost use Rattle.vx_worker.specs.Counts.{with_event, with_answer};
-    ghost use Rattle.vx_worker.specs.Worker.{closing_of, with_pending, with_all, outcome_of, sender_of, counts_of, inputs_of, role_of, IsReady, IsReadyIn, IsGoing, IsClosing, WorkerStands, EndsAs};
+    ghost use Rattle.vx_worker.specs.Worker.{closing_of, with_pending, with_all, outcome_of, sender_of, tree_of, counts_of, inputs_of, role_of, IsReady, IsReadyIn, IsGoing, IsClosing, WorkerStands, EndsAs};
 
     /// A worker that made no step. `node` is the number of its tree's top; `closing` is a Fault for each consumer, by rising place; `inputs` are the
     /// producers from which its tree takes, all of which it drains if it fails.
@@ -119,6 +120,8 @@ impl<O: Source, S: Sends> Worker<O, S> {
             ≡ record { frag = shape O.op tree; post = S.post sender; bounds = S.bounds sender; inputs = map source_of inputs.items } }
         ensures stands { (goes : Routing) (m : ℕ → ℕ → List Row) → S.Stands sender goes fresh (λ _. [])
             → WorkerStands O.Stands O.op S.Stands S.task goes m result empty_trace }
+        ensures starts { TreeStarts O.op O.most O.idle tree → ((j : ℕ) → S.held sender j ≡ 0)
+            → Starts O.most O.idle S.post S.held S.unclosed (shape O.op tree) result }
         ensures counts { counts_of result ≡ no_steps }
     {
         Worker {
@@ -164,7 +167,10 @@ impl<O: Source, S: Sends> Worker<O, S> {
             → (t : Trace) → WorkerStands O.Stands O.op S.Stands S.task goes (G.morsel_of morsels.now) self.old t
             → WorkerStands O.Stands O.op S.Stands S.task goes (G.morsel_of morsels.now) self.new (added t e))
             × Answered O.Stands O.want (W.IsFull wires.old) (W.LacksMemory wires.old) self.old self.new e result
-            × (counts_of self.new ≡ with_answer (with_event (counts_of self.old) e) result) }
+            × (counts_of self.new ≡ with_answer (with_event (counts_of self.old) e) result)
+            × ((goes : Routing) (t : Trace) → IsFormed (shape O.op (tree_of self.old))
+            → WorkerStands O.Stands O.op S.Stands S.task goes (G.morsel_of morsels.now) self.old t
+            → Spends O.most O.idle S.post S.held S.unclosed (G.morsel_of morsels.now) (shape O.op (tree_of self.old)) (inputs_of self.old) self.old self.new t e result) }
         ensures ended { (result ≡ StepOutcome.Ended) ↔ IsSome (outcome_of self.new) }
         ensures honest { IfSome (outcome_of self.new) (λ o. (goes : Routing) (t : Trace)
             → WorkerStands O.Stands O.op S.Stands S.task goes (G.morsel_of morsels.now) self.new t
@@ -195,7 +201,10 @@ impl<O: Source, S: Sends> Worker<O, S> {
             → (t : Trace) → WorkerStands O.Stands O.op S.Stands S.task goes (G.morsel_of morsels.now) self.old t
             → WorkerStands O.Stands O.op S.Stands S.task goes (G.morsel_of morsels.now) self.new (added t e))
             × Answered O.Stands O.want (W.IsFull wires.old) (W.LacksMemory wires.old) self.old self.new e result
-            × (counts_of self.new ≡ with_event (counts_of self.old) e) }
+            × (counts_of self.new ≡ with_event (counts_of self.old) e)
+            × ((goes : Routing) (t : Trace) → IsFormed (shape O.op (tree_of self.old))
+            → WorkerStands O.Stands O.op S.Stands S.task goes (G.morsel_of morsels.now) self.old t
+            → Spends O.most O.idle S.post S.held S.unclosed (G.morsel_of morsels.now) (shape O.op (tree_of self.old)) (inputs_of self.old) self.old self.new t e result) }
         ensures ended { (result ≡ StepOutcome.Ended) ↔ IsSome (outcome_of self.new) }
         ensures honest { IfSome (outcome_of self.new) (λ o. (goes : Routing) (t : Trace)
             → WorkerStands O.Stands O.op S.Stands S.task goes (G.morsel_of morsels.now) self.new t
@@ -227,7 +236,10 @@ impl<O: Source, S: Sends> Worker<O, S> {
             → (t : Trace) → WorkerStands O.Stands O.op S.Stands S.task goes (G.morsel_of morsels.now) self.old t
             → WorkerStands O.Stands O.op S.Stands S.task goes (G.morsel_of morsels.now) self.new (added t e))
             × Answered O.Stands O.want (W.IsFull wires.old) (W.LacksMemory wires.old) self.old self.new e result
-            × (counts_of self.new ≡ with_event (counts_of self.old) e) }
+            × (counts_of self.new ≡ with_event (counts_of self.old) e)
+            × ((goes : Routing) (t : Trace) → IsFormed (shape O.op (tree_of self.old))
+            → WorkerStands O.Stands O.op S.Stands S.task goes (G.morsel_of morsels.now) self.old t
+            → Spends O.most O.idle S.post S.held S.unclosed (G.morsel_of morsels.now) (shape O.op (tree_of self.old)) (inputs_of self.old) self.old self.new t e result) }
         ensures ended { (result ≡ StepOutcome.Ended) ↔ IsSome (outcome_of self.new) }
     {
         if self.pending.is_some() {
@@ -261,7 +273,10 @@ impl<O: Source, S: Sends> Worker<O, S> {
             → WorkerStands O.Stands O.op S.Stands S.task goes m self.old t
             → WorkerStands O.Stands O.op S.Stands S.task goes m self.new (added t e))
             × Answered O.Stands O.want (W.IsFull wires.old) (W.LacksMemory wires.old) self.old self.new e result
-            × (counts_of self.new ≡ with_event (counts_of self.old) e) }
+            × (counts_of self.new ≡ with_event (counts_of self.old) e)
+            × ((goes : Routing) (m : ℕ → ℕ → List Row) (t : Trace) → IsFormed (shape O.op (tree_of self.old))
+            → WorkerStands O.Stands O.op S.Stands S.task goes m self.old t
+            → Spends O.most O.idle S.post S.held S.unclosed m (shape O.op (tree_of self.old)) (inputs_of self.old) self.old self.new t e result) }
         ensures goes_on { (outcome_of self.new ≡ None) × (result ≡ StepOutcome.Ended → ⊥) }
     {
         match self.pending.take() {
@@ -298,7 +313,10 @@ impl<O: Source, S: Sends> Worker<O, S> {
             → (t : Trace) → WorkerStands O.Stands O.op S.Stands S.task goes (G.morsel_of morsels.now) self.old t
             → WorkerStands O.Stands O.op S.Stands S.task goes (G.morsel_of morsels.now) self.new (added t e))
             × Answered O.Stands O.want (W.IsFull wires.old) (W.LacksMemory wires.old) self.old self.new e result
-            × (counts_of self.new ≡ with_event (counts_of self.old) e) }
+            × (counts_of self.new ≡ with_event (counts_of self.old) e)
+            × ((goes : Routing) (t : Trace) → IsFormed (shape O.op (tree_of self.old))
+            → WorkerStands O.Stands O.op S.Stands S.task goes (G.morsel_of morsels.now) self.old t
+            → Spends O.most O.idle S.post S.held S.unclosed (G.morsel_of morsels.now) (shape O.op (tree_of self.old)) (inputs_of self.old) self.old self.new t e result) }
         ensures goes_on { (outcome_of self.new ≡ None) × (result ≡ StepOutcome.Ended → ⊥) }
     {
         let wish = self.tree.wants();
@@ -364,7 +382,10 @@ impl<O: Source, S: Sends> Worker<O, S> {
             → WorkerStands O.Stands O.op S.Stands S.task goes m self.old t
             → WorkerStands O.Stands O.op S.Stands S.task goes m self.new (added t e))
             × Answered O.Stands O.want (W.IsFull wires.old) (W.LacksMemory wires.old) self.old self.new e result
-            × (counts_of self.new ≡ with_event (counts_of self.old) e) }
+            × (counts_of self.new ≡ with_event (counts_of self.old) e)
+            × ((goes : Routing) (m : ℕ → ℕ → List Row) (t : Trace) → IsFormed (shape O.op (tree_of self.old))
+            → WorkerStands O.Stands O.op S.Stands S.task goes m self.old t
+            → Spends O.most O.idle S.post S.held S.unclosed m (shape O.op (tree_of self.old)) (inputs_of self.old) self.old self.new t e result) }
         ensures goes_on { (outcome_of self.new ≡ None) × (result ≡ StepOutcome.Ended → ⊥) }
     {
         match self.next_closing() {
@@ -393,6 +414,7 @@ impl<O: Source, S: Sends> Worker<O, S> {
         ensures closing { IsClosing self.new }
         ensures some { IfSome result (λ x. (put : ℕ → List PacketView)
             → with_all (with_pending put self.old.pending) self.old.closing.items ≡ with_all (with_pending put (Some x)) self.new.closing.items) }
+        ensures fewer { IfSome result (λ x. length self.old.closing.items + pending_count self.old.pending ≡ length self.new.closing.items + 1) }
         ensures none { IfNone result ((self.old.pending ≡ None) × (self.old.closing.items ≡ [])) }
         ensures pending { self.new.pending ≡ None }
         ensures tree { self.new.tree ≡ self.old.tree }
@@ -421,7 +443,10 @@ impl<O: Source, S: Sends> Worker<O, S> {
             → WorkerStands O.Stands O.op S.Stands S.task goes m self.old t
             → WorkerStands O.Stands O.op S.Stands S.task goes m self.new (added t e))
             × Answered O.Stands O.want (W.IsFull wires.old) (W.LacksMemory wires.old) self.old self.new e result
-            × (counts_of self.new ≡ with_event (counts_of self.old) e) }
+            × (counts_of self.new ≡ with_event (counts_of self.old) e)
+            × ((goes : Routing) (m : ℕ → ℕ → List Row) (t : Trace) → IsFormed (shape O.op (tree_of self.old))
+            → WorkerStands O.Stands O.op S.Stands S.task goes m self.old t
+            → Spends O.most O.idle S.post S.held S.unclosed m (shape O.op (tree_of self.old)) (inputs_of self.old) self.old self.new t e result) }
         ensures ended { (result ≡ StepOutcome.Ended) ↔ IsSome (outcome_of self.new) }
     {
         match self.intake.drain(wires) {

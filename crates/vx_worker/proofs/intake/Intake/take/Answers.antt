@@ -9,6 +9,7 @@ returns-in-Some-clause-fetches g c = λ morsel. (
   rw c.in-Some.is at c.in_ok-take.ensures.ok,
   record {
     is_read = tt;
+    is_wished = (refl, refl, c.note.ensures.brings);
     answers = (refl, refl, refl);
     stands = c.note.ensures.stands;
     sources = c.note.ensures.sources;

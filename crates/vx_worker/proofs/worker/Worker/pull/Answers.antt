@@ -1,11 +1,15 @@
-use Rattle.std.proofs.Common.{◌≡◌, ap, refl, sym, ◌∙◌, subst, true, false, rules}
+use Rattle.std.proofs.Common.{◌≡◌, ap, refl, sym, ◌∙◌, subst, true, false, le_refl, arith, rules}
 use Rattle.vx_ends.specs.Tasks.{BeganSending, IsAt}
 use Rattle.vx_ops.specs.declared.fault.StreamState.TheVariants as stream_state
 use Rattle.vx_ops.specs.declared.turn.Polled.TheVariants as polled
+use Rattle.vx_ops.specs.Turn.{own_turn}
 use Rattle.vx_worker.specs.Intake.{IntakeStands}
+use Rattle.vx_worker.specs.Trees.{shape}
 use Rattle.vx_worker.specs.Answering.{by_rows, by_fault}
 use Rattle.vx_worker.proofs.Answering.{waits, moves}
 use Rattle.vx_worker.proofs.Counting.{read-counted}
+use Rattle.vx_worker.proofs.Spending.{read-puts, fails-spent, turn-spent}
+use Rattle.vx_worker.proofs.Wishing.{pull-fits, came-or-own, turn-pays}
 use Rattle.vx_worker.proofs.WorkerSteps.{going-of, ready-fails, ready-runs, unturned, turned, loses, gives-fault, turns, running}
 use Rattle.vx_worker.proofs.worker.Worker.pull.Goals as goal
 
@@ -36,6 +40,8 @@ returns-in-Err-clause-stands g c =
           (running g.O.Source.Stands g.O.Source.op g.S.Sends.Stands g.S.Sends.task goes (g.G.Morsels.morsel_of c.args.morsels.now) w t c.requires.running h),
       rw c.fail.ensures.moved (by_fault c.no_memory.result c.requires.running c.fail.ensures.phase),
       c.fail.ensures.counts ∙ read-counted c.args.self.now.intake c.args.self.now.counts x.0 x.2.is_read,
+      λ goes t k h. fails-spent g.O.Source.most g.O.Source.idle g.S.Sends.post g.S.Sends.held g.S.Sends.unclosed (g.G.Morsels.morsel_of c.args.morsels.now) (shape g.O.Source.op w.tree) _ w v c.no_memory.result t x.0 c.fail.result c.fail.ensures.moved c.requires.running c.fail.ensures.phase
+          c.fail.ensures.pending (c.fail.ensures.closing ∙ going.closing) (read-puts w.intake x.0 x.2.is_read) (pull-fits g.O.Source.Stands g.O.Source.op g.S.Sends.Stands g.S.Sends.task goes (g.G.Morsels.morsel_of c.args.morsels.now) w _ t c.wants-wish.result x.0 c.requires.running x.2.is_wished c.wants-wish.ensures.wishes k h),
     )
 
 pub returns-in-Waiting-clause-ready : goal.returns-in-Waiting-clause-ready
@@ -56,6 +62,12 @@ returns-in-Waiting-clause-stands g c =
           (λ s o. let off : false ≡ true = sym c.requires.goes_on ∙ o in cc) (running g.O.Source.Stands g.O.Source.op g.S.Sends.Stands g.S.Sends.task goes (g.G.Morsels.morsel_of c.args.morsels.now) w t c.requires.running h),
       waits g.O.Source.Stands g.O.Source.want (g.W.Wires.IsFull c.args.wires.now) (g.W.Wires.LacksMemory c.args.wires.now) (g.G.Morsels.morsel_of c.args.morsels.now) w (record w { tree = c.turn.new.self; intake = c.fetch.new.self }) c.fetch.new.self c.wants-wish.result c.in-Ok.got x.0 c.requires.running c.wants-wish.ensures.want (search rules) x.2.answers,
       read-counted c.args.self.now.intake c.args.self.now.counts x.0 x.2.is_read,
+      λ goes t k h.
+          let r' = running g.O.Source.Stands g.O.Source.op g.S.Sends.Stands g.S.Sends.task goes (g.G.Morsels.morsel_of c.args.morsels.now) w t c.requires.running h in
+          turn-spent g.O.Source.most g.O.Source.idle g.S.Sends.post g.S.Sends.held g.S.Sends.unclosed (g.G.Morsels.morsel_of c.args.morsels.now) (shape g.O.Source.op w.tree) _ w (record w { tree = c.turn.new.self; intake = c.fetch.new.self }) t x.0 polled.Waiting (own_turn c.in-Ok.got) _ c.requires.running c.requires.running c.requires.empty c.requires.empty c.requires.goes_on
+          (turn-pays g.O.Source.most g.O.Source.idle g.met.O.Source.most_grows g.met.O.Source.idle_grows g.O.Source.want (g.G.Morsels.morsel_of c.args.morsels.now) w.intake c.fetch.new.self c.wants-wish.result c.in-Ok.got x.0 polled.Waiting w.tree c.turn.new.self
+          c.wants-wish.ensures.want x.2.answers (λ d. c.in-Waiting.ensures.pays r'.reads r'.out d k r'.tree))
+          refl (λ j. omega arith) (le_refl (g.S.Sends.unclosed w.sender)) false c.requires.goes_on (omega arith) (read-puts w.intake x.0 x.2.is_read) (pull-fits g.O.Source.Stands g.O.Source.op g.S.Sends.Stands g.S.Sends.task goes (g.G.Morsels.morsel_of c.args.morsels.now) w _ t c.wants-wish.result x.0 c.requires.running x.2.is_wished c.wants-wish.ensures.wishes k h),
     )
 
 pub returns-in-Waiting-2-clause-ready : goal.returns-in-Waiting-2-clause-ready
@@ -76,6 +88,12 @@ returns-in-Waiting-2-clause-stands g c =
           (λ s o. let off : false ≡ true = sym c.requires.goes_on ∙ o in cc) (running g.O.Source.Stands g.O.Source.op g.S.Sends.Stands g.S.Sends.task goes (g.G.Morsels.morsel_of c.args.morsels.now) w t c.requires.running h),
       moves g.O.Source.Stands g.O.Source.want (g.W.Wires.IsFull c.args.wires.now) (g.W.Wires.LacksMemory c.args.wires.now) (g.G.Morsels.morsel_of c.args.morsels.now) w (record w { tree = c.turn.new.self; intake = c.fetch.new.self }) c.fetch.new.self c.wants-wish.result c.in-Ok.got x.0 c.requires.running c.requires.empty c.requires.goes_on c.wants-wish.ensures.want (search rules) x.2.answers,
       read-counted c.args.self.now.intake c.args.self.now.counts x.0 x.2.is_read,
+      λ goes t k h.
+          let r' = running g.O.Source.Stands g.O.Source.op g.S.Sends.Stands g.S.Sends.task goes (g.G.Morsels.morsel_of c.args.morsels.now) w t c.requires.running h in
+          turn-spent g.O.Source.most g.O.Source.idle g.S.Sends.post g.S.Sends.held g.S.Sends.unclosed (g.G.Morsels.morsel_of c.args.morsels.now) (shape g.O.Source.op w.tree) _ w (record w { tree = c.turn.new.self; intake = c.fetch.new.self }) t x.0 polled.Waiting (own_turn c.in-Ok.got) _ c.requires.running c.requires.running c.requires.empty c.requires.empty c.requires.goes_on
+          (turn-pays g.O.Source.most g.O.Source.idle g.met.O.Source.most_grows g.met.O.Source.idle_grows g.O.Source.want (g.G.Morsels.morsel_of c.args.morsels.now) w.intake c.fetch.new.self c.wants-wish.result c.in-Ok.got x.0 polled.Waiting w.tree c.turn.new.self
+          c.wants-wish.ensures.want x.2.answers (λ d. c.in-Waiting-2.ensures.pays r'.reads r'.out d k r'.tree))
+          refl (λ j. omega arith) (le_refl (g.S.Sends.unclosed w.sender)) false c.requires.goes_on (let a = came-or-own (g.G.Morsels.morsel_of c.args.morsels.now) w.intake c.fetch.new.self c.wants-wish.result c.in-Ok.got x.0 x.2.answers (search rules) in omega (arith, a)) (read-puts w.intake x.0 x.2.is_read) (pull-fits g.O.Source.Stands g.O.Source.op g.S.Sends.Stands g.S.Sends.task goes (g.G.Morsels.morsel_of c.args.morsels.now) w _ t c.wants-wish.result x.0 c.requires.running x.2.is_wished c.wants-wish.ensures.wishes k h),
     )
 
 pub returns-in-Fault-clause-ready : goal.returns-in-Fault-clause-ready
@@ -103,6 +121,8 @@ returns-in-Fault-clause-stands g c =
           (running g.O.Source.Stands g.O.Source.op g.S.Sends.Stands g.S.Sends.task goes (g.G.Morsels.morsel_of c.args.morsels.now) w t c.requires.running h),
       rw c.fail-in-Fault.ensures.moved (by_fault c.in-Fault.fault c.requires.running c.fail-in-Fault.ensures.phase),
       c.fail-in-Fault.ensures.counts ∙ read-counted c.args.self.now.intake c.args.self.now.counts x.0 x.2.is_read,
+      λ goes t k h. fails-spent g.O.Source.most g.O.Source.idle g.S.Sends.post g.S.Sends.held g.S.Sends.unclosed (g.G.Morsels.morsel_of c.args.morsels.now) (shape g.O.Source.op w.tree) _ w v c.in-Fault.fault t x.0 c.fail-in-Fault.result c.fail-in-Fault.ensures.moved c.requires.running c.fail-in-Fault.ensures.phase
+          c.fail-in-Fault.ensures.pending (c.fail-in-Fault.ensures.closing ∙ going.closing) (read-puts w.intake x.0 x.2.is_read) (pull-fits g.O.Source.Stands g.O.Source.op g.S.Sends.Stands g.S.Sends.task goes (g.G.Morsels.morsel_of c.args.morsels.now) w _ t c.wants-wish.result x.0 c.requires.running x.2.is_wished c.wants-wish.ensures.wishes k h),
     )
 
 pub returns-in-Ok-accept-clause-ready : goal.returns-in-Ok-accept-clause-ready
@@ -123,6 +143,12 @@ returns-in-Ok-accept-clause-stands g c =
           (λ s o. let off : false ≡ true = sym c.requires.goes_on ∙ o in cc) (running g.O.Source.Stands g.O.Source.op g.S.Sends.Stands g.S.Sends.task goes (g.G.Morsels.morsel_of c.args.morsels.now) w t c.requires.running h),
       by_rows c.in-Ok.got (polled.Gave c.in-Gave.rows) (λ e. cc) c.in-Gave.ensures.stands,
       read-counted c.args.self.now.intake c.args.self.now.counts x.0 x.2.is_read,
+      λ goes t k h.
+          let r' = running g.O.Source.Stands g.O.Source.op g.S.Sends.Stands g.S.Sends.task goes (g.G.Morsels.morsel_of c.args.morsels.now) w t c.requires.running h in
+          turn-spent g.O.Source.most g.O.Source.idle g.S.Sends.post g.S.Sends.held g.S.Sends.unclosed (g.G.Morsels.morsel_of c.args.morsels.now) (shape g.O.Source.op w.tree) _ w (record w { tree = c.turn.new.self; intake = c.fetch.new.self; sender = c.accept.new.self }) t x.0 (polled.Gave c.in-Gave.rows) (own_turn c.in-Ok.got) _ c.requires.running c.requires.running c.requires.empty c.requires.empty c.requires.goes_on
+          (turn-pays g.O.Source.most g.O.Source.idle g.met.O.Source.most_grows g.met.O.Source.idle_grows g.O.Source.want (g.G.Morsels.morsel_of c.args.morsels.now) w.intake c.fetch.new.self c.wants-wish.result c.in-Ok.got x.0 (polled.Gave c.in-Gave.rows) w.tree c.turn.new.self
+          c.wants-wish.ensures.want x.2.answers (λ d. c.in-Gave.ensures.pays r'.reads r'.out d k r'.tree))
+          c.in-Ok-accept.ensures.post c.in-Ok-accept.ensures.held c.in-Ok-accept.ensures.unclosed false c.requires.goes_on (let some = c.in-Gave.ensures.gives.1 in omega (arith, some)) (read-puts w.intake x.0 x.2.is_read) (pull-fits g.O.Source.Stands g.O.Source.op g.S.Sends.Stands g.S.Sends.task goes (g.G.Morsels.morsel_of c.args.morsels.now) w _ t c.wants-wish.result x.0 c.requires.running x.2.is_wished c.wants-wish.ensures.wishes k h),
     )
 
 pub returns-in-Ok-accept-2-clause-ready : goal.returns-in-Ok-accept-2-clause-ready
@@ -143,6 +169,12 @@ returns-in-Ok-accept-2-clause-stands g c =
           (λ s o. refl) (running g.O.Source.Stands g.O.Source.op g.S.Sends.Stands g.S.Sends.task goes (g.G.Morsels.morsel_of c.args.morsels.now) w t c.requires.running h),
       by_rows c.in-Ok.got polled.End (λ e. cc) c.in-End.ensures.stands,
       read-counted c.args.self.now.intake c.args.self.now.counts x.0 x.2.is_read,
+      λ goes t k h.
+          let r' = running g.O.Source.Stands g.O.Source.op g.S.Sends.Stands g.S.Sends.task goes (g.G.Morsels.morsel_of c.args.morsels.now) w t c.requires.running h in
+          turn-spent g.O.Source.most g.O.Source.idle g.S.Sends.post g.S.Sends.held g.S.Sends.unclosed (g.G.Morsels.morsel_of c.args.morsels.now) (shape g.O.Source.op w.tree) _ w (record w { tree = c.turn.new.self; intake = c.fetch.new.self; sender = c.accept-in-End.new.self; is_over = true }) t x.0 polled.End (own_turn c.in-Ok.got) _ c.requires.running c.requires.running c.requires.empty c.requires.empty c.requires.goes_on
+          (turn-pays g.O.Source.most g.O.Source.idle g.met.O.Source.most_grows g.met.O.Source.idle_grows g.O.Source.want (g.G.Morsels.morsel_of c.args.morsels.now) w.intake c.fetch.new.self c.wants-wish.result c.in-Ok.got x.0 polled.End w.tree c.turn.new.self
+          c.wants-wish.ensures.want x.2.answers (λ d. c.in-End.ensures.pays r'.reads r'.out d k r'.tree))
+          c.in-Ok-accept-2.ensures.post c.in-Ok-accept-2.ensures.held c.in-Ok-accept-2.ensures.unclosed true refl (omega arith) (read-puts w.intake x.0 x.2.is_read) (pull-fits g.O.Source.Stands g.O.Source.op g.S.Sends.Stands g.S.Sends.task goes (g.G.Morsels.morsel_of c.args.morsels.now) w _ t c.wants-wish.result x.0 c.requires.running x.2.is_wished c.wants-wish.ensures.wishes k h),
     )
 
 pub returns-in-Err-accept-clause-ready : goal.returns-in-Err-accept-clause-ready
@@ -175,6 +207,8 @@ returns-in-Err-accept-clause-stands g c =
           (running g.O.Source.Stands g.O.Source.op g.S.Sends.Stands g.S.Sends.task goes (g.G.Morsels.morsel_of c.args.morsels.now) w t c.requires.running h),
       rw c.fail-in-Err-accept.ensures.moved (by_fault c.no_memory-in-Err-accept.result c.requires.running c.fail-in-Err-accept.ensures.phase),
       c.fail-in-Err-accept.ensures.counts ∙ read-counted c.args.self.now.intake c.args.self.now.counts x.0 x.2.is_read,
+      λ goes t k h. fails-spent g.O.Source.most g.O.Source.idle g.S.Sends.post g.S.Sends.held g.S.Sends.unclosed (g.G.Morsels.morsel_of c.args.morsels.now) (shape g.O.Source.op w.tree) _ w v c.no_memory-in-Err-accept.result t x.0 c.fail-in-Err-accept.result c.fail-in-Err-accept.ensures.moved c.requires.running c.fail-in-Err-accept.ensures.phase
+          c.fail-in-Err-accept.ensures.pending (c.fail-in-Err-accept.ensures.closing ∙ going.closing) (read-puts w.intake x.0 x.2.is_read) (pull-fits g.O.Source.Stands g.O.Source.op g.S.Sends.Stands g.S.Sends.task goes (g.G.Morsels.morsel_of c.args.morsels.now) w _ t c.wants-wish.result x.0 c.requires.running x.2.is_wished c.wants-wish.ensures.wishes k h),
     )
 
 pub returns-in-Err-accept-2-clause-ready : goal.returns-in-Err-accept-2-clause-ready
@@ -207,4 +241,6 @@ returns-in-Err-accept-2-clause-stands g c =
           (running g.O.Source.Stands g.O.Source.op g.S.Sends.Stands g.S.Sends.task goes (g.G.Morsels.morsel_of c.args.morsels.now) w t c.requires.running h),
       rw c.fail-in-Err-accept-2.ensures.moved (by_fault c.no_memory-in-Err-accept-2.result c.requires.running c.fail-in-Err-accept-2.ensures.phase),
       c.fail-in-Err-accept-2.ensures.counts ∙ read-counted c.args.self.now.intake c.args.self.now.counts x.0 x.2.is_read,
+      λ goes t k h. fails-spent g.O.Source.most g.O.Source.idle g.S.Sends.post g.S.Sends.held g.S.Sends.unclosed (g.G.Morsels.morsel_of c.args.morsels.now) (shape g.O.Source.op w.tree) _ w v c.no_memory-in-Err-accept-2.result t x.0 c.fail-in-Err-accept-2.result c.fail-in-Err-accept-2.ensures.moved c.requires.running c.fail-in-Err-accept-2.ensures.phase
+          c.fail-in-Err-accept-2.ensures.pending (c.fail-in-Err-accept-2.ensures.closing ∙ going.closing) (read-puts w.intake x.0 x.2.is_read) (pull-fits g.O.Source.Stands g.O.Source.op g.S.Sends.Stands g.S.Sends.task goes (g.G.Morsels.morsel_of c.args.morsels.now) w _ t c.wants-wish.result x.0 c.requires.running x.2.is_wished c.wants-wish.ensures.wishes k h),
     )

@@ -3,6 +3,7 @@ use Rattle.vx_ops.specs.Turn.{with_packet}
 use Rattle.vx_ends.specs.Sending.{RoutesAs}
 use Rattle.vx_worker.specs.Trace.{idle}
 use Rattle.vx_worker.specs.Worker.{with_pending}
+use Rattle.vx_worker.proofs.Spending.{next-spent, none-spent, well-spent}
 use Rattle.vx_worker.proofs.WorkerSteps.{asked, ends-well, running}
 use Rattle.vx_worker.proofs.worker.Worker.run.Goals as goal
 
@@ -24,6 +25,11 @@ returns-in-Some-clause-stands g c =
           (c.in-Some.ensures.some goes s (with_pending t.sent w.pending) k)) h),
       x.3,
       x.4,
+      λ goes t k h. next-spent g.O.Source.most g.O.Source.idle g.S.Sends.post g.S.Sends.held g.S.Sends.unclosed m _ _ w c.next.new.self c.in-Some.next.0 c.in-Some.next.1 _ t x.0 _ c.requires.running none c.in-Some.ensures.post c.in-Some.ensures.takes (g.met.S.Sends.held_for w.sender)
+          (x.5 goes m t k (asked g.O.Source.Stands g.O.Source.op g.S.Sends.Stands g.S.Sends.task goes m w (record w { sender = c.next.new.self; pending = Some c.in-Some.next }) t
+          c.requires.running c.requires.running refl refl refl
+          (λ s l. subst (λ z. g.S.Sends.Stands c.next.new.self goes s (with_packet (with_pending t.sent z) c.in-Some.next.0 (Some c.in-Some.next.1))) none
+          (c.in-Some.ensures.some goes s (with_pending t.sent w.pending) l)) h)),
     )
 
 pub returns-then-self-clause-stands : goal.returns-then-self-clause-stands
@@ -40,6 +46,7 @@ returns-then-self-clause-stands g c =
       ),
       refl,
       refl,
+      λ goes t k h. well-spent g.O.Source.most g.O.Source.idle g.S.Sends.post g.S.Sends.held g.S.Sends.unclosed m _ _ w _ t c.requires.running refl,
     )
 
 pub returns-in-None-clause-stands : goal.returns-in-None-clause-stands
@@ -58,4 +65,7 @@ returns-in-None-clause-stands g c =
           (λ s k. c.in-None.ensures.none goes s (with_pending t.sent w.pending) k) h),
       x.3,
       x.4,
+      λ goes t k h. none-spent g.O.Source.most g.O.Source.idle g.S.Sends.post g.S.Sends.held g.S.Sends.unclosed m _ _ w s' _ t x.0 _ c.requires.running c.in-None.ensures.post c.in-None.ensures.keeps
+          (x.5 goes t k (asked g.O.Source.Stands g.O.Source.op g.S.Sends.Stands g.S.Sends.task goes m w (record w { sender = s' }) t c.requires.running c.requires.running refl refl refl
+          (λ s l. c.in-None.ensures.none goes s (with_pending t.sent w.pending) l) h)),
     )

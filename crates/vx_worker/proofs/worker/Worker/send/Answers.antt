@@ -1,9 +1,10 @@
 use Rattle.std.proofs.Common.{refl, rules, sym, ◌∙◌, subst}
 use Rattle.vx_ends.specs.Tasks.{IsAt, BeganSending}
-use Rattle.vx_worker.specs.Trace.{idle}
-use Rattle.vx_worker.specs.Answering.{IsSending, is_full, by_fault}
+use Rattle.vx_worker.specs.Trace.{idle, put_one}
+use Rattle.vx_worker.specs.Answering.{IsSending, is_full, by_event, by_fault}
 use Rattle.vx_worker.specs.Intake.{IntakeStands}
 use Rattle.vx_worker.specs.Worker.{IsReadyIn}
+use Rattle.vx_worker.proofs.Spending.{fails-spent, put-spent, back-spent}
 use Rattle.vx_worker.proofs.WorkerSteps.{closing-fails, refused, running}
 use Rattle.vx_worker.proofs.worker.Worker.send.Goals as goal
 
@@ -30,9 +31,29 @@ returns-in-NoMemory-clause-stands g c =
           (running g.O.Source.Stands g.O.Source.op g.S.Sends.Stands g.S.Sends.task goes m w t c.requires.running h),
       rw c.fail.ensures.moved (by_fault c.no_memory.result c.requires.running c.fail.ensures.phase),
       c.fail.ensures.counts,
+      λ goes m t k h. fails-spent g.O.Source.most g.O.Source.idle g.S.Sends.post g.S.Sends.held g.S.Sends.unclosed m _ _ w v c.no_memory.result t idle c.fail.result c.fail.ensures.moved
+          c.requires.running c.fail.ensures.phase c.fail.ensures.pending (c.fail.ensures.closing ∙ going.closing) (λ j. refl) tt,
     )
 
 pub returns-in-Full-clause-stands : goal.returns-in-Full-clause-stands
 returns-in-Full-clause-stands g c =
-    let sending : IsSending c.args.self.now.phase = subst IsSending (sym c.requires.running) tt in
-    (idle, c.in-Full.ensures.2, search rules, is_full c.in-Some.to c.in-Full.packet sending refl c.in-Full.ensures.1 refl, refl)
+    let sending : IsSending c.args.self.now.phase = subst IsSending (sym c.requires.running) tt in (
+  idle,
+  c.in-Full.ensures.2,
+  search rules,
+  is_full c.in-Some.to c.in-Full.packet sending refl c.in-Full.ensures.1 refl,
+  refl,
+  λ goes m t k h. back-spent g.O.Source.most g.O.Source.idle g.S.Sends.post g.S.Sends.held g.S.Sends.unclosed m _ _ c.args.self.now c.in-Some.to c.in-Some.packet c.in-Full.packet t
+      c.requires.running (sym c.take.ensures.value ∙ c.in-Some.is) c.in-Full.ensures.0,
+)
+
+pub returns-in-Done-clause-stands : goal.returns-in-Done-clause-stands
+returns-in-Done-clause-stands g c = (
+  put_one c.in-Some.to c.in-Some.packet,
+  c.in-Done.ensures,
+  search rules,
+  by_event tt,
+  c.add_put.ensures,
+  λ goes m t k h. put-spent g.O.Source.most g.O.Source.idle g.S.Sends.post g.S.Sends.held g.S.Sends.unclosed m _ _ c.args.self.now c.take.new.self c.add_put.new.self c.in-Some.to c.in-Some.packet t
+      c.requires.running (sym c.take.ensures.value ∙ c.in-Some.is) c.take.ensures.after,
+)

@@ -2,6 +2,7 @@ use Rattle.std.proofs.Common.{ap, ◌∙◌}
 use Rattle.vx_setup.specs.Counts.{with_wait}
 use Rattle.vx_worker.specs.Trace.{added}
 use Rattle.vx_worker.proofs.Counting.{stands-counted, waits-counted}
+use Rattle.vx_worker.proofs.Spending.{counted-spent}
 use Rattle.vx_worker.proofs.worker.Worker.step.Goals as goal
 
 pub returns-in-Waiting-clause-stands : goal.returns-in-Waiting-clause-stands
@@ -15,4 +16,5 @@ returns-in-Waiting-clause-stands g c =
       λ goes r t h. stands-counted v n g.O.Source.Stands g.O.Source.op g.S.Sends.Stands g.S.Sends.task goes (g.G.Morsels.morsel_of c.args.morsels.now) (added t x.0) (x.2 goes r t h),
       waits-counted v n g.O.Source.want (g.W.Wires.IsFull c.args.wires.now) (g.W.Wires.LacksMemory c.args.wires.now) w.phase w.tree w.intake x.0 x.3,
       c.add_wait.ensures ∙ ap with_wait x.4,
+      λ goes t k h. counted-spent g.O.Source.most g.O.Source.idle g.S.Sends.post g.S.Sends.held g.S.Sends.unclosed (g.G.Morsels.morsel_of c.args.morsels.now) _ _ w v n t x.0 _ (x.5 goes t k h),
     )
