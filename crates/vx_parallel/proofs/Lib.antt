@@ -4,3 +4,4 @@ pub mod Counting
 pub mod Crews
 pub mod Wirings
 pub mod Ends
+pub mod GivingUp

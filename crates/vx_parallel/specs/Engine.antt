@@ -1,11 +1,12 @@
 -- What the workers of a run by this repository's engine counted.
-use Rattle.std.specs.Prelude.{ℕ, List, Result}
+use Rattle.std.specs.Prelude.{List, Result}
 use Rattle.vx_catalog.specs.Database.{Database}
 use Rattle.vx_plan_nodes.specs.ByteRouter.{byte_route}
 use Rattle.vx_plan_nodes.specs.TypedView.{plan as whole_plan}
 use Rattle.vx_plan_nodes.specs.declared.typed_plan.TypedPlan.{TypedPlan}
 use Rattle.vx_runs.specs.Sizes.{Sizes}
 use Rattle.vx_runs.specs.declared.outcome.RunOutcome.{RunOutcome}
+use Rattle.vx_runs.specs.declared.runs.TheConstants.{MAX_ROUNDS}
 use Rattle.vx_setup.specs.declared.counts.WorkerCounts.{WorkerCounts}
 use Rattle.vx_setup.specs.declared.fault.RunFault.{RunFault}
 use Rattle.vx_setup.specs.declared.setting.Mode.{Mode}
@@ -14,11 +15,7 @@ use Rattle.vx_exec.specs.Model.{run_model}
 use Rattle.vx_exec.specs.Runs.{CountedInRounds}
 use Rattle.vx_parallel.specs.Parallel.{CountedByThreads}
 
--- at most so many rounds
-abbrev pub most_rounds : ℕ
-most_rounds = 1000000000
-
--- the workers of a run in this mode, which came to this, counted this in the end
+-- the workers of a run in this mode, which came to this, counted this in the end; by rounds these were at most `MAX_ROUNDS`
 abbrev pub CountedIn : Mode → TypedPlan → Database → Sizes → Result RunOutcome RunFault → List WorkerCounts → Type 0
-CountedIn mode.Rounds p db s result ws = CountedInRounds byte_route (run_model byte_route p db s) (whole_plan p) most_rounds result ws
+CountedIn mode.Rounds p db s result ws = CountedInRounds byte_route (run_model byte_route p db s) (whole_plan p) MAX_ROUNDS result ws
 CountedIn mode.Threads p db s result ws = CountedByThreads byte_route (run_model byte_route p db s) (whole_plan p) result ws

@@ -8,12 +8,9 @@ use vx_catalog::Database;
 use vx_check_rules::CheckedPlan;
 use vx_exchange::ByteRouter;
 use vx_exec::run_rounds;
-use vx_runs::{RunOutcome, Runs};
+use vx_runs::{MAX_ROUNDS, RunOutcome, Runs};
 use vx_setup::{Mode, RunCounts, RunFault, Setting};
 use vx_threads::Free;
-
-// The most rounds of a run.
-const MAX_ROUNDS: u64 = 1_000_000_000;
 
 /// Runs plans by the workers of this repository: by rounds in one thread, or each worker in a thread of its own. Hash routes send keys by
 /// their bytes.

@@ -1,5 +1,5 @@
 -- What a run of a plan over a database comes to.
-use Rattle.std.specs.Prelude.{ℕ, ◌≡◌, ◌≢◌, List, Ok}
+use Rattle.std.specs.Prelude.{ℕ, ◌≡◌, ◌≢◌, ◌<◌, List, Ok}
 use Rattle.vx_values.specs.Values.{Row}
 use Rattle.vx_rows.specs.View.{RowsView}
 use Rattle.vx_relations.specs.Catalog.{relation_at}
@@ -13,10 +13,12 @@ use Rattle.vx_plan_nodes.specs.Typed.{bounds_at}
 use Rattle.vx_plan_nodes.specs.Types.{types_of}
 use Rattle.vx_plan_nodes.specs.Workers.{worker_group_at}
 use Rattle.vx_check_rules.specs.Claims.{Delivers}
+use Rattle.vx_layout.specs.Needed.{rounds_needed}
 use Rattle.vx_runs.specs.Setup.{sizes_set, Fails}
 use Rattle.vx_runs.specs.Sizes.{Sizes}
 use Rattle.vx_runs.specs.declared.outcome.RunOutcome.{RunOutcome}
 use Rattle.vx_runs.specs.declared.outcome.RunOutcome.TheVariants as run_outcome
+use Rattle.vx_runs.specs.declared.runs.TheConstants.{MAX_ROUNDS}
 use Rattle.vx_setup.specs.Setup.{SetupView}
 use Rattle.vx_setup.specs.declared.fault.RunFault.{RunFault}
 use Rattle.vx_setup.specs.declared.fault.RunFault.TheVariants as fault
@@ -38,6 +40,11 @@ abbrev pub IsWhole : RunOutcome → Type 0
 IsWhole (run_outcome.Done rows) = Unit {0}
 IsWhole run_outcome.Unfinished = ⊥
 
+-- a fact of a run in which some worker has not ended
+abbrev pub IfUnfinished : Type 0 → RunOutcome → Type 0
+IfUnfinished P (run_outcome.Done rows) = Unit {0}
+IfUnfinished P run_outcome.Unfinished = P
+
 -- why a run that began gives no rows: memory was refused, or a sum or count of the data overflows. No rows fall, and no packet is a stranger
 abbrev pub IsTrueOf : TypedPlanView → Database → RunFault → Type 0
 IsTrueOf p db fault.NoMemory = Unit {0}
@@ -48,6 +55,10 @@ IsTrueOf p db _ = ⊥
 pub record IsSetUp (p : TypedPlanView) (db : Database) (setup : SetupView) (s : Sizes) : Type 0 where
   pub same : db.catalog ≡ p.names.catalog
   pub sizes : sizes_set setup p.names.sizes (plan_in p.root) ≡ Ok s
+
+-- with worker groups of these sizes the plan needs more rounds over the database, by the bound `rounds_needed`, than a run makes at most
+abbrev pub NeedsMoreRounds : TypedPlanView → Database → Sizes → Type 0
+NeedsMoreRounds p db s = MAX_ROUNDS < rounds_needed (rows_at db) (worker_group_at s.worker_groups) (plan_in p.root)
 
 -- why a plan gives no rows over a database: another catalog, the first refusal of the setup, or what the run came to
 pub data RunFails (p : TypedPlanView) (db : Database) (setup : SetupView) (e : RunFault) : Type 0 where

@@ -5,4 +5,4 @@ mod outcome;
 mod runs;
 
 pub use outcome::RunOutcome;
-pub use runs::Runs;
+pub use runs::{MAX_ROUNDS, Runs};

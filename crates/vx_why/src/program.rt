@@ -35,8 +35,10 @@ Example: `./volcano run .. > /dev/full`.
 "#;
 
 const V5: &str = r#"V5 Unfinished
-What happened: after 1,000,000,000 rounds the last worker had not ended.
-Usual cause, and cure: larger morsels and packets, or the mode `threads`, which has no limit.
+What happened: after 1,000,000,000 rounds the last worker had not ended. Only a plan that may need more rounds comes to
+this; how many it may need follows from the rows that it scans and from its workers.
+Usual cause, and cure: take fewer workers, or the mode `threads`, which has no limit. Larger morsels and packets do not
+lower that number.
 Example: a run in the mode `rounds` over very large tables.
 "#;
 
