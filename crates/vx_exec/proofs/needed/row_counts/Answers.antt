@@ -9,10 +9,10 @@ loop-relation-init c = counts-none 1 c.args.database.now c.in_ok-counts.counts.i
 pub loop-relation-preserved : goal.loop-relation-preserved
 loop-relation-preserved c =
     let few = c.rows.ensures.few in
-    let len = c.len-rows.ensures in
-    counts-push 1 c.args.database.now c.loop-relation.relation c.loop-relation.counts.items c.push.new.self.items c.len-rows.result
+    let len = c.len.ensures in
+    counts-push 1 c.args.database.now c.loop-relation.relation c.loop-relation.counts.items c.push.new.self.items c.len.result
     c.loop-relation.invariant c.in_ok-push.ensures.items
-    (c.len-rows.ensures ∙ ap length c.rows.ensures.rows ∙ sym (each-one (length (rows_at c.args.database.now c.loop-relation.relation)))) (omega (arith, few, len))
+    (c.len.ensures ∙ ap length c.rows.ensures.rows ∙ sym (each-one (length (rows_at c.args.database.now c.loop-relation.relation)))) (omega (arith, few, len))
 
 pub returns : goal.returns
 returns c = λ r.
