@@ -21,6 +21,8 @@ mod meetings;
 #[cfg(test)]
 mod queries;
 #[cfg(test)]
+mod rounds;
+#[cfg(test)]
 mod schedules;
 #[cfg(test)]
 mod setups;

@@ -6,13 +6,10 @@ use std::test::Fail;
 use test_tables::shown;
 use vx_catalog::Database;
 use vx_check::CheckedPlan;
-use vx_exec::{RunCounts, RunFault, RunOutcome, Setup, run_rounds, run_scheduled};
+use vx_exec::{RunCounts, RunFault, RunOutcome, Setup, rounds_needed, run_rounds, run_scheduled};
 use vx_plan::{Router, erase};
 use vx_serial::eval;
 use vx_views::Rows;
-
-// More rounds than a run of these plans has.
-const ROUNDS: u64 = 1_000_000;
 
 /// A plan over a database.
 #[derive(Drop)]
@@ -48,7 +45,7 @@ pub fn outcome(alloc: Global, ran: Result<RunOutcome, RunFault>) -> Result<Strin
     }
 }
 
-/// What a case comes to in rounds.
+/// What a case comes to in as many rounds as it needs at most, and no more.
 pub fn by_rounds<R: Router>(
     alloc: Global,
     case: &Case,
@@ -57,8 +54,13 @@ pub fn by_rounds<R: Router>(
 ) -> Result<String, AllocError> {
     let (plan, database) = (&case.plan, &case.database);
     let mut unread = RunCounts::unread(alloc);
-    let ran = run_rounds(alloc, plan, database, setup, router, ROUNDS, &mut unread);
-    outcome(alloc, ran)
+    match rounds_needed(alloc, plan, database, setup) {
+        Err(fault) => outcome(alloc, Err(fault)),
+        Ok(rounds) => {
+            let ran = run_rounds(alloc, plan, database, setup, router, rounds, &mut unread);
+            outcome(alloc, ran)
+        }
+    }
 }
 
 /// What a case comes to by a schedule.

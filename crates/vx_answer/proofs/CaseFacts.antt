@@ -149,7 +149,7 @@ run_fails p db s fault e same is (runs.for_setup c (inr err)) three = (fault, is
 run_fails p db s fault e same is (runs.for_fault sizes set h) three = absurd (run_ends p db fault e is h three)
 
 run_refuses : (b : Bundle) (p : TypedPlanView) (db : Database) (e : Refusal) → db.catalog ≡ p.names.catalog → RunRefuses p db b.setting e → status_of e ≡ 3 → IsOfSetup e
-run_refuses b p db e same (commands.for_rounds in_rounds s set is) three = absurd (not_three e refusal.Unfinished is refl three)
+run_refuses b p db e same (commands.for_rounds in_rounds s set needs is) three = absurd (not_three e refusal.Unfinished is refl three)
 run_refuses b p db e same (commands.for_threads in_threads s set is) three = absurd (not_three e (refusal.Run run.NoThread) is refl three)
 run_refuses b p db e same (commands.run_memory is) three = absurd (not_three e refusal.NoMemory is refl three)
 run_refuses b p db e same (commands.for_fault fault is h) three = run_fails p db b.setting.setup fault e same is h three

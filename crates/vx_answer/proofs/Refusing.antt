@@ -10,9 +10,7 @@ use Rattle.vx_setup.specs.declared.fault.RunFault.{RunFault}
 use Rattle.vx_setup.specs.declared.fault.RunFault.TheVariants as run_fault
 use Rattle.vx_setup.specs.declared.setting.Mode.{Mode}
 use Rattle.vx_setup.specs.declared.setting.Mode.TheVariants as mode
-use Rattle.vx_runs.specs.Runs.{IsWhole, IsSetUp, RunFails}
-use Rattle.vx_runs.specs.declared.outcome.RunOutcome.{RunOutcome}
-use Rattle.vx_runs.specs.declared.outcome.RunOutcome.TheVariants as run_outcome
+use Rattle.vx_runs.specs.Runs.{IsSetUp, RunFails}
 use Rattle.vx_runs.specs.Sizes.{Sizes}
 use Rattle.vx_plan_nodes.specs.Workers.{worker_group_at}
 use Rattle.vx_plan_nodes.specs.TypedView.{plan as whole_plan, resolved_of}
@@ -74,17 +72,6 @@ fault_refused p db s f h = elim h [
   | inl fails ↦ for_fault f refl fails
   | inr other ↦ let t = by_threads s.mode p other.0 f other.2 in for_threads t.0 other.0 other.1 (ap refusal.Run t.1)
 ]
-
--- what no run by threads comes to was come to in rounds
-pub in_rounds : (m : Mode) → (m ≡ mode.Threads → ⊥) → m ≡ mode.Rounds
-in_rounds mode.Rounds h = refl
-in_rounds mode.Threads h = absurd (h refl)
-
--- a result that every worker has ended is not that one has not
-pub not_whole : (r : Result RunOutcome RunFault) (x : RunOutcome) → r ≡ Ok x → x ≡ run_outcome.Unfinished → IfOk r IsWhole → ⊥
-not_whole r x e u h =
-    let whole : IsWhole x = subst (λ (z : Result RunOutcome RunFault). IfOk z IsWhole) e h in
-    subst (λ (z : RunOutcome). IsWhole z) u whole
 
 -- no refusal has the status 0
 pub has_status : (e : Refusal) → status_of e ≡ 0 → ⊥

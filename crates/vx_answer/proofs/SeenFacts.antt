@@ -1,8 +1,9 @@
--- What a plan means over rows depends on the relations that it scans alone.
-use Rattle.std.proofs.Common.{◌≡◌, ◌∙◌, ℕ, ◌+◌, List, Bool, true, false, cond, refl, ap, subst, inl, inr, arith}
+-- What a plan means over rows, and how many rounds it needs, depends on the relations that it scans alone.
+use Rattle.std.proofs.Common.{◌≡◌, ◌∙◌, ℕ, ◌+◌, ◌*◌, List, length, Bool, true, false, cond, refl, ap, subst, inl, inr, arith}
 use Rattle.std.specs.Prelude.{◌==◌, ◌||◌}
 use Rattle.vx_values.specs.Values.{Row}
-use Rattle.vx_plan_nodes.specs.Plan.{Plan, scan, unary, binary, exchange, Unary, Binary}
+use Rattle.vx_layout.specs.Needed.{most_rows, most_turns, worker_steps, steps_below, rounds_needed}
+use Rattle.vx_plan_nodes.specs.Plan.{Plan, scan, unary, binary, exchange, Unary, Binary, union, join, size, target}
 use Rattle.vx_plan_nodes.specs.Runs.{Runs}
 use Rattle.vx_plan_nodes.specs.Routes.{Routing}
 use Rattle.vx_plan_nodes.specs.Streams.{workers, Streams, Dealt}
@@ -88,3 +89,31 @@ runs_seen f g sizes goes (unary n c op p) s same h = (h.0, runs_seen f g sizes g
 runs_seen f g sizes goes (binary n c op p q) s same h =
     (h.0, h.1, runs_seen f g sizes goes p h.0 (in_left f g p q same) h.2, runs_seen f g sizes goes q h.1 (in_right f g p q same) h.3, h.4)
 runs_seen f g sizes goes (exchange n c k m p) s same h = (h.0, runs_seen f g sizes goes p h.0 same h.1, h.2)
+
+rows_seen : (f g : ℕ → List Row) (sizes : ℕ → ℕ) (p : Plan) → SameSeen f g p → most_rows f sizes p ≡ most_rows g sizes p
+rows_seen f g sizes (scan n c r m z) same = ap length (same r (same_number r))
+rows_seen f g sizes (unary n c op p) same = rows_seen f g sizes p same
+rows_seen f g sizes (binary n c union p q) same = rw (rows_seen f g sizes p (in_left f g p q same), rows_seen f g sizes q (in_right f g p q same))
+rows_seen f g sizes (binary n c (join merging on) p q) same = rw (rows_seen f g sizes p (in_left f g p q same), rows_seen f g sizes q (in_right f g p q same))
+rows_seen f g sizes (exchange n c k m p) same = ap (λ x. workers sizes (size p) * x) (rows_seen f g sizes p same)
+
+turns_seen : (f g : ℕ → List Row) (sizes : ℕ → ℕ) (p : Plan) → SameSeen f g p → most_turns f sizes p ≡ most_turns g sizes p
+turns_seen f g sizes (scan n c r m z) same = ap length (same r (same_number r))
+turns_seen f g sizes (unary n c op p) same = rw (rows_seen f g sizes p same, turns_seen f g sizes p same)
+turns_seen f g sizes (binary n c op p q) same =
+    let left_same = in_left f g p q same in
+    let right_same = in_right f g p q same in
+    rw (rows_seen f g sizes p left_same, rows_seen f g sizes q right_same, turns_seen f g sizes p left_same, turns_seen f g sizes q right_same)
+turns_seen f g sizes (exchange n c k m p) same = ap (λ x. workers sizes (size p) * (x + 1)) (rows_seen f g sizes p same)
+
+steps_seen : (f g : ℕ → List Row) (sizes : ℕ → ℕ) (consumers : ℕ) (p : Plan) → SameSeen f g p → worker_steps f sizes consumers p ≡ worker_steps g sizes consumers p
+steps_seen f g sizes consumers p same = rw (rows_seen f g sizes p same, turns_seen f g sizes p same)
+
+below_seen : (f g : ℕ → List Row) (sizes : ℕ → ℕ) (p : Plan) → SameSeen f g p → steps_below f sizes p ≡ steps_below g sizes p
+below_seen f g sizes (scan n c r m z) same = refl
+below_seen f g sizes (unary n c op p) same = below_seen f g sizes p same
+below_seen f g sizes (binary n c op p q) same = rw (below_seen f g sizes p (in_left f g p q same), below_seen f g sizes q (in_right f g p q same))
+below_seen f g sizes (exchange n c k m p) same = rw (steps_seen f g sizes (workers sizes (target k)) p same, below_seen f g sizes p same)
+
+pub rounds_seen : (f g : ℕ → List Row) (sizes : ℕ → ℕ) (p : Plan) → SameSeen f g p → rounds_needed f sizes p ≡ rounds_needed g sizes p
+rounds_seen f g sizes p same = rw (steps_seen f g sizes 0 p same, below_seen f g sizes p same)

@@ -1,5 +1,5 @@
 -- A run of a plan over rows of more relations than it scans is one over its share.
-use Rattle.std.proofs.Common.{◌≡◌, ◌∙◌, ℕ, zero, suc, ◌+◌, List, [], ◌∷◌, ◌++◌, length, Bool, true, false, cond, Option, Result, Ok, refl, sym, ap, subst, arith, slice_index_or, inl, inr}
+use Rattle.std.proofs.Common.{◌≡◌, ◌∙◌, ℕ, zero, suc, ◌+◌, ◌<◌, List, [], ◌∷◌, ◌++◌, length, Bool, true, false, cond, Option, Result, Ok, refl, sym, ap, subst, arith, slice_index_or, inl, inr}
 use Rattle.std.proofs.lemmas.List.{get_or_past}
 use Rattle.std.specs.Prelude.{◌||◌, IfOk}
 use Rattle.vx_values.specs.Values.{Row}
@@ -16,9 +16,10 @@ use Rattle.vx_plan_nodes.specs.Serial.{SerialResult, IsOverflow}
 use Rattle.vx_check_rules.specs.Claims.{Delivers}
 use Rattle.vx_plan_nodes.specs.Real.{IsReal}
 use Rattle.vx_plan_nodes.specs.Workers.{worker_group_at}
-use Rattle.vx_runs.specs.Runs.{IsRunOf, IsSetUp, IsTrueOf}
+use Rattle.vx_runs.specs.Runs.{IsRunOf, IsSetUp, IsTrueOf, NeedsMoreRounds}
 use Rattle.vx_runs.specs.Runs as fails
 use Rattle.vx_runs.specs.Sizes.{Sizes}
+use Rattle.vx_runs.specs.declared.runs.TheConstants.{MAX_ROUNDS}
 use Rattle.vx_rows.specs.View.{RowsView}
 use Rattle.vx_setup.specs.declared.fault.RunFault.{RunFault}
 use Rattle.vx_setup.specs.declared.fault.RunFault.TheVariants as run
@@ -31,7 +32,7 @@ use Rattle.vx_answer.specs.Commands.{Holding, IsRunOver, RunRefuses, for_rounds,
 use Rattle.vx_answer.specs.Planning.{exactly}
 use Rattle.vx_answer.specs.Files.{input_after}
 use Rattle.vx_answer.specs.Plans.{NamedPlan, AreAccepted, any_scans, IsLoadedFor, IsShareFor, IsRunIn, RunRefusesIn, AreAnswers, StopsAt}
-use Rattle.vx_answer.proofs.SeenFacts.{SameSeen, serial_seen, too_long_seen, large_part_seen, runs_seen}
+use Rattle.vx_answer.proofs.SeenFacts.{SameSeen, serial_seen, too_long_seen, large_part_seen, rounds_seen, runs_seen}
 
 -- rows of which the numbers are kept, counted from i; none of the others
 abbrev pub only_from : (ℕ → Bool) → ℕ → List (List Row) → List (List Row)
@@ -97,6 +98,11 @@ module _ (p : TypedPlanView) (holds : Holding) (all db : Database) (s : Setting)
   set_in : (sizes : Sizes) → IsSetUp p all s.setup sizes → IsSetUp p db s.setup sizes
   set_in sizes h = record { same = has.own.same; sizes = h.sizes }
 
+  needs_in : (sizes : Sizes) → NeedsMoreRounds p all sizes → NeedsMoreRounds p db sizes
+  needs_in sizes h =
+      let P : ℕ → Type 0 = λ n. MAX_ROUNDS < n in
+      subst P (rounds_seen (rows_at all) (rows_at db) (worker_group_at sizes.worker_groups) (plan_in p.root) same_rows) h
+
   true_in : (e : RunFault) → IsTrueOf p all e → IsTrueOf p db e
   true_in (run.SizeMissing name) h = h
   true_in (run.SizeOutOfRange name) h = h
@@ -128,7 +134,7 @@ module _ (p : TypedPlanView) (holds : Holding) (all db : Database) (s : Setting)
   fails_in e over (fails.for_fault sizes set h) = fails.for_fault sizes (set_in sizes set) (true_in e h)
 
   refuses_over : (e : Refusal) → all.catalog ≡ p.names.catalog → RunRefuses p all s e → RunRefuses p db s e
-  refuses_over e over (for_rounds rounds sizes set is) = for_rounds rounds sizes (set_in sizes set) is
+  refuses_over e over (for_rounds rounds sizes set needs is) = for_rounds rounds sizes (set_in sizes set) (needs_in sizes needs) is
   refuses_over e over (for_threads threads sizes set is) = for_threads threads sizes (set_in sizes set) is
   refuses_over e over (run_memory is) = run_memory is
   refuses_over e over (for_fault fault is h) = for_fault fault is (fails_in fault over h)

@@ -15,7 +15,7 @@ use Rattle.vx_check.specs.Accepted.{accepted_text}
 use Rattle.vx_check.specs.Explain.{explain_text}
 use Rattle.vx_check_rules.specs.declared.rule.Rule as rust_rule
 use Rattle.vx_runs.specs.Sizes.{Sizes}
-use Rattle.vx_runs.specs.Runs.{IsRunOf, IsSetUp, RunFails}
+use Rattle.vx_runs.specs.Runs.{IsRunOf, IsSetUp, NeedsMoreRounds, RunFails}
 use Rattle.vx_setup.specs.declared.fault.RunFault.{RunFault}
 use Rattle.vx_serial.specs.Results.{IsSerialOf, EvalFails}
 use Rattle.vx_setup.specs.declared.eval_fault.EvalFault.{EvalFault}
@@ -46,10 +46,10 @@ abbrev pub IsRunOver : TypedPlanView → Database → Setting → List ℕ → T
 IsRunOver p db setting text =
     (rows : RowsView) × (s : Sizes) × IsSetUp p db setting.setup s × IsRunOf byte_route p db s.worker_groups rows × (text ≡ csv_text (columns p.root).names rows.rows)
 
--- why a run of this plan over this database gives no text: it was set up rightly and its rounds were over or its threads were not started, memory ran out,
--- or it failed
+-- why a run of this plan over this database gives no text: it was set up rightly, and by rounds it may need more of them than a run makes, or its threads were
+-- not started; memory ran out; or it failed
 pub data RunRefuses (p : TypedPlanView) (db : Database) (setting : Setting) (e : Refusal) : Type 0 where
-  for_rounds : setting.mode ≡ mode.Rounds → (s : Sizes) → IsSetUp p db setting.setup s → e ≡ refusal.Unfinished → RunRefuses p db setting e
+  for_rounds : setting.mode ≡ mode.Rounds → (s : Sizes) → IsSetUp p db setting.setup s → NeedsMoreRounds p db s → e ≡ refusal.Unfinished → RunRefuses p db setting e
   for_threads : setting.mode ≡ mode.Threads → (s : Sizes) → IsSetUp p db setting.setup s → e ≡ refusal.Run run_fault.NoThread → RunRefuses p db setting e
   run_memory : e ≡ refusal.NoMemory → RunRefuses p db setting e
   for_fault : (fault : RunFault) → e ≡ refusal.Run fault → RunFails p db setting.setup fault → RunRefuses p db setting e

@@ -10,6 +10,7 @@ ghost use Rattle.vx_worker.specs.Fragment.{RunModel};
 ghost use Rattle.vx_steps.specs.Ready.{Settled};
 ghost use Rattle.vx_steps.specs.Headline.{Answers, IsAccepted};
 ghost use Rattle.vx_steps.specs.Endings.{ReportsFirst};
+ghost use Rattle.vx_steps.specs.Verdicts.{Judged};
 ghost use Rattle.vx_steps.specs.declared.verdict.RunState.TheVariants.{Unfinished};
 ghost use Rattle.vx_assembly.specs.Assembly.{WasRun};
 ghost use Rattle.vx_assembly.specs.Parts.{worker_in};
@@ -42,6 +43,7 @@ pub fn assemble<O: Source + Drop, S: Sends + Drop>(
     requires ran { (hash : List ℕ → Row → ℕ → ℕ) × (m : ℕ → ℕ → List Row) × (W : RunModel) × (p : Plan) × (W.sizes ≡ worker_group_at layout.now.worker_groups.items) × (layout.now.spans.items ≡ spans_of (worker_group_at layout.now.worker_groups.items) p 0 1)
         × WasRun O.Stands O.op S.Stands S.task S.post S.bounds hash m W p decks.items places.now joined.items }
     ensures workers { IfOk result (λ r. r.0.items ≡ map worker_in joined.items) }
+    ensures judged { IfOk result (λ r. Judged r.0.items r.1) }
     ensures whole { (hash : List ℕ → Row → ℕ → ℕ) (m : ℕ → ℕ → List Row) (W : RunModel) (p : Plan) → W.sizes ≡ worker_group_at layout.now.worker_groups.items → layout.now.spans.items ≡ spans_of (worker_group_at layout.now.worker_groups.items) p 0 1
         → WasRun O.Stands O.op S.Stands S.task S.post S.bounds hash m W p decks.items places.now joined.items
         → IfOk result (λ r. r.1 ≡ Unfinished → ⊥) }

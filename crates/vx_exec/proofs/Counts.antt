@@ -50,3 +50,7 @@ pub counts-none : (m : ℕ) (db : Database) (counts : List ℕ) → counts ≡ [
 counts-none m db counts e =
     let none : AreCounts m db 0 [] = record { count = refl; are = λ r h. absurd (omega (arith, h)); few = λ k d l. absurd (omega (arith, l)) } in
     subst (λ z. AreCounts m db 0 z) (sym e) none
+
+-- with morsels of one row there are as many as rows
+pub each-one : (n : ℕ) → morsel_count 1 n ≡ n
+each-one n = omega arith

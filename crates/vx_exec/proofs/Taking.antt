@@ -1,5 +1,5 @@
 -- The producers from which a worker takes are those of the leaves of its fragment.
-use Rattle.std.proofs.Common.{ℕ, ◌≡◌, ◌<◌, ◌⊎◌, inl, inr, sym, ap, ◌∙◌, subst, arith}
+use Rattle.std.proofs.Common.{ℕ, ◌≡◌, ◌<◌, inl, inr, sym, ap, ◌∙◌, subst, arith}
 use Rattle.std.proofs.lemmas.List.Elements.{Contains-append_cases}
 use Rattle.std.specs.List.{Contains}
 use Rattle.vx_rows.specs.Lists.{each_below}
@@ -11,7 +11,7 @@ use Rattle.vx_steps.proofs.Each.{each-length, each-at}
 use Rattle.vx_exec.specs.Inputs.{inputs_of}
 
 -- one of the producers of an exchange
-one-of : (n count x i : ℕ) → Contains (each_below count (λ k. (n, k))) (x, i) → (n ≡ x) × (i < count)
+one-of : (n count x i : ℕ) → Contains {X = ℕ × ℕ} (each_below count (λ k. (n, k))) (x, i) → (n ≡ x) × (i < count)
 one-of n count x i h =
     let f : ℕ → ℕ × ℕ = λ k. (n, k) in
     let k : ℕ = h.0 in
@@ -20,7 +20,7 @@ one-of n count x i h =
     let is : f k ≡ (x, i) = sym (each-at count f k (x, i) within) ∙ h.2 in
     (ap (λ (s : ℕ × ℕ). s.0) is, subst (λ z. z < count) (ap (λ (s : ℕ × ℕ). s.1) is) within)
 
-pub inputs-take : (S : RunModel) (place : ℕ) (p : Plan) (x i : ℕ) → Contains (inputs_of S.sizes p) (x, i) → TakesFrom x i (fragment S place p)
+pub inputs-take : (S : RunModel) (place : ℕ) (p : Plan) (x i : ℕ) → Contains {X = ℕ × ℕ} (inputs_of S.sizes p) (x, i) → TakesFrom x i (fragment S place p)
 inputs-take S place (scan n c r m z) x i h = let l = h.1 in absurd (omega (arith, l))
 inputs-take S place (unary n c op p) x i h = inputs-take S place p x i h
 inputs-take S place (binary n c op p q) x i h = elim (Contains-append_cases (inputs_of S.sizes p) (inputs_of S.sizes q) (x, i) h) [

@@ -26,7 +26,7 @@ use Rattle.vx_exec.specs.declared.crew.Crew.{Crew}
 use Rattle.vx_exec.specs.declared.job.Job.{Job}
 use Rattle.vx_runs.specs.declared.outcome.RunOutcome.{RunOutcome}
 use Rattle.vx_parallel.specs.Crew.{AreNew}
-use Rattle.vx_parallel.specs.Parallel.{IsCountedCrew, CountedByThreads}
+use Rattle.vx_parallel.specs.Parallel.{IsJoinedCrew, RanByThreads, IsCountedCrew, CountedByThreads}
 
 -- the workers of a crew are new
 pub new-parts : (j : Job) (crew : Crew) (ws : Vec (Worker Operator Destination) Global) (w : LinksView) → ws ≡ crew.workers → w ≡ board_of crew
@@ -59,6 +59,10 @@ refusal-reported P (Err y) e handed h memory thread = elim h [
 
 module _ (hash : List ℕ → Row → ℕ → ℕ) (W : RunModel) (p : Plan) where
   -- the workers came to this, whatever it is
+  pub ran-reported : (r : Result RunOutcome RunFault) → IsJoinedCrew hash W p r → RanByThreads hash W p r
+  ran-reported (Ok x) h = h
+  ran-reported (Err e) h = inr (inr h)
+
   pub counted-reported : (r : Result RunOutcome RunFault) (counts : List WorkerCounts) → IsCountedCrew hash W p r counts → CountedByThreads hash W p r counts
   counted-reported (Ok x) counts h = h
   counted-reported (Err e) counts h = inr (inr h)

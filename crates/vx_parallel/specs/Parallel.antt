@@ -10,6 +10,7 @@ use Rattle.vx_operators.specs.Destination.{DestinationStands, task_of, post_of, 
 use Rattle.vx_operators.specs.declared.operator.Operator.{Operator}
 use Rattle.vx_operators.specs.declared.destination.Destination.{Destination}
 use Rattle.vx_steps.specs.Ready.{Settled}
+use Rattle.vx_steps.specs.Verdicts.{Judged}
 use Rattle.vx_plan_nodes.specs.Workers.{crew_size}
 use Rattle.vx_steps.specs.declared.verdict.RunState.{RunState}
 use Rattle.vx_decks.specs.Seats.{DeckView}
@@ -39,14 +40,24 @@ module _ (hash : List ℕ → Row → ℕ → ℕ) (W : RunModel) (p : Plan) whe
     pub workers : ended ≡ map worker_in joined
     pub settled : Settled task_of W p ended verdict
 
-  -- the workers that were joined came to this result, and these are their counts in the end, of each its own
-  pub record IsCountedCrew (result : Result RunOutcome RunFault) (counts : List WorkerCounts) : Type 0 where
+  -- the workers that were joined came to this result: all have ended, and a fault is that of the lowest-numbered one of them that failed by itself
+  pub record IsJoinedCrew (result : Result RunOutcome RunFault) : Type 0 where
     pub ended : List (Worker Operator Destination)
     pub as_many : length ended ≡ crew_size W.sizes p
     pub verdict : RunState
     pub joined : WereJoined ended verdict
+    pub judged : Judged ended verdict
     pub comes : ComesTo ended verdict result
-    pub counted : AreCountsOf ended counts
+
+  -- memory or a thread was refused, or threads ran workers to their end
+  abbrev pub RanByThreads : Result RunOutcome RunFault → Type 0
+  RanByThreads (Ok r) = IsJoinedCrew (Ok r)
+  RanByThreads (Err e) = (e ≡ fault.NoMemory) ⊎ (e ≡ fault.NoThread) ⊎ IsJoinedCrew (Err e)
+
+  -- and these are the counts of those workers in the end, of each its own
+  pub record IsCountedCrew (result : Result RunOutcome RunFault) (counts : List WorkerCounts) : Type 0 where
+    pub run : IsJoinedCrew result
+    pub counted : AreCountsOf run.ended counts
 
   -- memory or a thread was refused, or threads ran workers to their end, and these counted this
   abbrev pub CountedByThreads : Result RunOutcome RunFault → List WorkerCounts → Type 0

@@ -15,7 +15,8 @@ ghost use Rattle.vx_runs.specs.Promise.{NoThreadStarted};
 ghost use Rattle.vx_exec.specs.Promise.{CrewPromise, PromiseOnceSet, WhereSet};
 ghost use Rattle.vx_parallel.specs.Crew.{IsWiringOf, AreNew, AreHonest, IsAcceptedJob, HaveRun};
 ghost use Rattle.vx_runs.specs.Runs.{IsWhole};
-ghost use Rattle.vx_parallel.specs.Parallel.{NeedsFew, WereJoined, CountedByThreads};
+ghost use Rattle.vx_parallel.specs.Parallel.{NeedsFew, WereJoined, RanByThreads, CountedByThreads};
+ghost use Rattle.vx_steps.specs.Verdicts.{Judged};
 
 use crate::members::members_of;
 use crate::places::places_of;
@@ -62,6 +63,7 @@ fn run_crew<R: Router + Sync, G: Gate + Sync, T: Threads + Wait + Sync>(
     requires wired { IsWiringOf job.now wiring }
     ensures run { IsAcceptedJob (R.route_of router.now) job.now → IfOk result (λ r. HaveRun (R.route_of router.now) job.now workers.items r.0.items r.1) }
     ensures joined { IfOk result (λ r. WereJoined (R.route_of router.now) (model_of (R.route_of router.now) job.now) (whole_plan job.now.plan.now) r.0.items r.1) }
+    ensures judged { IfOk result (λ r. Judged r.0.items r.1) }
     ensures fault { IfErr result (λ e. (e ≡ NoMemory) ⊎ (e ≡ NoThread)) }
 {
     let Wiring {
@@ -93,6 +95,7 @@ fn run_job<R: Router + Sync, G: Gate + Sync, T: Threads + Wait + Sync>(
     ensures run { PromiseOnceSet (R.route_of router.now) NoThreadStarted job.now.plan.now job.now.database.now (sizes_of job.now) result }
     ensures whole { IfOk result IsWhole }
     ensures few { NeedsFew most (crew_size (worker_group_at job.now.layout.worker_groups.items) (whole_plan job.now.plan.now)) result }
+    ensures joined { RanByThreads (R.route_of router.now) (model_of (R.route_of router.now) job.now) (whole_plan job.now.plan.now) result }
     ensures counted { is_wanted counts.old ≡ true
         → CountedByThreads (R.route_of router.now) (model_of (R.route_of router.now) job.now) (whole_plan job.now.plan.now) result (counts_in counts.new) }
 {
@@ -152,6 +155,7 @@ pub fn run_threads<R: Router + Sync, G: Gate + Sync, T: Threads + Wait + Sync>(
     ensures promise { CrewPromise (R.route_of threading.now.router.now) NoThreadStarted (typed_plan plan.now) database.now setup.now result }
     ensures whole { IfOk result IsWhole }
     ensures few { WhereSet (R.route_of threading.now.router.now) (typed_plan plan.now) database.now setup.now (λ W p. NeedsFew threading.now.most (crew_size W.sizes p) result) }
+    ensures joined { WhereSet (R.route_of threading.now.router.now) (typed_plan plan.now) database.now setup.now (λ W p. RanByThreads (R.route_of threading.now.router.now) W p result) }
     ensures counted { is_wanted counts.old ≡ true
         → WhereSet (R.route_of threading.now.router.now) (typed_plan plan.now) database.now setup.now
         (λ W p. CountedByThreads (R.route_of threading.now.router.now) W p result (counts_in counts.new)) }

@@ -1,14 +1,15 @@
-use Rattle.std.proofs.Common.{refl, rules, subst, Ok}
+use Rattle.std.proofs.Common.{◌≡◌, refl, rules, subst, Ok}
 use Rattle.std.proofs.lemmas.Result.{err_from_is_err_and}
-use Rattle.vx_runs.specs.Runs.{IfDone, IsRunOf, IsSetUp}
+use Rattle.vx_runs.specs.Runs.{IfDone, IfUnfinished, IsRunOf, IsSetUp, NeedsMoreRounds}
 use Rattle.vx_runs.specs.Sizes.{Sizes}
 use Rattle.vx_setup.specs.Counts.{counts_in}
+use Rattle.vx_setup.specs.declared.setting.Mode.TheVariants as mode
 use Rattle.vx_runs.specs.declared.outcome.RunOutcome.{RunOutcome}
 use Rattle.vx_plan_nodes.specs.ByteRouter.{byte_route}
 use Rattle.vx_plan_nodes.specs.TypedView.{resolved_of}
 use Rattle.vx_check_rules.specs.CheckedView.{typed_plan}
 use Rattle.vx_answer.specs.Commands.{for_rounds}
-use Rattle.vx_answer.proofs.Refusing.{fault_refused, in_rounds, not_whole}
+use Rattle.vx_answer.proofs.Refusing.{fault_refused}
 use Rattle.vx_answer.proofs.StatsFacts.{where_asked}
 use Rattle.vx_answer.proofs.run.run_over.Goals as goal
 
@@ -19,9 +20,12 @@ returns-in_err-rows-clause-refused g c =
 
 pub returns-in-Unfinished-clause-refused : goal.returns-in-Unfinished-clause-refused
 returns-in-Unfinished-clause-refused g c =
-    let set = c.in_ok-rows.ensures.promise.set in
-    let rounds = in_rounds c.args.setting.now.mode (λ threads. not_whole c.run.result c.in_ok-rows.field-0 c.in_ok-rows.was c.in-Unfinished.is (c.run.ensures.whole threads)) in
-    for_rounds rounds set.0 set.1 refl
+    let p = resolved_of (typed_plan c.args.plan.now) in
+    let db = c.args.database.now in
+    let setting = c.args.setting.now in
+    let gives_up = (setting.mode ≡ mode.Rounds) × ((s : Sizes) × IsSetUp p db setting.setup s × NeedsMoreRounds p db s) in
+    let more : gives_up = subst (λ (r : RunOutcome). IfUnfinished gives_up r) c.in-Unfinished.is c.in_ok-rows.ensures.unfinished in
+    for_rounds more.0 more.1.0 more.1.1 more.1.2 refl
 
 pub returns-in_ok-text_of-in-Done-clause-run : goal.returns-in_ok-text_of-in-Done-clause-run
 returns-in_ok-text_of-in-Done-clause-run g c = λ f asked.

@@ -65,6 +65,9 @@ close_decks-requires-clause-apart g c =
 pub returns-clause-workers : goal.returns-clause-workers
 returns-clause-workers g c = c.in_ok-workers.ensures.workers
 
+pub returns-clause-judged : goal.returns-clause-judged
+returns-clause-judged g c = subst (λ z. Judged z c.judge-verdict.result) c.as_slice.ensures.value c.judge-verdict.ensures
+
 pub returns-clause-whole : goal.returns-clause-whole
 returns-clause-whole g c = λ hash m W p sized laid run unfinished.
     let js = c.args.joined.items in

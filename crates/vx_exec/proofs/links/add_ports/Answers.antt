@@ -1,4 +1,3 @@
-use Rattle.std.proofs.Common.{refl}
 use Rattle.vx_rows.specs.Lists.{each_below}
 use Rattle.vx_steps.specs.Queues.{open_line}
 use Rattle.vx_exec.proofs.Each.{each-begun, each-pushed, each-alike}

@@ -9,9 +9,9 @@ use Rattle.vx_exec.specs.Job.{model_of, sizes_of}
 use Rattle.vx_exec.specs.Promise.{PromiseOnceSet}
 use Rattle.vx_exec.proofs.Finishing.{job-accepted, ready-parts, ready-count, has-ended, first-types, not-passed, comes-kept}
 use Rattle.vx_runs.specs.Promise.{NoThreadStarted}
-use Rattle.vx_parallel.specs.Parallel.{NeedsFew, CountedByThreads}
+use Rattle.vx_parallel.specs.Parallel.{NeedsFew, IsJoinedCrew, RanByThreads, CountedByThreads}
 use Rattle.vx_exec.proofs.Outcomes.{comes-whole}
-use Rattle.vx_parallel.proofs.Ends.{new-parts, refusal-reported, counted-reported, same-count}
+use Rattle.vx_parallel.proofs.Ends.{new-parts, refusal-reported, ran-reported, counted-reported, same-count}
 use Rattle.vx_parallel.proofs.run.run_job.Goals as goal
 
 pub run_crew-requires-clause-new : goal.run_crew-requires-clause-new
@@ -51,17 +51,22 @@ returns g c =
     let run = has-ended j hash parts.result.0.items x.0.items parts.result.1 x.1 begun ran.roles ran.answers ran.first in
     let r = c.answer_of.result in
     let count = ready-count j hash parts.result.0 parts.result.1 begun in
+    let crew : IsJoinedCrew hash W p r = record {
+      ended = x.0.items;
+      as_many = same-count parts.result.0 x.0.items ran.roles ∙ count;
+      verdict = x.1;
+      joined = c.in_ok-ended.ensures.joined;
+      judged = c.in_ok-ended.ensures.judged;
+      comes = c.answer_of.ensures;
+    } in
     record {
       run = comes-kept NoThreadStarted x.1 r run c.answer_of.ensures;
       whole = comes-whole x.0.items x.1 r ran.whole c.answer_of.ensures;
       few = λ lt. absurd (omega (arith, lt, count));
+      joined = ran-reported hash W p r crew;
       counted = λ wanted.
           counted-reported hash W p r (counts_in c.keep_counts.new.counts) (record {
-            ended = x.0.items;
-            as_many = same-count parts.result.0 x.0.items ran.roles ∙ count;
-            verdict = x.1;
-            joined = c.in_ok-ended.ensures.joined;
-            comes = c.answer_of.ensures;
+            run = crew;
             counted = subst (λ ws. AreCountsOf ws (counts_in c.keep_counts.new.counts)) c.as_slice.ensures.value (c.in_ok-keep_counts.ensures.counts wanted);
           });
     }
@@ -81,5 +86,6 @@ returns-in_err-ended g c =
           (record { done = tt; failed = inl tt; first = inl (inl refl) }) (record { done = tt; failed = inr refl; first = inr refl });
       whole = search rules;
       few = refusal-reported (λ z. NeedsFew c.args.most (crew_size W.sizes p) z) r e handed refused (λ few. inr refl) (λ few. inl refl);
+      joined = refusal-reported (λ z. RanByThreads hash W p z) r e handed refused (inl refl) (inr (inl refl));
       counted = λ wanted. refusal-reported (λ z. CountedByThreads hash W p z (counts_in c.args.counts.now)) r e handed refused (inl refl) (inr (inl refl));
     }

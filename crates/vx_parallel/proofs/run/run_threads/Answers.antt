@@ -3,7 +3,7 @@ use Rattle.vx_plan_nodes.specs.Workers.{crew_size}
 use Rattle.vx_setup.specs.Counts.{counts_in}
 use Rattle.vx_exec.proofs.Outcomes.{made-of, NoJobOf, where-set, nothing-ran, promise-kept, promise-refused}
 use Rattle.vx_runs.specs.Promise.{NoThreadStarted}
-use Rattle.vx_parallel.specs.Parallel.{NeedsFew, CountedByThreads}
+use Rattle.vx_parallel.specs.Parallel.{NeedsFew, RanByThreads, CountedByThreads}
 use Rattle.vx_parallel.proofs.run.run_threads.Goals as goal
 
 pub returns : goal.returns
@@ -15,6 +15,7 @@ returns g c =
       promise = promise-kept hash NoThreadStarted r made c.run_job.ensures.run;
       whole = c.run_job.ensures.whole;
       few = where-set hash (λ W q. NeedsFew c.args.threading.now.most (crew_size W.sizes q) r) made c.run_job.ensures.few;
+      joined = where-set hash (λ W q. RanByThreads hash W q r) made c.run_job.ensures.joined;
       counted = λ wanted. where-set hash (λ W q. CountedByThreads hash W q r (counts_in c.run_job.new.counts)) made (c.run_job.ensures.counted wanted);
     }
 
@@ -29,5 +30,6 @@ returns-in_err-job g c =
       promise = promise-refused hash NoThreadStarted r e handed none;
       whole = search rules;
       few = nothing-ran hash (λ W q z. NeedsFew c.args.threading.now.most (crew_size W.sizes q) z) r e handed none (λ W q few. inr refl);
+      joined = nothing-ran hash (λ W q z. RanByThreads hash W q z) r e handed none (λ W q. inl refl);
       counted = λ wanted. nothing-ran hash (λ W q z. CountedByThreads hash W q z (counts_in c.args.counts.now)) r e handed none (λ W q. inl refl);
     }

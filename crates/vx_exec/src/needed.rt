@@ -1,0 +1,49 @@
+//! How many rounds a run needs at most.
+
+ghost use Rattle.std.specs.Prelude.{◌≡◌, ℕ, List, IfOk, IfErr};
+ghost use Rattle.vx_values.specs.Values.{Row};
+ghost use Rattle.vx_catalog.specs.Database.{rows_at};
+ghost use Rattle.vx_plan_nodes.specs.TypedView.{resolved_of, plan as whole_plan};
+ghost use Rattle.vx_check_rules.specs.CheckedView.{typed_plan};
+ghost use Rattle.vx_plan_nodes.specs.Workers.{worker_group_at};
+ghost use Rattle.vx_layout.specs.Needed.{capped, rounds_needed as rounds_by_definition, AreSizesOf};
+ghost use Rattle.vx_runs.specs.Runs.{IsSetUp, RunFails};
+ghost use Rattle.vx_runs.specs.Sizes.{Sizes};
+
+use crate::setup::job_of;
+use std::alloc::{AllocError, Global};
+use vx_catalog::Database;
+use vx_check_rules::CheckedPlan;
+use vx_layout::rounds_needed as rounds_of;
+use vx_setup::{RunFault, Setup};
+
+// How many rows each relation of a database has, by its number.
+fn row_counts(alloc: Global, database: &Database) -> Result<Vec<u64>, AllocError>
+    ensures { IfOk result (λ v. AreSizesOf (rows_at database.now) v.items) }
+{
+    let relations = database.catalog().len();
+    let mut counts = Vec::with_capacity(alloc, relations)?;
+    for relation in 0..relations {
+        counts.push(database.rows(relation).len() as u64)?;
+    }
+    Ok(counts)
+}
+
+/// How many rounds a run of a plan over a database needs at most: `run_rounds` with this limit does not end unfinished, nor does
+/// `run_scheduled` by a schedule that holds so many rounds. A number that 64 bits do not hold comes back as `u64::MAX`. A setup that is not
+/// right is refused as a run would refuse it.
+pub fn rounds_needed(
+    alloc: Global,
+    plan: &CheckedPlan,
+    database: &Database,
+    setup: &Setup,
+) -> Result<u64, RunFault>
+    ensures needed { (s : Sizes) → IsSetUp (resolved_of (typed_plan plan.now)) database.now setup.now s
+        → IfOk result (λ n. n ≡ capped (rounds_by_definition (rows_at database.now) (worker_group_at s.worker_groups) (whole_plan (typed_plan plan.now)))) }
+    ensures refused { IfErr result (RunFails (resolved_of (typed_plan plan.now)) database.now setup.now) }
+{
+    let job = job_of(alloc, plan.plan(), database, setup)?;
+    let counts = row_counts(alloc, database)?;
+    let groups = job.layout().worker_groups();
+    Ok(rounds_of(job.plan(), groups, counts.as_slice()))
+}
