@@ -9,7 +9,10 @@ use Rattle.vx_ends.specs.Sending.{RoutesAs}
 use Rattle.vx_setup.specs.declared.counts.StepCounts.{StepCounts}
 use Rattle.vx_worker.specs.Counts.{with_event, with_answer}
 use Rattle.vx_worker.specs.Trace.{Trace, Event, added}
-use Rattle.vx_worker.specs.Worker.{role_of, sender_of, counts_of, WorkerStands}
+use Rattle.vx_ops.specs.Turn.{Coming}
+use Rattle.vx_worker.specs.Trees.{shape, IsFormed}
+use Rattle.vx_worker.specs.Remaining.{Spends}
+use Rattle.vx_worker.specs.Worker.{role_of, sender_of, tree_of, inputs_of, counts_of, WorkerStands}
 use Rattle.vx_worker.specs.declared.worker.StepOutcome.{StepOutcome}
 use Rattle.vx_worker.specs.declared.worker.Worker.{Worker}
 use Rattle.vx_threads.specs.Holds.{Hold, Bears, SameEnds}
@@ -36,3 +39,12 @@ module _ {O S : Type 0} (OS : O → Ledger → Type 0) (op : O → Op) (SS : S �
     pub traces : (goes : Routing) → RoutesAs (post (sender_of w)) (bounds (sender_of w)) hash goes
         → (t : Trace) → WorkerStands OS op SS task goes m w t → Bears a t
         → WorkerStands OS op SS task goes m v (trace_with t steps) × Bears b (trace_with t steps)
+
+-- the worker made one step: it counted it, and spent one of those that it had left where it went on
+pub record HasStepped {O S : Type 0} (OS : O → Ledger → Type 0) (op : O → Op) (most idle_turns : O → Coming → ℕ) (SS : S → Routing → Stream → (ℕ → List PacketView) → Type 0)
+    (task : S → Task) (post : S → Post) (held : S → ℕ → ℕ) (unclosed : S → ℕ) (m : ℕ → ℕ → List Row) (w v : Worker O S) : Type 0 where
+  pub event : Event
+  pub answer : StepOutcome
+  pub counts : counts_of v ≡ with_answer (with_event (counts_of w) event) answer
+  pub spends : (goes : Routing) (t : Trace) → IsFormed (shape op (tree_of w)) → WorkerStands OS op SS task goes m w t
+      → Spends most idle_turns post held unclosed m (shape op (tree_of w)) (inputs_of w) w v t event answer

@@ -7,7 +7,7 @@ ghost use Rattle.vx_worker.specs.declared.worker.StepOutcome.TheVariants as Step
 ghost use Rattle.vx_threads.specs.Carrying.{hold_of};
 ghost use Rattle.vx_threads.specs.Inlets.{IsGathered};
 ghost use Rattle.vx_threads.specs.Waking.{NoneNoted};
-ghost use Rattle.vx_threads.specs.Ran.{Ran};
+ghost use Rattle.vx_threads.specs.Ran.{Ran, HasStepped};
 ghost use Rattle.vx_threads.specs.declared.wires.Room.TheVariants as Room;
 
 use crate::ends::Ends;
@@ -106,6 +106,7 @@ fn step_in_thread<O: Source, S: Sends, G: Morsels, R: Router, H: Gate>(
     ensures ended { result ≡ StepOutcome.Ended → IsSome (outcome_of worker.new) }
     ensures gathered { result ≡ StepOutcome.Waiting → wires.new.room ≡ Room.There → All IsGathered wires.new.ends.ins.items }
     ensures woken { result ≡ StepOutcome.Waiting → NoneNoted wires.new.ends.unwoken }
+    ensures stepped { HasStepped O.Stands O.op O.most O.idle S.Stands S.task S.post S.held S.unclosed (G.morsel_of morsels.now) worker.old worker.new }
     ensures ran { Ran O.Stands O.op S.Stands S.task S.post S.bounds (R.route_of router.now) (G.morsel_of morsels.now)
         worker.old (hold_of wires.old.ends) worker.new (hold_of wires.new.ends) }
 {
