@@ -1,5 +1,5 @@
 -- From one step's refusal to the refusal of the whole.
-use Rattle.std.proofs.Common.{arith, ◌≡◌, ◌≢◌, ◌⊎◌, inl, inr, ◌∙◌, ℕ, List, Bool, Option, Result, Ok, Err, refl, sym, ap, subst}
+use Rattle.std.proofs.Common.{arith, ◌≡◌, ◌≢◌, ◌⊎◌, inl, inr, ◌∙◌, ℕ, List, Bool, Option, Result, Ok, Err, refl, sym, ap}
 use Rattle.std.specs.Prelude.{IfOk, IfErr}
 use Rattle.vx_catalog.specs.Database.{Database}
 use Rattle.vx_plan_nodes.specs.Names.{TypedPlanView}
