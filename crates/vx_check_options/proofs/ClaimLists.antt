@@ -98,6 +98,12 @@ last-put (Ok at) q order F C x new more old below is its all here put =
     (x keys, is keys put.1, there, put.3 ∙ ap (λ cs. cs ++ last ∷ []) here ∙ append_assoc old below (last ∷ []) ∙ ap (λ cs. old ++ cs) (sym (all keys)))
 last-put (Err e) q order F C x new more old below is its all here put = tt
 
+-- the parts of two inputs, each by an equal one
+pub both-parts : (catalog : ℕ → Relation) (p : Plan) (q a b x y : Part) (ls rs lefts rights : List Part) → a ≡ x → b ≡ y → (x, y) ≡ parts_below catalog p q ls rs → ls ≡ lefts → rs ≡ rights
+    → (a, b) ≡ parts_below catalog p q lefts rights
+both-parts catalog p q a b x y ls rs lefts rights e f g h k =
+    ap (λ u. (u, b)) e ∙ ap (λ v. (x, v)) f ∙ g ∙ ap (λ l. parts_below catalog p q l rs) h ∙ ap (λ r. parts_below catalog p q lefts r) k
+
 -- claims under an equal part and an equal order
 pub claimed-as : (catalog : ℕ → Relation) (p : Plan) (q r : Part) (order other : List ℕ) (y : Plan) → q ≡ r → order ≡ other → IsClaimed catalog p q order y → IsClaimed catalog p r other y
 claimed-as catalog p q r order other y e f is =

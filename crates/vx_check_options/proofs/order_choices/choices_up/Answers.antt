@@ -1,4 +1,4 @@
-use Rattle.std.proofs.Common.{◌∙◌, ◌++◌, ℕ, List, Vec, Global, map, ap, sym, refl, arith}
+use Rattle.std.proofs.Common.{◌∙◌, ◌++◌, ℕ, List, Vec, Global, map, sym, refl, arith}
 use Rattle.std.proofs.lemmas.List.{append-nil, at_drop_all}
 use Rattle.vx_plan_nodes.specs.DescribeView.{copying_of}
 use Rattle.vx_check_options.specs.Options.{places_up}

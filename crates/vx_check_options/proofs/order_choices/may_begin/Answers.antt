@@ -1,4 +1,4 @@
-use Rattle.std.proofs.Common.{◌≡◌, ◌∙◌, ◌<◌, ◌&&◌, Bool, length, get_or, ap, sym, refl, arith}
+use Rattle.std.proofs.Common.{◌≡◌, ◌∙◌, ◌<◌, length, get_or, sym, refl, arith}
 use Rattle.vx_check_rules.specs.Rules.{contains}
 use Rattle.vx_check_rules.specs.Seen.{columns_seen}
 use Rattle.vx_check_options.proofs.OptionFacts.{contains-as, narrowed-short, begin-more, begin-all}
