@@ -1,6 +1,7 @@
 -- The claims of a plan, node by node, as the program puts them behind one another.
-use Rattle.std.proofs.Common.{◌≡◌, ℕ, zero, suc, Bool, ◌||◌, Some, slice_get, get_or, List, map, ◌<◌, arith, [], ◌∷◌, ◌++◌, length, refl, sym, ap, ◌∙◌, subst, append_assoc, Result, Ok, Err}
+use Rattle.std.proofs.Common.{◌≡◌, ℕ, zero, suc, Bool, true, ◌&&◌, ◌||◌, Some, slice_get, get_or, List, map, ◌<◌, arith, [], ◌∷◌, ◌++◌, length, refl, sym, ap, ◌∙◌, subst, append_assoc, Result, Ok, Err}
 use Rattle.std.specs.Result.{IfOk}
+use Rattle.vx_values.proofs.Booleans.{and-right}
 use Rattle.vx_relations.specs.Relation.{Relation}
 use Rattle.vx_plan_nodes.specs.Plan.{Part, Claim, Unary, Binary, ExchangeKind, Size, Plan, scan, unary, binary, exchange, claim, size, is_one}
 use Rattle.vx_plan_nodes.specs.declared.typed.Claim as rust_claim
@@ -14,7 +15,7 @@ use Rattle.vx_check_options.specs.Options.{no_input, parts_at, places_at}
 use Rattle.vx_check_options.specs.Placed.{order_along, order_below, left_order, right_order, order_sent, parts_below, part_sent}
 use Rattle.vx_check_options.specs.FoundKeys.{show, FoundKeys}
 use Rattle.vx_check_options.proofs.WithoutKeys.{claimed-width}
-use Rattle.vx_check_options.specs.Claimed.{note, keys_of, keys_at, FoundAt, IsClaimed, reversed_claims}
+use Rattle.vx_check_options.specs.Claimed.{note, names_keys_at, names_keys, keys_of, keys_at, FoundAt, IsClaimed, reversed_claims}
 
 -- what was found of a node's claimed keys
 pub found-at : (catalog : ℕ → Relation) (p : Plan) (lefts rights claimed found : List (List ℕ)) → claimed ≡ (claim p).keys
@@ -57,6 +58,14 @@ exchange-claimed catalog p n c k merge below is q order keys y i f =
     let P : Plan → Type 0 = λ x. FoundAt catalog x (claim y).keys [] keys → IsClaimed catalog x q order (exchange n (note q order keys) k merge y) in
     subst P (sym is) (λ g. (keys, y, refl, i, g)) f
 
+-- columns that the claimed keys of a whole plan name are named at its top
+pub names-here : (catalog : ℕ → Relation) (p : Plan) → names_keys catalog p ≡ true → names_keys_at catalog p ≡ true
+names-here catalog (scan n c r m z) h = h
+names-here catalog (unary n c op p) h = and-right (names_keys catalog p) (names_keys_at catalog (unary n c op p)) h
+names-here catalog (binary n c op p q) h =
+    and-right (names_keys catalog q) (names_keys_at catalog (binary n c op p q)) (and-right (names_keys catalog p) (names_keys catalog q && names_keys_at catalog (binary n c op p q)) h)
+names-here catalog (exchange n c k m p) h = and-right (names_keys catalog p) (names_keys_at catalog (exchange n c k m p)) h
+
 -- ---- claims behind others
 
 get-more : (xs ys : List Claim) (i : ℕ) (c : Claim) → slice_get xs i ≡ Some c → slice_get (xs ++ ys) i ≡ Some c
@@ -97,6 +106,12 @@ last-put (Ok at) q order F C x new more old below is its all here put =
     let there : slice_get new at ≡ Some (claim (x keys)) = ap (λ cs. slice_get cs at) put.3 ∙ ap (slice_get (more ++ last ∷ [])) put.2 ∙ get-last more last ∙ ap (λ c. Some c) (sym (its keys)) in
     (x keys, is keys put.1, there, put.3 ∙ ap (λ cs. cs ++ last ∷ []) here ∙ append_assoc old below (last ∷ []) ∙ ap (λ cs. old ++ cs) (sym (all keys)))
 last-put (Err e) q order F C x new more old below is its all here put = tt
+
+-- the parts of two inputs, each by an equal one
+pub both-parts : (catalog : ℕ → Relation) (p : Plan) (q a b x y : Part) (ls rs lefts rights : List Part) → a ≡ x → b ≡ y → (x, y) ≡ parts_below catalog p q ls rs → ls ≡ lefts → rs ≡ rights
+    → (a, b) ≡ parts_below catalog p q lefts rights
+both-parts catalog p q a b x y ls rs lefts rights e f g h k =
+    ap (λ u. (u, b)) e ∙ ap (λ v. (x, v)) f ∙ g ∙ ap (λ l. parts_below catalog p q l rs) h ∙ ap (λ r. parts_below catalog p q lefts r) k
 
 -- claims under an equal part and an equal order
 pub claimed-as : (catalog : ℕ → Relation) (p : Plan) (q r : Part) (order other : List ℕ) (y : Plan) → q ≡ r → order ≡ other → IsClaimed catalog p q order y → IsClaimed catalog p r other y

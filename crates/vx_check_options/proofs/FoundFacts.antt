@@ -307,6 +307,15 @@ choices-next cols ds longer choices rest old mid found i e l h f g =
     let more : Finds (IsChoice (with_column cols (get_or ds i 0)) rest) (IsMet (with_column cols (get_or ds i 0)) rest) mid found = subst (λ c. Finds (IsChoice c rest) (IsMet c rest) mid found) l g in
     subst (λ cs. Finds (IsChoice cols cs) (IsMet cols (take (i + 1) ds ∷ rest)) old found) (sym e) (choices-step cols ds rest old mid found i (get_or ds i 0) h refl here more)
 
+-- before the first column of a choice, and behind its last one
+pub choices-start : (cols : List ℕ) (choices rest keys : List (List ℕ)) → Finds (IsChoice cols choices) (IsMet cols ([] ∷ rest)) keys keys
+choices-start cols choices rest keys = finds-none (IsChoice cols choices) (IsMet cols ([] ∷ rest)) keys (λ l x w. let m : false ≡ true = w.meets in cc)
+
+pub choices-done : (cols ds : List ℕ) (choices rest old found : List (List ℕ)) (i : ℕ) → choices ≡ ds ∷ rest → length ds ≤ i
+    → Finds (IsChoice cols choices) (IsMet cols (take i ds ∷ rest)) old found → Finds (IsChoice cols choices) (IsMet cols choices) old found
+choices-done cols ds choices rest old found i e past f =
+    subst (λ cs. Finds (IsChoice cols choices) (IsMet cols cs) old found) (sym e) (subst (λ xs. Finds (IsChoice cols choices) (IsMet cols (xs ∷ rest)) old found) (take_all i ds past) f)
+
 -- where no choice is left, the columns alone
 pub finds-last : (cols key : List ℕ) (choices old found : List (List ℕ)) → choices ≡ [] → key ≡ cols → are_distinct cols ≡ true → length old < 16 → found ≡ with_key old key → Finds (IsChoice cols choices) (IsMet cols choices) old found
 finds-last cols key choices old found e k d l f =

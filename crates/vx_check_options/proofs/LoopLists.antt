@@ -1,13 +1,24 @@
 -- Lists that a loop makes, one item further.
-use Rattle.std.proofs.Common.{Vec, Global, ◌≡◌, ◌+◌, ◌<◌, ℕ, Bool, true, false, cond, List, [], ◌∷◌, ◌++◌, map, flat_map, take, drop, length, get_or, ◌==◌, sym, ap, ◌∙◌, append_assoc, arith}
+use Rattle.std.proofs.Common.{Vec, Global, ◌≡◌, ◌+◌, ◌<◌, ◌≤◌, ℕ, Bool, true, false, cond, List, [], ◌∷◌, ◌++◌, map, flat_map, take, drop, length, get_or, ◌==◌, sym, ap, ◌∙◌, append_assoc, arith}
 use Rattle.std.specs.List.{filter}
 use Rattle.std.proofs.lemmas.Bool.Decides.{nat_tests}
 use Rattle.std.proofs.lemmas.Grind.{flat_map-append}
-use Rattle.std.proofs.lemmas.List.{take_more, at_drop_more, append-nil, map_push, nil_from_length}
+use Rattle.std.proofs.lemmas.List.{take_more, take_all, at_drop_more, append-nil, map_push, nil_from_length}
 use Rattle.std.proofs.lemmas.List.Elements.{filter-append}
 use Rattle.vx_plan_nodes.specs.Describe.{Copying}
 use Rattle.vx_check_options.specs.Options.{copies, place_then, places_up}
 use Rattle.vx_check_options.proofs.OptionFacts.{then-some}
+
+-- what is made of all items
+pub whole : {X Y : Type 0} (f : List X → Y) (xs : List X) (i : ℕ) (y : Y) → length xs ≤ i → y ≡ f (take i xs) → y ≡ f xs
+whole f xs i y past is = is ∙ ap f (take_all i xs past)
+
+-- and of those that are left
+pub flat-left : {X Y : Type 0} (f : X → List Y) (xs : List X) (i : ℕ) (d : X) (all old new : List Y) → i < length xs → all ≡ old ++ flat_map f (drop i xs) → new ≡ old ++ f (get_or xs i d)
+    → all ≡ new ++ flat_map f (drop (i + 1) xs)
+flat-left f xs i d all old new within is more =
+    is ∙ ap (λ ys. old ++ ys) (at_drop_more (flat_map f) xs i d within) ∙ sym (append_assoc old (f (get_or xs i d)) (flat_map f (drop (i + 1) xs)))
+    ∙ ap (λ ys. ys ++ flat_map f (drop (i + 1) xs)) (sym more)
 
 -- what is made of each item
 pub flat-next : {X Y : Type 0} (f : X → List Y) (xs : List X) (i : ℕ) (d : X) (old new : List Y) → i < length xs → old ≡ flat_map f (take i xs) → new ≡ old ++ f (get_or xs i d)

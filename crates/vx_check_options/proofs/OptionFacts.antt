@@ -1,9 +1,9 @@
 -- Orders that begin with some columns, as the program puts them together.
-use Rattle.std.proofs.Common.{Vec, Global, ◌≡◌, ◌≤◌, ◌<◌, ◌-◌, ◌==◌, ℕ, suc, Bool, true, false, cond, List, [], ◌∷◌, ◌++◌, map, length, take, drop, get_or, set, refl, sym, ap, ◌∙◌, arith, length-drop, Option, Some, None, option_map}
+use Rattle.std.proofs.Common.{Vec, Global, ◌≡◌, ◌≤◌, ◌<◌, ◌+◌, ◌-◌, ◌&&◌, ◌||◌, ◌==◌, ℕ, suc, Bool, true, false, cond, List, [], ◌∷◌, ◌++◌, map, length, take, drop, get_or, set, refl, sym, ap, ◌∙◌, arith, length-drop, Option, Some, None, option_map}
 use Rattle.std.specs.Prelude.{is_some}
 use Rattle.std.proofs.lemmas.Bool.Decides.{nat_tests}
 use Rattle.std.specs.List.{list_any, filter}
-use Rattle.std.proofs.lemmas.List.{take_all, drop-map, map-append}
+use Rattle.std.proofs.lemmas.List.{take_all, at_drop_more, at_drop_all, drop-map, map-append}
 use Rattle.vx_plan_nodes.specs.Plan.{Part}
 use Rattle.vx_check_rules.specs.Rules.{contains, rises_by}
 use Rattle.vx_check_options.specs.Options.{OrderChoices, singles, place_then, rising, narrowed, or_nowhere}
@@ -38,6 +38,45 @@ narrowed-short cols vs short = by (is_some (narrowed cols (map (λ (v : Vec ℕ 
     by : (b : Bool) → (b ≡ true → length cols ≤ length vs) → false ≡ b
     by true long = let l = long refl in absurd (omega (arith, l, short))
     by false long = refl
+
+-- a test that the column is among others, as a slice has it
+turned : (a b : ℕ) → (a == b) ≡ (b == a)
+turned a b = grind (arith, nat_tests)
+
+pub contains-as : (cols : List ℕ) (c : ℕ) → list_any (λ d. d == c) cols ≡ contains cols c
+contains-as [] c = refl
+contains-as (d ∷ ds) c = ap (λ b. b || list_any (λ e. e == c) ds) (turned d c) ∙ ap (λ b. (c == d) || b) (contains-as ds c)
+
+-- place by place
+one-more : (c : ℕ) (b : Bool) (o : Option OrderChoices) → is_some (cond b (option_map (λ more. (c ∷ []) ∷ more) o) None) ≡ (b && is_some o)
+one-more c true None = refl
+one-more c true (Some more) = refl
+one-more c false o = refl
+
+begin-step : (cols : List ℕ) (vs : List (Vec ℕ Global)) (i : ℕ) (v : Vec ℕ Global) → i < length cols → i < length vs → v ≡ get_or vs i v
+    → is_some (narrowed (drop i cols) (map (λ (u : Vec ℕ Global). u.items) (drop i vs)))
+    ≡ (contains v.items (get_or cols i 0) && is_some (narrowed (drop (i + 1) cols) (map (λ (u : Vec ℕ Global). u.items) (drop (i + 1) vs))))
+begin-step cols vs i v here within is =
+    let items = map (λ (u : Vec ℕ Global). u.items) in
+    let c : ℕ = get_or cols i 0 in
+    let cs : List ℕ = drop (i + 1) cols in
+    let rest : OrderChoices = items (drop (i + 1) vs) in
+    at_drop_more (λ xs. is_some (narrowed xs (items (drop i vs)))) cols i 0 here
+    ∙ at_drop_more (λ (us : List (Vec ℕ Global)). is_some (narrowed (c ∷ cs) (items us))) vs i v within
+    ∙ ap (λ (u : Vec ℕ Global). is_some (narrowed (c ∷ cs) (u.items ∷ rest))) (sym is) ∙ one-more c (contains v.items c) (narrowed cs rest)
+
+pub begin-more : (cols : List ℕ) (vs : List (Vec ℕ Global)) (i : ℕ) (v : Vec ℕ Global) (all b : Bool) → i < length cols → i < length vs → v ≡ get_or vs i v
+    → all ≡ is_some (narrowed (drop i cols) (map (λ (u : Vec ℕ Global). u.items) (drop i vs))) → b ≡ contains v.items (get_or cols i 0)
+    → all ≡ (b && is_some (narrowed (drop (i + 1) cols) (map (λ (u : Vec ℕ Global). u.items) (drop (i + 1) vs))))
+begin-more cols vs i v all b here within is left test =
+    left ∙ begin-step cols vs i v here within is ∙ ap (λ a. a && is_some (narrowed (drop (i + 1) cols) (map (λ (u : Vec ℕ Global). u.items) (drop (i + 1) vs)))) (sym test)
+
+pub begin-all : (cols : List ℕ) (vs : List (Vec ℕ Global)) (i : ℕ) (all : Bool) → length cols ≤ i → all ≡ is_some (narrowed (drop i cols) (map (λ (u : Vec ℕ Global). u.items) (drop i vs))) → true ≡ all
+begin-all cols vs i all past left = sym (left ∙ at_drop_all (λ xs. is_some (narrowed xs (map (λ (u : Vec ℕ Global). u.items) (drop i vs)))) cols i past)
+
+pub nowhere : (o : Option OrderChoices) (b : Bool) → b ≡ is_some o → b ≡ false → [] ≡ or_nowhere o
+nowhere None b e h = refl
+nowhere (Some places) b e h = cc
 
 -- ---- lists that are put together
 

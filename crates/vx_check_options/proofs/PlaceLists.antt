@@ -1,16 +1,50 @@
 -- The order of an input, place by place.
-use Rattle.std.proofs.Common.{Vec, Global, ◌≡◌, ◌+◌, ◌<◌, ℕ, zero, suc, List, [], ◌∷◌, ◌++◌, map, drop, length, get_or, slice_get, Option, Some, None, refl, sym, ap, ◌∙◌, append_assoc}
+use Rattle.std.proofs.Common.{Vec, Global, ◌≡◌, ◌+◌, ◌<◌, ◌≤◌, true, false, arith, ℕ, zero, suc, List, [], ◌∷◌, ◌++◌, map, drop, length, get_or, slice_get, Option, Some, None, refl, sym, ap, ◌∙◌, append_assoc}
 use Rattle.std.proofs.Math.Numerals.{add-one}
 use Rattle.std.proofs.Math.Seq.{drop-cons}
 use Rattle.std.proofs.lemmas.List.{append-nil}
-use Rattle.vx_plan_nodes.specs.Describe.{Copying}
+use Rattle.std.specs.Prelude.{unwrap_or}
+use Rattle.vx_plan_nodes.specs.Describe.{Copying, source}
+use Rattle.vx_check_rules.specs.Rules.{contains}
 use Rattle.vx_check_options.specs.Options.{OrderChoices}
-use Rattle.vx_check_options.specs.Placed.{order_along, next_column}
+use Rattle.vx_check_options.specs.Placed.{column_at, order_along, next_column}
 
 -- behind the last place
 pub along-past : (k : Copying) (order : List ℕ) → order_along k order [] ≡ []
 along-past k [] = refl
 along-past k (c ∷ cs) = refl
+
+-- the column at one place
+past-get : (order : List ℕ) (i : ℕ) → length order ≤ i → slice_get order i ≡ None
+past-get [] zero h = refl
+past-get [] (suc i) h = refl
+past-get (c ∷ cs) zero h = absurd (omega (arith, h))
+past-get (c ∷ cs) (suc i) h = past-get cs i (omega (arith, h))
+
+there-get : (order : List ℕ) (i : ℕ) → i < length order → slice_get order i ≡ Some (get_or order i 0)
+there-get [] i h = absurd (omega (arith, h))
+there-get (c ∷ cs) zero h = refl
+there-get (c ∷ cs) (suc i) h = there-get cs i (omega (arith, h))
+
+pub next-past : (k : Copying) (order : List ℕ) (i : ℕ) (s : List ℕ) → length order ≤ i → slice_get s 0 ≡ next_column k (slice_get order i) s
+next-past k order i s h = ap (λ o. next_column k o s) (sym (past-get order i h))
+
+pub next-there : (k : Copying) (order : List ℕ) (i : ℕ) (s : List ℕ) (c from to : ℕ) → i < length order → c ≡ get_or order i 0 → from ≡ unwrap_or (source k c) 0 → to ≡ column_at s from
+    → Some to ≡ next_column k (slice_get order i) s
+next-there k order i s c from to within is copied put =
+    ap (λ x. Some x) put ∙ ap (λ x. Some (column_at s x)) (copied ∙ ap (λ d. unwrap_or (source k d) 0) is) ∙ ap (λ o. next_column k o s) (sym (there-get order i within))
+
+pub column-alone : (s : List ℕ) (c : ℕ) → length s < 1 → c ≡ column_at s c
+column-alone [] c h = refl
+column-alone (d ∷ ds) c h = absurd (omega (arith, h))
+
+pub column-kept : (s : List ℕ) (c : ℕ) → contains s c ≡ true → c ≡ column_at s c
+column-kept [] c h = refl
+column-kept (d ∷ ds) c h = rw h refl
+
+pub column-first : (s : List ℕ) (c : ℕ) → 1 ≤ length s → contains s c ≡ false → get_or s 0 0 ≡ column_at s c
+column-first [] c l h = absurd (omega (arith, l))
+column-first (d ∷ ds) c l h = rw h refl
 
 -- a column, if there is one, and what comes behind it
 abbrev then-rest : Option ℕ → List ℕ → List ℕ

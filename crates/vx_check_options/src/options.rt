@@ -14,7 +14,7 @@ ghost use Rattle.vx_check_options.specs.Options.{parts_at, places_here, can_send
 ghost use Rattle.vx_check_options.specs.OptionsView.{CanClaim, IsAbsent, AreInputs, parts_seen};
 
 use crate::order_choices::{OrderChoices, choices_over, may_begin, narrowed};
-use crate::parts::parts_over;
+use crate::parts::{only_part, parts_over};
 use std::alloc::{AllocError, Global};
 use vx_check_rules::{Columns, Rule, do_sizes_match, gives, has_one_worker};
 use vx_plan_nodes::{Binary, Part, TypedNode};
@@ -45,10 +45,8 @@ impl Drop for Options {
 pub fn absent(alloc: Global) -> Result<Options, AllocError>
     ensures { IfOk result IsAbsent }
 {
-    let mut parts = Vec::new(alloc);
-    parts.push(Part::Any)?;
     Ok(Options {
-        parts,
+        parts: only_part(alloc, Part::Any)?,
         choices: Vec::new(alloc),
         unfit: None,
     })

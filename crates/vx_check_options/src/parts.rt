@@ -21,8 +21,8 @@ const MAX_PARTS: usize = 64;
 
 type Parts = Vec<Part>;
 
-// A part alone.
-fn only_part(alloc: Global, part: Part) -> Result<Parts, AllocError>
+/// A part alone.
+pub fn only_part(alloc: Global, part: Part) -> Result<Parts, AllocError>
     ensures { IfOk result (λ v. map part_of v.items ≡ part_of part ∷ []) }
 {
     let mut parts = Vec::new(alloc);

@@ -7,7 +7,7 @@ ghost use Rattle.vx_plan_nodes.specs.Describe.{Copying as Copies, whole_rows};
 ghost use Rattle.vx_plan_nodes.specs.DescribeView.{copying_of, order_after_of};
 ghost use Rattle.vx_plan_nodes.specs.Outline.{part_of, claim_of, kind_of, binary_of, outline_of, plan_of};
 ghost use Rattle.vx_plan_nodes.specs.Outputs.{HasOutputs};
-ghost use Rattle.vx_check_rules.specs.Rules.{contains, rises_by};
+ghost use Rattle.vx_check_rules.specs.Rules.{rises_by};
 ghost use Rattle.vx_check_options.specs.Options.{OrderChoices};
 ghost use Rattle.vx_check_rules.specs.Seen.{columns_seen};
 ghost use Rattle.vx_check_options.specs.Placed.{next_column, order_along, order_below, left_order, right_order, order_sent, parts_below, part_sent};
@@ -34,13 +34,6 @@ impl Drop for Placement {
     }
 }
 
-// Whether the column may stand at this place.
-fn may_stand(place: &[usize], column: usize) -> bool
-    ensures { result ≡ contains place.now column }
-{
-    place.contains(&column)
-}
-
 // The column of an input's order at this place, under an order of the output: the one of which the column there is a copy,
 // if it may stand there, and else the first that may.
 fn next_column(
@@ -56,7 +49,7 @@ fn next_column(
     }
     let source = copying.source(order.at(at)).unwrap_or(0);
     match place {
-        [first, ..] if !may_stand(place, source) => Some(*first),
+        [first, ..] if !place.contains(&source) => Some(*first),
         _ => Some(source),
     }
 }

@@ -2,7 +2,7 @@ use Rattle.std.proofs.Common.{ℕ, ◌∙◌, ◌<◌, Vec, Global, map, length,
 use Rattle.std.proofs.lemmas.List.{length-map}
 use Rattle.std.proofs.lemmas.Result.{on_ok_weaker}
 use Rattle.vx_relations.specs.Catalog.{are_distinct}
-use Rattle.vx_check_options.proofs.FoundFacts.{finds-last, no-choices, first-choices, choices-next, column-distinct}
+use Rattle.vx_check_options.proofs.FoundFacts.{finds-last, no-choices, first-choices, choices-start, choices-next, choices-done, column-distinct}
 use Rattle.vx_check_options.proofs.choices.+add_choices.Goals as goal
 
 pub returns-in_default : goal.returns-in_default
@@ -18,3 +18,11 @@ pub loop-column-preserved : goal.loop-column-preserved
 loop-column-preserved t c =
     choices-next c.args.columns.now c.as_slice-column-items.result.now c.as_slice.result.now _ _ _ _ _ c.loop-column.column-index
     (rw c.as_slice-column-items.ensures.value (first-choices c.args.choices.now c.first-item.result c.in-len1-up.len_at_least c.first-item.is)) (c.as_slice.ensures.value ∙ c.in_ok-longer.ensures) c.loop-column-test.true c.loop-column.invariant c.in_ok-add_choices.ensures
+
+pub loop-column-init : goal.loop-column-init
+loop-column-init t c = choices-start c.args.columns.now (map (λ (v : Vec ℕ Global). v.items) c.args.choices.now) _ _
+
+pub returns : goal.returns
+returns t c =
+    choices-done c.args.columns.now c.as_slice-column-items.result.now _ _ _ _ c.loop-column.column-index
+    (rw c.as_slice-column-items.ensures.value (first-choices c.args.choices.now c.first-item.result c.in-len1-up.len_at_least c.first-item.is)) (omega (arith, c.loop-column-test.false)) c.loop-column.invariant

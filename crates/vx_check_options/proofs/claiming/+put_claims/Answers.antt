@@ -4,7 +4,7 @@ use Rattle.vx_relations.specs.Catalog.{relation_at}
 use Rattle.vx_plan_nodes.specs.Plan.{Plan, claim}
 use Rattle.vx_plan_nodes.specs.Outline.{part_of, claim_of, plan_of}
 use Rattle.vx_check_options.specs.Claimed.{FoundAt, IsClaimed, reversed_claims}
-use Rattle.vx_check_options.proofs.ClaimLists.{claimed-as, scan-claimed, unary-claimed, binary-claimed, exchange-claimed, keys-there, keys-still, last-put}
+use Rattle.vx_check_options.proofs.ClaimLists.{names-here, claimed-as, scan-claimed, unary-claimed, binary-claimed, exchange-claimed, keys-there, keys-still, last-put}
 use Rattle.vx_check_options.proofs.claiming.+put_claims.Goals as goal
 
 pub returns-in-Scan : goal.returns-in-Scan
@@ -73,3 +73,15 @@ returns-in_ok-left-in-Exchange n c =
     let found = rw (keys-there _ _ (claim y) more.2) at c.put_claim-in-Exchange.ensures in
     last-put c.put_claim-in-Exchange.result q order (FoundAt catalog p (claim y).keys []) (IsClaimed catalog p q order) _ _ _ (map claim_of c.args.claims.now.items) (reversed_claims y)
     (λ keys found. exchange-claimed catalog p _ _ _ _ below (ap plan_of c.in-Exchange.is) q order keys y is found) (λ keys. refl) (λ keys. refl) more.3 found
+
+pub put_claim-requires-clause-keys : goal.put_claim-requires-clause-keys
+put_claim-requires-clause-keys n c = names-here (relation_at c.args.catalog.now) (plan_of c.args.node.now) c.requires.keys
+
+pub put_claim-requires-in-Unary-clause-keys : goal.put_claim-requires-in-Unary-clause-keys
+put_claim-requires-in-Unary-clause-keys n c = names-here (relation_at c.args.catalog.now) (plan_of c.args.node.now) c.requires.keys
+
+pub put_claim-requires-in-Binary-clause-keys : goal.put_claim-requires-in-Binary-clause-keys
+put_claim-requires-in-Binary-clause-keys n c = names-here (relation_at c.args.catalog.now) (plan_of c.args.node.now) c.requires.keys
+
+pub put_claim-requires-in-Exchange-clause-keys : goal.put_claim-requires-in-Exchange-clause-keys
+put_claim-requires-in-Exchange-clause-keys n c = names-here (relation_at c.args.catalog.now) (plan_of c.args.node.now) c.requires.keys

@@ -1,4 +1,5 @@
-use Rattle.std.proofs.Common.{◌≡◌, ◌∙◌, ◌+◌, ◌++◌, ◌∷◌, ◌<◌, List, ℕ, length, drop, cond, Some, ap, sym, eqb, arith, slice_get}
+use Rattle.std.proofs.Common.{◌≡◌, ◌∙◌, ◌+◌, ◌++◌, ◌∷◌, ◌<◌, List, ℕ, length, drop, cond, Some, ap, sym, eqb, arith, slice_get, refl}
+use Rattle.std.proofs.lemmas.List.{append-nil, at_drop_all}
 use Rattle.std.specs.Option.{option_eq}
 use Rattle.vx_plan_nodes.specs.DescribeView.{kept_columns}
 use Rattle.vx_check_options.specs.Options.{places_from}
@@ -19,3 +20,12 @@ loop-place-preserved c =
       | then-eq+in_ok-push w ↦ rw (w.found-is, w.in_ok-push.ensures.items) (found-here _ n _ more _ step (sym test ∙ w.if-eq.true))
       | else-eq w ↦ rw w.found-is (found-later _ n _ more _ step (sym test ∙ w.if-eq.false))
     ]
+
+pub loop-place-init : goal.loop-place-init
+loop-place-init c = refl
+
+pub returns : goal.returns
+returns c =
+    let before : List ℕ = c.loop-place.found.items in
+    let all : List ℕ → List ℕ = λ ks. before ++ places_from c.loop-place.place ks c.args.column in
+    sym (c.loop-place.invariant ∙ at_drop_all all (kept_columns c.args.kept) c.loop-place.place (omega (arith, c.loop-place-test.false, c.len-place-end.ensures)) ∙ append-nil before)

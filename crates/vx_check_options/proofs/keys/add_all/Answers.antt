@@ -1,4 +1,5 @@
-use Rattle.std.proofs.Common.{List, Option, map, ℕ, Vec, Global}
+use Rattle.std.proofs.Common.{List, Option, map, ℕ, Vec, Global, subst, arith}
+use Rattle.std.proofs.lemmas.List.{take_all}
 use Rattle.vx_plan_nodes.specs.Phases.{first_columns}
 use Rattle.vx_check_rules.specs.declared.keyed.Keyed as rust_keyed
 use Rattle.vx_check_rules.specs.KeyedView.{keyed_in, all_keyed_in}
@@ -18,3 +19,11 @@ loop-each-preserved c =
     ] in
     finds-next (λ (os : List (Option rust_keyed.Keyed)). show (all_keyed_in os)) (λ (o : Option rust_keyed.Keyed). show (keyed_in o)) allowed c.args.keyed.now c.loop-each.each-index c.each-item.result
     _ _ _ keyed-any c.loop-each-test.true c.each-item.is c.loop-each.invariant here
+
+pub returns : goal.returns
+returns c =
+    let allowed : List ℕ = first_columns c.args.width in
+    let items = map (λ (v : Vec ℕ Global). v.items) in
+    let all : List (Option rust_keyed.Keyed) → Type 0 =
+    λ os. Finds (IsKey (show (all_keyed_in c.args.keyed.now)) allowed) (IsShown (show (all_keyed_in os)) allowed) (items c.args.found.now.items) (items c.loop-each.found.items) in
+    subst all (take_all c.loop-each.each-index c.args.keyed.now (omega (arith, c.loop-each-test.false))) c.loop-each.invariant

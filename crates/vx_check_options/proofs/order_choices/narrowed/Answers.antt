@@ -1,7 +1,7 @@
 use Rattle.std.proofs.Common.{◌∙◌, sym}
 use Rattle.vx_check_rules.specs.Seen.{columns_seen}
 use Rattle.vx_check_options.proofs.CopyLists.{cloned-items}
-use Rattle.vx_check_options.proofs.OptionFacts.{narrowed-long, narrowed-put}
+use Rattle.vx_check_options.proofs.OptionFacts.{nowhere, narrowed-long, narrowed-put}
 use Rattle.vx_check_options.proofs.order_choices.narrowed.Goals as goal
 
 pub slice_bounds-extend_from_slice-count : goal.slice_bounds-extend_from_slice-count
@@ -15,3 +15,6 @@ returns c =
     let more = c.in_ok-extend_from_slice.ensures.items in
     narrowed-put (columns_seen c.args.columns) c.args.choices.now c.in_ok-found.found.items more.0 c.extend_from_slice.new.self.items (sym c.may_begin.ensures ∙ c.if-not-may_begin.false) c.in_ok-found.ensures
     (rw c.len.ensures at (cloned-items _ _ more.2)) more.1
+
+pub returns-then-not-may_begin : goal.returns-then-not-may_begin
+returns-then-not-may_begin c = rw c.new.ensures.items (nowhere _ _ c.may_begin.ensures c.if-not-may_begin.true)
