@@ -102,7 +102,7 @@ impl Bench {
         Ok(())
     }
 
-    /// Shows a subject: its times for each of so many rows and their ratios, or what is the same in each run.
+    /// Shows the subject `name`: its `times` for each of `rows` rows and their ratios, or `found`, which is the same in each run.
     pub fn show<R: Print>(
         self,
         rt: &R,

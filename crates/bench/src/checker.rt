@@ -39,7 +39,7 @@ fn names(alloc: Global) -> Result<String, AllocError> {
     format!(in alloc; "[{names}]")
 }
 
-// So many selections one above the other, each with this claim.
+// The `input` below `count` selections, one above the other, each with this `claim`.
 fn selections(alloc: Global, input: &str, claim: &str, count: u32) -> Result<String, AllocError> {
     let mut text = String::from_str(alloc, input)?;
     for _ in 0..count {

@@ -50,7 +50,7 @@ impl Tally {
     }
 }
 
-// Draws for a seat until it met the end of a deck with so many numbers.
+// Draws for `seat` until it met the end of a deck with `numbers` numbers.
 fn draw_all(deck: &SharedDeck, mut seat: DeckSeat, numbers: u64) -> Tally
     requires { IsSeatOf deck.now seat }
 {
@@ -65,7 +65,7 @@ fn draw_all(deck: &SharedDeck, mut seat: DeckSeat, numbers: u64) -> Tally
 }
 
 impl Bench {
-    // How long so many seats, each in a thread of its own, take for all numbers of a new deck.
+    // How long `seats` seats, each in a thread of its own, take for all `numbers` numbers of a new deck.
     fn deal<R: Clock + Threads + Sync>(
         self,
         rt: &R,

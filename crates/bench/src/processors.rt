@@ -22,7 +22,7 @@ fn add_to_each(sums: &mut [u64; SUMS], number: u64) {
     }
 }
 
-// What so many steps make of sums that begin at 0.
+// What `steps` steps make of sums that begin at 0.
 fn add_all(steps: u64) -> [u64; SUMS] {
     let mut sums = [0; SUMS];
     for number in 0..steps {
@@ -32,7 +32,7 @@ fn add_all(steps: u64) -> [u64; SUMS] {
 }
 
 impl Bench {
-    // How long so many threads take, each for all steps.
+    // How long `threads` threads take, where each makes all `steps` steps.
     fn loop_in<R: Clock + Threads + Sync>(
         self,
         rt: &R,

@@ -63,7 +63,7 @@ impl Subject {
         }
     }
 
-    // How many rows it reads, where the largest relations have so many.
+    // How many rows it reads, where the largest relations have `rows` rows.
     fn rows_read(self, rows: u64) -> u64 {
         match self {
             Subject::Query(3) => rows.saturating_mul(2),
@@ -81,7 +81,7 @@ impl Subject {
         }
     }
 
-    // Its plan as JSON, where the largest relations have so many rows.
+    // Its plan as JSON, where the largest relations have `rows` rows.
     fn text(self, alloc: Global, rows: u64) -> Result<String, AllocError> {
         match self {
             Subject::Query(number) => quartered(alloc, plan(number).unwrap_or(""), rows),
@@ -103,13 +103,13 @@ impl Subject {
     }
 }
 
-// A plan whose range is made for 10,000 rows, with the range that gives each of four workers a quarter of so many rows.
+// A `plan` whose range is made for 10,000 rows, with the range that gives each of four workers a quarter of `rows` rows.
 fn quartered(alloc: Global, plan: &str, rows: u64) -> Result<String, AllocError> {
     let quarters = format!(in alloc; "[{}, {}, {}]", rows / 4, rows / 2, rows / 4 * 3)?;
     plan.replace(alloc, "[2500, 5000, 7500]", quarters.as_str())
 }
 
-// The plan of a subject, which the checker accepts, where the largest relations have so many rows.
+// The plan of `subject`, which the checker accepts, where the largest relations have `rows` rows.
 fn plan_of(
     alloc: Global,
     database: &Database,
@@ -125,7 +125,7 @@ fn plan_of(
 }
 
 impl<'t> Query<'t> {
-    // Teams of so many workers.
+    // Teams of `workers` workers.
     fn setup(&self, alloc: Global, workers: u32) -> Result<Setup, AllocError> {
         let sizes = vec![in alloc; (String::from_str(alloc, "many")?, workers)]?;
         Ok(Setup::new(sizes, self.packet, self.morsel, self.slack))

@@ -27,7 +27,7 @@ pub const BPRIME: usize = 3;
 // How many threads load and write.
 const THREADS: usize = 4;
 
-// The text of a relation with so many rows.
+// The text of a relation with `rows` rows.
 fn text_of(alloc: Global, rows: u64) -> Result<Vec<u8>, Error> {
     let mut text = Vec::new(alloc);
     generate(alloc, rows, &mut Real::new(&mut text))?;
@@ -114,7 +114,7 @@ impl Bench {
         self.show(rt, "load tenk1", self.rows, loading, found.as_str())
     }
 
-    /// The relations, two of so many rows and two of a tenth of them, with the times to generate and to load one.
+    /// The relations, two of `self.rows` rows and two of a tenth of them, with the times to generate and to load one.
     pub fn measure_loading<R: Print + Clock + Threads + Sync>(
         self,
         rt: &R,

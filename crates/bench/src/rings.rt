@@ -50,7 +50,7 @@ fn packet(alloc: Global, base: &Arc<Table>, number: u32) -> Result<Packet, Error
     Ok(Packet::of_rows(number, 0, 0, rows))
 }
 
-// So many packets.
+// The packets with the numbers below `count`.
 fn packets(alloc: Global, base: &Arc<Table>, count: u32) -> Result<Vec<Packet>, Error> {
     let mut packets = Vec::with_capacity(alloc, count as usize)?;
     for number in 0..count {
@@ -103,7 +103,7 @@ fn put_all(rt: &impl Wait, mut out: RingOut, packets: Vec<Packet>) {
     }
 }
 
-// Takes so many packets, and keeps those that there is room for. It takes them all: a producer would wait for ever on a
+// Takes `count` packets, and keeps those that there is room for. It takes them all: a producer would wait for ever on a
 // ring that nobody empties.
 fn take_all(rt: &impl Wait, mut input: RingIn, count: usize, mut kept: Vec<Packet>) -> Vec<Packet> {
     for _ in 0..count {
@@ -147,7 +147,7 @@ fn through_two_threads<R: Threads + Wait + Sync>(
     })
 }
 
-// Whether these are so many packets as they were made.
+// Whether these are `count` packets as they were made.
 fn are_in_order(packets: Vec<Packet>, count: u32) -> bool {
     let mut next = 0u32;
     for packet in packets {
@@ -164,7 +164,7 @@ fn are_in_order(packets: Vec<Packet>, count: u32) -> bool {
 }
 
 impl Bench {
-    // How long so many packets take through a new ring. Making and dropping them is not in it.
+    // How long `count` packets take through a new ring. Making and dropping them is not in it.
     fn pass<R: Clock + Threads + Wait + Sync>(
         self,
         rt: &R,
@@ -190,7 +190,7 @@ impl Bench {
         Ok(nanos)
     }
 
-    // The least time of so many packets.
+    // The least time that `count` packets take.
     fn least_pass<R: Clock + Threads + Wait + Sync>(
         self,
         rt: &R,

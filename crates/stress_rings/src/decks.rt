@@ -48,7 +48,7 @@ fn draw_all(deck: &SharedDeck, team: Vec<DeckSeat>, alloc: Global) -> Result<Vec
     Ok(drawn)
 }
 
-// The seats, so many to each thread.
+// The `seats` in teams of `SEATS_IN_A_THREAD`, one team for each thread.
 fn teams(
     alloc: Global,
     deck: &SharedDeck,

@@ -25,7 +25,7 @@ fn size_of(number: u32) -> usize {
     (number.wrapping_mul(1_657) % 4_096) as usize + 1
 }
 
-// The packet with this number: the last rows of the base, so many as it is to have.
+// The packet with this `number`: the last `size_of(number)` rows of `base`.
 fn packet(alloc: Global, base: &Arc<Table>, number: u32) -> Option<Packet> {
     let from = base.len().checked_sub(size_of(number))?;
     let rows = Rows::of(alloc, base, from, base.len()).ok()?;
@@ -82,7 +82,7 @@ fn take(rt: &impl Wait, given_up: &AtomicU64, input: &mut RingIn) -> Option<Pack
     None
 }
 
-// Puts so many packets, and closes the stream.
+// Puts `packets` packets, and closes the stream.
 fn produce(
     rt: &impl Wait,
     alloc: Global,
@@ -135,7 +135,7 @@ fn consume(rt: &impl Wait, given_up: &AtomicU64, mut input: RingIn) -> Option<Se
     None
 }
 
-/// So many packets go through rings of 1, 2 and 1,024 places. None where memory or a thread was refused.
+/// Sends `packets` packets through rings of 1, 2 and 1,024 places. None where memory or a thread was refused.
 pub fn run<R: Threads + Wait + Sync>(
     rt: &R,
     alloc: Global,

@@ -26,7 +26,7 @@ const ONE_KEY: &str =
 const TEXT: &[u8] = b"id,k,v\n0,a,5\n1,b,7\n2,a,-2\n3,c,7\n";
 
 // What relation 0 of a catalog answers to a text: its rows as they are written again, or the refusal. The reader fails
-// after so many bytes, and the writer has room for so many.
+// after `fails_after` bytes, if that is some, and the writer has room for `room` bytes.
 fn answer(
     alloc: Global,
     catalog: &str,

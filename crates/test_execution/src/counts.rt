@@ -37,7 +37,7 @@ fn steps_of(workers: &[WorkerCounts]) -> (u64, u64) {
     (puts, waits)
 }
 
-// The counts of a run with three workers that scan, row by row, in so many rounds; and whether it has rows.
+// The counts of a run with three workers that scan, row by row, in at most `limit` rounds; and whether it has rows.
 fn counted(alloc: Global, case: &Case, limit: u64) -> Result<(RunCounts, bool), Fail> {
     let setup = setup_of(alloc, 3, 1, 1, 4)?;
     let mut counts = RunCounts::new(alloc);

@@ -10,7 +10,8 @@ use test_tables::three_numbers;
 use vx_exchange::ByteRouter;
 use vx_exec::Setup;
 
-// So many workers of each of three groups and so many that scan, with packets and morsels of one row.
+// A setup by a line of `numbers`: `many` workers in each of three groups, `few` that scan, and the `slack`. Packets and morsels have
+// one row.
 fn crowd_of(alloc: Global, numbers: &str) -> Result<Setup, Fail> {
     let Some((many, few, slack)) = three_numbers(numbers) else {
         return Err(Fail::new("there are three numbers"));

@@ -62,7 +62,7 @@ fn workers_of(alloc: Global, text: &str) -> Result<Vec<u32>, Fail> {
     Ok(workers)
 }
 
-// What comes of a case where these workers make so many steps each, one worker after the other.
+// What comes of a case where these `workers` make `steps_of_each` steps each, one worker after the other.
 fn comes_to(alloc: Global, case: &Case, workers: &str, steps_of_each: u32) -> Result<String, Fail> {
     let workers = workers_of(alloc, workers)?;
     let steps = in_turn(alloc, workers.as_slice(), steps_of_each)?;

@@ -20,7 +20,7 @@ pub fn by_threads<T: Threads + Wait + Sync, R: Router + Sync>(
     by_threads_within(rt, alloc, case, setup, router, &Free, MAX_WORKERS)
 }
 
-/// What a case comes to in at most so many threads, with a gate.
+/// What a case comes to in at most `most` threads, with a `gate`.
 pub fn by_threads_within<T: Threads + Wait + Sync, R: Router + Sync, G: Gate + Sync>(
     rt: &T,
     alloc: Global,
@@ -37,7 +37,7 @@ pub fn by_threads_within<T: Threads + Wait + Sync, R: Router + Sync, G: Gate + S
     outcome(alloc, ran)
 }
 
-/// How many of so many runs in threads come to other rows.
+/// How many of `runs` runs in threads come to other rows than `rows`.
 pub fn wrong_runs<T: Threads + Wait + Sync, R: Router + Sync>(
     rt: &T,
     alloc: Global,

@@ -35,8 +35,8 @@ const SETUPS: [(u32, u32, u32, u32); 6] = [
     (8, 1, 1, 1024),
 ];
 
-// Whether a case comes to these rows serially, and in rounds of so many workers of each group. A fault names its node of the
-// plan with exchanges, so such a case is not evaluated serially.
+// Whether a case comes to these `rows` serially, and in rounds with 1, 2, 3, 5 and 64 workers of each group. A fault names its node
+// of the plan with exchanges, so such a case is not evaluated serially.
 fn agrees_in_rounds(alloc: Global, case: &Case, rows: &str) -> Result<bool, Fail> {
     if !rows.starts_with("X7 ") && serially(alloc, case)?.as_str() != rows {
         return Ok(false);
@@ -50,8 +50,8 @@ fn agrees_in_rounds(alloc: Global, case: &Case, rows: &str) -> Result<bool, Fail
     Ok(true)
 }
 
-// How many of the schedules that are drawn come to other rows. There are so many workers in all, so many schedules, and so many
-// turns at the end of each.
+// How many of `schedules` drawn schedules come to other rows than `rows`. There are `workers` workers in all. Each schedule ends with
+// `turns` turns, in each of which every worker makes one step.
 fn wrong_schedules<R: Router>(
     alloc: Global,
     case: &Case,
@@ -72,7 +72,7 @@ fn wrong_schedules<R: Router>(
     Ok(wrong)
 }
 
-// The same for a case with so many groups of workers.
+// The same for a case with `groups` groups of workers, by each line of `DRAWN`.
 fn wrong_by_schedules(
     alloc: Global,
     case: &Case,
@@ -90,7 +90,7 @@ fn wrong_by_schedules(
     Ok(wrong)
 }
 
-// Whether a case comes to these rows in so many runs by threads with each setup.
+// Whether a case comes to these `rows` in `RUNS` runs by threads with each of `SETUPS`.
 fn agrees_by_threads<T: Threads + Wait + Sync>(
     rt: &T,
     alloc: Global,

@@ -146,7 +146,7 @@ fn a_reader_that_fails_is_reported_after_any_byte(rt: HostRuntime) -> Result<(),
     Ok(())
 }
 
-// A text of so many rows.
+// A text of `count` rows.
 fn many(alloc: Global, count: usize) -> Result<String, Fail> {
     let mut text = format!(in alloc; "id,k,v\n")?;
     for i in 0..count {

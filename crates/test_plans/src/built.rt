@@ -5,7 +5,7 @@ use anyhow::{Context, Error};
 use serde_json::Value as Json;
 use std::alloc::{AllocError, Global};
 
-// Adds a part so many times.
+// Adds `part` to `text` `times` times.
 fn push_times(text: &mut String, part: &str, times: u64) -> Result<(), AllocError> {
     for _ in 0..times {
         text.push_str(part)?;
@@ -13,7 +13,7 @@ fn push_times(text: &mut String, part: &str, times: u64) -> Result<(), AllocErro
     Ok(())
 }
 
-// A balanced tree of unions over so many of these scans. It has a union less than scans, and one scan where none is
+// A balanced tree of unions over `scans` copies of `scan`. It has a union less than scans, and one scan where none is
 // asked for.
 fn unions(alloc: Global, scans: u64, scan: &str) -> Result<String, AllocError> {
     if scans < 2 {

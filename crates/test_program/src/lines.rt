@@ -68,8 +68,8 @@ pub fn line_of<R: Threads + Wait + Sync + AllocGlobal, F: Store>(
     shown(rt.alloc(), out.bytes(), err.bytes(), status)
 }
 
-/// What goes to an output with so much room, what goes to the errors, and the status, for a bundle that fails after so
-/// many bytes.
+/// What goes to an output with room for `room` bytes, what goes to the errors, and the status. Reading `bundle` fails after
+/// `fails_after` bytes, if that is some.
 pub fn line_for<R: Threads + Wait + Sync + AllocGlobal>(
     rt: &R,
     bundle: &[u8],

@@ -14,8 +14,8 @@ fn counted(alloc: Global, out: &[u8], err: &[u8], status: u8) -> Result<String, 
     Ok(format!(in alloc; "{written}|{err}|{status}")?)
 }
 
-// How many bytes are written, the errors and the status for as many rows as there may be, into an output with room for so
-// many bytes.
+// How many bytes are written, the errors and the status for as many rows as there may be, into an output with room for
+// `room` bytes.
 fn cut_off<R: Threads + Wait + Sync + AllocGlobal>(rt: &R, room: usize) -> Result<String, Fail> {
     let mut out = MemoryOut::new(rt.alloc(), 1000, room);
     let mut err = MemoryOut::new(rt.alloc(), 10, 100);

@@ -30,7 +30,7 @@ pub fn bundle_of(
     text.replace(alloc, "\n", r"\n")
 }
 
-// Compares what so many runs of a bundle come to with a line.
+// Compares what `runs` runs of `bundle` come to with `line`.
 fn compare_runs<R: Threads + Wait + Sync + AllocGlobal + Abort>(
     rt: &R,
     bundle: &str,
@@ -44,7 +44,7 @@ fn compare_runs<R: Threads + Wait + Sync + AllocGlobal + Abort>(
     Ok(())
 }
 
-/// Compares what so many runs of a plan in each mode come to with a line.
+/// Compares what `runs` runs of `plan` in each mode come to with `line`.
 pub fn compare<R: Threads + Wait + Sync + AllocGlobal + Abort>(
     rt: &R,
     plan: &str,

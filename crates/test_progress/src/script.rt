@@ -106,7 +106,7 @@ impl<'s> Screen for Scripted<'s> {
     }
 }
 
-/// A store that has the same text at each path. Reading it fails after so many bytes, or never.
+/// A store that has the same `text` at each path. Reading it fails after `fails_after` bytes, or never.
 #[derive(Clone, Copy)]
 pub struct Everywhere<'t> {
     pub text: &'t [u8],

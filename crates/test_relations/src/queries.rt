@@ -9,14 +9,14 @@ use vx_catalog::{Catalog, Database};
 use vx_check::CheckedPlan;
 use vx_wisconsin::{catalog, generate, plan};
 
-/// The text of so many rows of the relations that are generated.
+/// The text of `rows` rows of the relations that are generated.
 pub fn generated(alloc: Global, rows: u64) -> Result<String, Fail> {
     let mut out = MemoryOut::new(alloc, 1_000_000, 1_000_000_000);
     generate(alloc, rows, &mut out)?;
     Ok(String::from_utf8(Vec::from_slice(alloc, out.bytes())?)?)
 }
 
-/// The relations that are generated, each with so many rows.
+/// The relations that are generated. `rows` holds the number of rows of each.
 pub fn generated_database(alloc: Global, rows: &[u64]) -> Result<Database, Fail> {
     let catalog = Catalog::read(alloc, catalog().as_bytes())?;
     let mut database = Database::empty(alloc, &catalog)?;

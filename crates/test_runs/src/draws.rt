@@ -58,7 +58,7 @@ impl Draws {
     }
 }
 
-/// So many steps of each of these workers, one worker after the other.
+/// A schedule with `steps_of_each` steps of each of these `workers`, one worker after the other.
 pub fn in_turn(alloc: Global, workers: &[u32], steps_of_each: u32) -> Result<Vec<u32>, AllocError> {
     let mut steps = Vec::new(alloc);
     for worker in workers {

@@ -3,7 +3,7 @@
 use std::alloc::{AllocError, Global};
 use vx_exec::Setup;
 
-/// So many workers for each of these names, and the rows of a packet, those of a morsel, and the slack.
+/// A setup: `sizes` has the number of workers for each name. A packet has `packet` rows, a morsel `morsel` rows; and the `slack`.
 pub fn setup_with(
     alloc: Global,
     sizes: &[(&str, u32)],
@@ -18,7 +18,7 @@ pub fn setup_with(
     Ok(Setup::new(entries, packet, morsel, slack))
 }
 
-/// So many workers of each group, and the rows of a packet, those of a morsel, and the slack.
+/// A setup with `workers` workers of each group. A packet has `packet` rows, a morsel `morsel` rows; and the `slack`.
 pub fn setup_of(
     alloc: Global,
     workers: u32,

@@ -5,7 +5,7 @@ use std::io;
 use std::io::ErrorKind;
 use std::time::{Clock, Duration};
 
-/// A clock that goes on by so many nanoseconds each time that it is asked.
+/// A clock that goes on by `step` nanoseconds each time that it is asked.
 #[derive(Drop)]
 pub struct Ticking {
     now: Cell<u64>,

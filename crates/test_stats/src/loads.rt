@@ -42,7 +42,7 @@ fn without_a_clock_the_relations_are_known(rt: HostRuntime) -> Result<(), Fail> 
     Ok(())
 }
 
-// The loads of a plan's relations from a bundle, by two threads, with a clock that goes on by so many nanoseconds.
+// The loads of a plan's relations from a bundle, by two threads, with a clock that goes on by `step` nanoseconds.
 fn loaded<P: Threads + Sync>(rt: &P, alloc: Global, step: u64) -> Result<Vec<LoadTime>, Fail> {
     let Some(value) = value_of_text(alloc, BUNDLE.as_bytes())? else {
         return Err(Fail::new("the text is JSON"));

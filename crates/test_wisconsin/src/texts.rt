@@ -27,7 +27,7 @@ fn no_rows_are_the_header_alone(rt: HostRuntime) -> Result<(), Fail> {
     Ok(())
 }
 
-// What lines of texts with so many rows begin with, or end in.
+// The number of rows of a text, the number of a line in it, where the header is line 0, and what that line begins with.
 const FRONTS: [(u64, usize, &str); 8] = [
     (5, 1, "0,0,"),
     (5, 2, "3,1,"),

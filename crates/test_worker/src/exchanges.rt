@@ -16,11 +16,11 @@ use vx_views::Rows;
 // A receiver's turn with a packet, or with none.
 fn turn(rt: &impl Abort, receiver: &mut Receiver, packet: Option<Packet>) -> Polled {
     match receiver.wants() {
-        Want::Packet(_) => return receiver.turn(Got::Packet(packet)),
-        Want::Nothing => return receiver.turn(Got::Nothing),
+        Want::Packet(_) => receiver.turn(Got::Packet(packet)),
+        Want::Nothing => receiver.turn(Got::Nothing),
         _ => {
             assert!(rt; false, "a receiver wants packets");
-            return Polled::Waiting;
+            Polled::Waiting
         }
     }
 }

@@ -115,7 +115,7 @@ enum Way {
     Range,
 }
 
-// Whether a number of so many came at the right one of so many consumers.
+// Whether `number` is one of the first `count` numbers from 0, and `consumer`, one of `consumers`, is right for it.
 fn is_right(way: Way, number: i64, count: u32, consumer: u32, consumers: u32) -> bool
     requires { 1 ≤ consumers }
 {

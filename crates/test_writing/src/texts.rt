@@ -145,7 +145,7 @@ fn rows_of_no_columns_have_their_text(rt: HostRuntime) -> Result<(), Fail> {
     compare_with_one(&rt, alloc, &[], &rows)
 }
 
-// So many rows, in two chunks.
+// A list of `count` rows, in two chunks.
 fn many(alloc: Global, count: i64) -> Result<Rows, AllocError> {
     let mut rows = Table::new(alloc, &[ColType::Int, ColType::Text])?;
     for i in 0..count {
@@ -169,7 +169,7 @@ fn each_number_of_rows_has_its_text(rt: HostRuntime) -> Result<(), Fail> {
     Ok(())
 }
 
-// Compares the text that so many threads make of rows with another text.
+// Compares the text that `threads` threads make of `rows` with the text `wanted`.
 fn compare_threads<R: Abort + Threads + Sync>(
     rt: &R,
     alloc: Global,

@@ -16,7 +16,6 @@ pub struct FormedClaim {
     ghost formed: { is_claim_form (claim_form claim) ≡ true },
 }
 
-// By hand, so that the drops of its parts are made and proved here once, and not in each function that drops one.
 impl Drop for FormedClaim {
     fn drop(self) {
         let FormedClaim { claim: _ } = self;

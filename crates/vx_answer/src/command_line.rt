@@ -214,7 +214,7 @@ fn job_in<'a>(alloc: Global, asked: &Asked<'a>) -> Option<AskedJob<'a>>
     }
 }
 
-// The text that answers a task, each table of which up to so many threads load.
+// The text that answers a task. Up to `session.threads` threads load each of its tables.
 fn answer_task<T: Threads + Wait + Sync, R: Runs, C: Clock, F: Store, I: ByteIn>(
     session: &Session<'_, T, R, C>,
     files: &F,

@@ -141,7 +141,7 @@ pub fn reply<T: Threads + Wait + Sync, R: Runs, C: Clock, I: ByteIn, O: ByteOut,
     deliver(text_outcome(session, input), out, err)
 }
 
-// Writes the text of the relation with so many rows on `out` as it is made, or reports on `err` why not. All memory is taken
+// Writes the text of the relation with `rows` rows on `out` as it is made, or reports on `err` why not. All memory is taken
 // before the first write.
 fn write_relation<O: ByteOut, E: ByteOut>(alloc: Global, rows: u64, out: &mut O, err: &mut E) -> u8
     ensures done { result ≡ 0 → (rows ≤ max_generated_rows) × Appends (O.contents out.old) (O.contents out.new) (csv_text column_names (wisconsin rows)) }

@@ -15,8 +15,8 @@ use vx_runs::Runs;
 use vx_serial::eval;
 use vx_tables::{Tables, Unobserved, load_tables_in_threads};
 
-/// The text of the rows of a plan without its exchanges over tables, under the names of the plan. Up to so many threads load a
-/// table, and make the text; one evaluates the plan.
+/// The text of the rows of a plan without its exchanges over tables, under the names of the plan. Up to `session.threads`
+/// threads load a table and make the text; one thread evaluates the plan.
 pub fn serial_plan<T: Threads + Wait + Sync, R: Runs, C: Clock, B: Tables>(
     session: &Session<'_, T, R, C>,
     tables: &B,

@@ -52,7 +52,7 @@ impl<'a, T, R, C> Session<'a, T, R, C> {
         }
     }
 
-    /// The same with up to so many threads.
+    /// The same session with up to `threads` threads.
     pub fn with_threads(&self, threads: usize) -> Session<'a, T, R, C>
         ensures { result.engine.now ≡ self.now.engine.now }
     {

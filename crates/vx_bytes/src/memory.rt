@@ -5,7 +5,7 @@ ghost use Rattle.std.specs.Prelude.{◌≡◌, ◌&&◌, [], Some, false, not, i
 use crate::bytes::{Broken, ByteIn, ByteOut};
 use std::alloc::Global;
 
-/// A reader over memory. It fails after so many bytes, or never.
+/// A reader over memory. It fails after `fails_after` bytes, or never if that is `None`.
 #[derive(Drop)]
 pub struct MemoryIn<'a> {
     rest: &'a [u8],
@@ -14,7 +14,7 @@ pub struct MemoryIn<'a> {
 }
 
 impl<'a> MemoryIn<'a> {
-    /// A reader of these bytes, which fails after so many of them, or never.
+    /// A reader of `bytes`, which fails after `fails_after` of them, or never if that is `None`.
     pub fn new(bytes: &'a [u8], fails_after: Option<usize>) -> MemoryIn<'a>
         ensures rest { result.rest.now ≡ bytes.now }
         ensures limit { result.fails_after ≡ fails_after }
@@ -59,7 +59,7 @@ impl<'a> ByteIn for MemoryIn<'a> {
     }
 }
 
-/// A writer into memory, which writes a few bytes at a time. It fails after so many bytes.
+/// A writer into memory, which writes a few bytes at a time. It fails after `room` bytes.
 #[derive(Drop)]
 pub struct MemoryOut {
     bytes: Vec<u8>,

@@ -55,7 +55,7 @@ fn with_column(alloc: Global, columns: &[usize], column: usize) -> Result<Vec<us
     Ok(longer)
 }
 
-// The copies of the input column among the first columns, so many.
+// The copies of the input column `input` among the first `width` columns.
 fn copies_among(
     alloc: Global,
     copying: Copying<'_>,

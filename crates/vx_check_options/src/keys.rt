@@ -83,7 +83,7 @@ fn other_keys<'p>(keyed: Keyed<'p>) -> CopiedKeys<'p>
     }
 }
 
-// Adds the keys of the first columns, so many.
+// Adds the keys that `keyed` gives among the first `width` columns.
 fn add_keyed(
     alloc: Global,
     found: &mut Lists,

@@ -30,7 +30,6 @@ pub struct Options {
     pub unfit: Option<(u32, Rule)>,
 }
 
-// By hand, so that the drops of its parts are made and proved here once, and not in each function that drops one.
 impl Drop for Options {
     fn drop(self) {
         let Options {

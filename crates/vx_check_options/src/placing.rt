@@ -27,7 +27,6 @@ pub struct Placement {
     pub order: Vec<usize>,
 }
 
-// By hand, so that the drops of its parts are made and proved here once, and not in each function that drops one.
 impl Drop for Placement {
     fn drop(self) {
         let Placement { part: _, order: _ } = self;

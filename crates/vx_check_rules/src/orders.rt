@@ -38,7 +38,7 @@ pub fn is_order_shown(catalog: &Catalog, node: &TypedNode) -> bool
     show_order(&node_sortings(catalog, node), claimed_order(node))
 }
 
-/// Whether the order of the claim contains all columns of one of its keys, or all columns of an output, which has so many.
+/// Whether the order of the claim contains all columns of one of its keys, or all `width` columns of an output.
 pub fn is_total(claim: &Claim, width: usize) -> bool
     ensures { result ≡ (covers (claim_of claim.now).keys (claim_of claim.now).order || within (numbers_below width) (claim_of claim.now).order) }
 {

@@ -64,7 +64,7 @@ fn with_counts(alloc: Global, picture: &[u8], counts: &[NodeTotals]) -> Result<V
     Ok(text)
 }
 
-/// The picture of a plan with so many nodes, in the language of Graphviz, with what `run --stats=json` wrote of each node beside its
+/// The picture of a plan with `nodes` nodes, in the language of Graphviz, with what `run --stats=json` wrote of each node beside its
 /// box. Of the picture all is kept but its last two bytes, the closing bracket, which follows the counts.
 pub fn draw(alloc: Global, nodes: usize, picture: &[u8], stats: &[u8]) -> Result<Vec<u8>, DrawFault>
     ensures drawn { IfOk result (λ v. IsDrawn nodes picture.now stats.now v.items) }

@@ -124,7 +124,7 @@ fn with_entry(counts: NodeTotals, entry: Entry) -> NodeTotals
     }
 }
 
-// Nothing counted, for so many nodes.
+// Zero counts for `nodes` nodes.
 fn nothing_counted(alloc: Global, nodes: usize) -> Result<Vec<NodeTotals>, AllocError>
     ensures { IfOk result (λ v. v.items ≡ replicate nodes nothing) }
 {
@@ -140,7 +140,7 @@ fn nothing_counted(alloc: Global, nodes: usize) -> Result<Vec<NodeTotals>, Alloc
     Ok(counts)
 }
 
-// The counts of each node of a plan with so many nodes, by what each worker counted.
+// The counts of each node of a plan with `nodes` nodes, by what each worker counted.
 fn add_up(alloc: Global, nodes: usize, entries: &[Entry]) -> Result<Vec<NodeTotals>, Misread>
     ensures { Parses (λ v. v.items) result (added_up nodes entries.now) }
 {
@@ -163,7 +163,7 @@ fn read_counts(alloc: Global, nodes: usize, stats: &Json) -> Result<Vec<NodeTota
     add_up(alloc, nodes, entries.as_slice())
 }
 
-/// What all workers together counted at each node of a plan with so many nodes, by what `run --stats=json` wrote.
+/// What all workers together counted at each node of a plan with `nodes` nodes, by what `run --stats=json` wrote.
 pub fn counts_by_node(alloc: Global, nodes: usize, text: &[u8]) -> Result<Vec<NodeTotals>, Misread>
     ensures { Parses (λ v. v.items) result (counts_by_node nodes text.now) }
 {

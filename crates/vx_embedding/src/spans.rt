@@ -48,7 +48,7 @@ impl<T: Drop> From<AllocFailed<T>> for SpanFault {
     }
 }
 
-// Whether a name or a text is not within so many bytes.
+// Whether the name or the text of `span` is not within `length` bytes.
 fn is_outside(length: usize, span: TableSpan) -> bool
     ensures { result ≡ is_outside length span }
 {
@@ -58,7 +58,7 @@ fn is_outside(length: usize, span: TableSpan) -> bool
         || length < span.text_end
 }
 
-// The first span that is not within so many bytes.
+// The first span that is not within `length` bytes.
 fn first_outside(length: usize, spans: &[TableSpan]) -> Option<usize>
     ensures { result ≡ position (is_outside length) spans.now }
 {

@@ -34,12 +34,12 @@ pub fn part_stays_without_last()
     ensures { PartStaysWithoutLast }
 {}
 
-/// The same of a task: it has begun with some rows, so it has with more.
+/// Law: `BeganSending` is monotone in the accepted rows.
 pub fn begun_stays_as_rows_come()
     ensures { BegunStaysAsRowsCome }
 {}
 
-/// The same of a task: it has begun also without the last packet for a consumer.
+/// Law: `BeganSending` still holds without the last packet for a consumer.
 pub fn begun_stays_without_last()
     ensures { BegunStaysWithoutLast }
 {}

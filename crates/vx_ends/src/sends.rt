@@ -20,7 +20,8 @@ pub trait Sends {
     ghost use Rattle.vx_ends.specs.Queued.{consumers_of, IsTakenOut, IsNoMore};
     ghost use Rattle.vx_ends.specs.Streams.{AreStreams};
 
-    // That this may have accepted such a stream and returned such packets for each consumer, where rows go so.
+    // Invariant `Stands s goes a g`: under routing `goes`, having accepted stream `a`, `s` has returned packets `g j`
+    // for each consumer `j`.
     ghost Stands: { Self → Routing → Stream → (ℕ → List PacketView) → Type 0 };
 
     // What it does with the rows: it sends them, or keeps them.

@@ -83,16 +83,16 @@ impl Sends for Collector {
                     self.takes_more = false;
                     return Err(refused);
                 }
-                return Ok(());
+                Ok(())
             }
-            Polled::Waiting => return Ok(()),
+            Polled::Waiting => Ok(()),
             Polled::End => {
                 self.takes_more = false;
-                return Ok(());
+                Ok(())
             }
             Polled::Fault(_) => {
                 self.takes_more = false;
-                return Ok(());
+                Ok(())
             }
         }
     }

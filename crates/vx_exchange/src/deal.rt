@@ -205,23 +205,23 @@ pub fn deal_rows<R: Router>(
     match deal {
         Deal::Route(_, route) => {
             deal_by_route(alloc, route, lanes, router, &rows, scratch)?;
-            return Ok(());
+            Ok(())
         }
         Deal::Round(_) => {
             deal_in_turn(alloc, next, lanes, &rows, scratch)?;
-            return Ok(());
+            Ok(())
         }
         Deal::Broadcast(_) => {
             deal_to_each(alloc, lanes, &rows)?;
-            return Ok(());
+            Ok(())
         }
         Deal::Gather => {
             deal_to_one(lanes, rows)?;
-            return Ok(());
+            Ok(())
         }
         Deal::Concat => {
             deal_to_one(lanes, rows)?;
-            return Ok(());
+            Ok(())
         }
     }
 }

@@ -24,7 +24,6 @@ pub struct Lane {
     closing: Option<Rows>,
 }
 
-// By hand, so that the drops of its parts are made and proved here once, and not in each function that drops one.
 impl Drop for Lane {
     fn drop(self) {
         let Lane {
@@ -107,12 +106,13 @@ impl Lane {
     {
         let packet = Packet::of_rows(self.exchange, self.place, self.consumer, rows);
         match self.ready.push_back(packet) {
-            Ok(()) => return Ok(()),
-            Err(_) => return Err(AllocError),
+            Ok(()) => Ok(()),
+            Err(_) => Err(AllocError),
         }
     }
 
-    // Adds rows of a chunk from a position on: all, or as many as make a full packet with those at hand. It returns the position of the first row that is left.
+    // Adds rows of `chunk` from position `from` on: all of them, or as many as fill the current packet, which is then ready.
+    // Returns the position of the first row that is left.
     fn fill(&mut self, chunk: &Chunk, from: usize) -> Result<usize, AllocError>
         requires types { chunk.now.types ≡ self.old.way.types }
         requires open { self.old.closed ≡ false }

@@ -11,7 +11,8 @@ use std::alloc::{AllocError, Global};
 use vx_ports::{Packet, StreamEnd};
 use vx_values::ColType;
 
-/// A lane for each of so many consumers of an exchange, in packets of up to `size` rows of these types: 1 to 4,096.
+/// Makes a lane for each of the `consumers` consumers of an exchange.
+/// Its packets have up to `size` rows of `types`, where `size` is 1 to 4,096.
 pub fn make_lanes(
     alloc: Global,
     exchange: u32,

@@ -7,7 +7,7 @@ ghost use Rattle.vx_views.specs.Selected.{places_of};
 
 use std::alloc::{AllocError, Global};
 
-/// The consumer among n that is so many behind the consumer `next`, where the first one follows the last.
+/// The consumer that is `behind` turns after `next`, in round robin among `n` consumers.
 pub fn turn(next: u32, behind: usize, n: u32) -> u32
     requires { next < n }
     ensures { result ≡ (next + behind) % n }
@@ -23,7 +23,7 @@ fn next_turn(consumer: u32, n: u32) -> u32
     if consumer + 1 == n { 0 } else { consumer + 1 }
 }
 
-/// Finds the consumers of so many rows in turn, from the consumer `next` among n on, whatever stood in `found`.
+/// Replaces `found` by the consumers of `count` rows: round robin among `n` consumers, starting at `next`.
 pub fn turns(next: u32, count: usize, n: u32, found: &mut Vec<u32>) -> Result<(), AllocError>
     requires { next < n }
     ensures { OnOk result (found.new.items ≡ each_below count (λ i. (next + i) % n)) }
@@ -38,7 +38,7 @@ pub fn turns(next: u32, count: usize, n: u32, found: &mut Vec<u32>) -> Result<()
     Ok(())
 }
 
-// Makes a list empty, with room for so many places.
+// Empties `list` and reserves room for `room` places.
 fn empty_list(list: &mut Vec<usize>, room: usize) -> Result<(), AllocError>
     ensures { OnOk result (list.new.items ≡ []) }
 {
@@ -46,7 +46,7 @@ fn empty_list(list: &mut Vec<usize>, room: usize) -> Result<(), AllocError>
     list.reserve(room)
 }
 
-// Makes the list of a consumer empty, or adds it behind all others, with room for so many places.
+// Empties the list of `consumer`, or appends an empty list for it, with room for `room` places.
 fn put_empty(
     alloc: Global,
     places: &mut Vec<Vec<usize>>,
@@ -68,7 +68,7 @@ fn put_empty(
     }
 }
 
-// Leaves no places for each of n consumers, with room for so many each. Lists that are there keep their memory.
+// Gives each of `n` consumers an empty list with room for `room` places. Existing lists keep their memory.
 fn clear_places(
     alloc: Global,
     n: usize,

@@ -26,7 +26,6 @@ pub struct Receiver {
     ghost few: { vec_len ended ≤ max_group_workers },
 }
 
-// By hand, so that the drops of its parts are made and proved here once, and not in each function that drops one.
 impl Drop for Receiver {
     fn drop(self) {
         let Receiver {
@@ -108,11 +107,11 @@ impl Receiver {
         match next_unset(self.ended.as_slice(), self.next + 1) {
             Some(i) => {
                 self.next = i;
-                return Polled::Waiting;
+                Polled::Waiting
             }
             None => {
                 self.over = StreamState::Ended;
-                return Polled::End;
+                Polled::End
             }
         }
     }
@@ -138,12 +137,12 @@ impl Receiver {
         match packet.into_body() {
             Body::Rows(rows) => {
                 self.move_on();
-                return Polled::Gave(rows);
+                Polled::Gave(rows)
             }
-            Body::End(StreamEnd::Last) => return self.end_producer(),
+            Body::End(StreamEnd::Last) => self.end_producer(),
             Body::End(StreamEnd::Fault) => {
                 self.over = StreamState::Failed(Fault::Passed);
-                return Polled::Fault(Fault::Passed);
+                Polled::Fault(Fault::Passed)
             }
         }
     }

@@ -46,8 +46,8 @@ fn set_key(
     Ok(())
 }
 
-// Adds the consumers of rows by the hash route of this name, where the key of each row is one number. So many numbers are read and routed
-// at once, and not one by one, since a router may do that faster.
+// Adds the consumers of rows by the hash route `name`, where the key of each row is one number. It reads and routes up to `BLOCK`
+// numbers at once, since a router may do that faster than one by one.
 fn push_of_numbers<R: Router>(
     router: &R,
     name: &str,
@@ -107,11 +107,9 @@ impl KeyRoute {
         match self {
             KeyRoute::Hash(name, columns) => {
                 set_key(alloc, key, chunk, i, columns.as_slice())?;
-                return Ok(router.route(name.as_str(), key.as_slice(), n));
+                Ok(router.route(name.as_str(), key.as_slice(), n))
             }
-            KeyRoute::Range(_, ranges, column) => {
-                return Ok(ranges.consumer(chunk.cell(i, *column), n));
-            }
+            KeyRoute::Range(_, ranges, column) => { Ok(ranges.consumer(chunk.cell(i, *column), n)) }
         }
     }
 

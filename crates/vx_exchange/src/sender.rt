@@ -48,7 +48,6 @@ pub struct Sender {
     ghost idle: { may_close stage lanes.items ≡ true → are_idle lanes.items ≡ true },
 }
 
-// By hand, so that the drops of its parts are made and proved here once, and not in each function that drops one.
 impl Drop for Sender {
     fn drop(self) {
         let Sender {
@@ -75,8 +74,8 @@ impl Sender {
     ghost use Rattle.vx_exchange.specs.Queued.{sender_held};
     ghost use Rattle.vx_exchange.specs.Sender.{SenderStands, sender_ship, sender_post, sender_bounds, sender_is_open};
 
-    /// The sending end of an exchange by its node number, at a producer's place, for so many consumers and packets of up to `size` rows
-    /// of these types: 1 to 4,096. A gather and a concat have one consumer, other kinds one or more.
+    /// The sending end of the exchange with node number `exchange`, at producer `place`, for `consumers` consumers.
+    /// Its packets have up to `size` rows of `types`, where `size` is 1 to 4,096. A gather and a concat have one consumer, other kinds one or more.
     pub fn new(
         alloc: Global,
         exchange: u32,
@@ -143,17 +142,17 @@ impl Sender {
                     rows,
                 )?;
                 self.next = turn(self.next, count, self.lanes.len() as u32);
-                return Ok(());
+                Ok(())
             }
-            Polled::Waiting => return Ok(()),
+            Polled::Waiting => Ok(()),
             Polled::End => {
                 finish_lanes(&mut self.lanes)?;
                 self.stage = SenderState::Ending;
-                return Ok(());
+                Ok(())
             }
             Polled::Fault(_) => {
                 self.fail();
-                return Ok(());
+                Ok(())
             }
         }
     }
@@ -193,24 +192,24 @@ impl Sends for Sender {
 
     fn accept<R: Router>(&mut self, router: &R, polled: Polled) -> Result<(), AllocError> {
         match self.take(router, polled) {
-            Ok(()) => return Ok(()),
+            Ok(()) => Ok(()),
             Err(refused) => {
                 self.fail();
-                return Err(refused);
+                Err(refused)
             }
         }
     }
 
     fn next(&mut self) -> Option<(u32, Packet)> {
         match self.stage {
-            SenderState::Open => return next_packet(&mut self.lanes),
+            SenderState::Open => next_packet(&mut self.lanes),
             SenderState::Ending => {
                 if let Some((to, packet)) = next_packet(&mut self.lanes) {
                     return Some((to, packet));
                 }
-                return close_next(&mut self.lanes, StreamEnd::Last);
+                close_next(&mut self.lanes, StreamEnd::Last)
             }
-            SenderState::Failing => return close_next(&mut self.lanes, StreamEnd::Fault),
+            SenderState::Failing => close_next(&mut self.lanes, StreamEnd::Fault),
         }
     }
 }

@@ -9,7 +9,7 @@ use Rattle.vx_plan_nodes.specs.Routes.{Routing}
 use Rattle.vx_plan_nodes.specs.Types.{types_of}
 use Rattle.vx_check_rules.specs.Checked.{relations}
 use Rattle.vx_ops.specs.Ledger.{fresh}
-use Rattle.vx_ends.specs.Tasks.{Post, sends_by_ship, keeps}
+use Rattle.vx_ends.specs.Tasks.{Post, sends_by_ship}
 use Rattle.vx_ends.specs.Sending.{RoutesAs}
 use Rattle.vx_worker.specs.Fragment.{Frag, fragment, goes}
 use Rattle.vx_worker.specs.Trace.{empty_trace}
@@ -23,41 +23,41 @@ use Rattle.vx_operators.specs.declared.operator.Operator.{Operator}
 use Rattle.vx_operators.specs.declared.destination.Destination.{Destination}
 use Rattle.vx_worker.specs.declared.tree.Tree.{Tree}
 use Rattle.vx_worker.specs.declared.worker.Worker.{Worker}
-use Rattle.vx_steps.specs.Crews.{Duty, root_duty, producer_duty}
+use Rattle.vx_steps.specs.Crews.{Duty}
+use Rattle.vx_laws.specs.RunOf.{ship_of}
 use Rattle.vx_steps.specs.Ready.{IsRested}
 use Rattle.vx_plan_nodes.specs.Workers.{worker_group_at}
 use Rattle.vx_exec.specs.Inputs.{inputs_of}
 use Rattle.vx_exec.specs.Job.{model_of, types_at}
 use Rattle.vx_exec.specs.LeafTypes.{LeavesFit}
-use Rattle.vx_exec.specs.Crew.{IsTreeOf, IsNew}
+use Rattle.vx_exec.specs.Crew.{IsTreeOf, IsNew, IsUnused}
 use Rattle.vx_exec.specs.declared.job.Job.{Job}
 use Rattle.vx_exec.proofs.Taking.{inputs-take}
 
 duty-with : Frag → Post → Duty
 duty-with f p = record { frag = f; post = p }
 
--- of a producer
-pub producer-does : (j : Job) (hash : List ℕ → Row → ℕ → ℕ) (n place : ℕ) (k : ExchangeKind) (p : Plan) (tree : Tree Operator) (post : Post)
-    (consumers : ℕ) (types : List ColType) (kind : ExchangeKind) (size : ℕ) → IsTreeOf j place p tree
-    → post ≡ sends_by_ship (record { exchange = n; place = place; consumers = consumers; types = types; kind = kind; size = size })
-    → consumers ≡ workers (worker_group_at j.layout.worker_groups.items) (target k) → types ≡ types_of (relations j.plan.now) p → kind ≡ k → size ≡ j.packet
-    → ◌≡◌ {A = Duty} (record { frag = shape operator_op tree; post = post }) (producer_duty (model_of hash j) n k p place)
+-- made of the operators of a plan, it is to do what these do there
+pub made-does : (j : Job) (hash : List ℕ → Row → ℕ → ℕ) (place : ℕ) (p : Plan) (tree : Tree Operator) (post : Post) → IsTreeOf j place p tree
+    → ◌≡◌ {A = Duty} (record { frag = shape operator_op tree; post = post }) (record { frag = fragment (model_of hash j) place p; post = post })
 unfolding duty-with
-producer-does j hash n place k p tree post consumers types kind size h e many same is packet =
-    ap (λ z. duty-with z post) (h.shape_is hash)
-    ∙ ap (λ z. duty-with (fragment (model_of hash j) place p) z) (
-    e ∙ ap (λ z. sends_by_ship (record { exchange = n; place = place; consumers = z; types = types; kind = kind; size = size })) many
+made-does j hash place p tree post h = ap (λ z. duty-with z post) (h.shape_is hash)
+
+-- at a post that is the plan's, it does what the plan says
+pub does-at : (f : Frag) (post post' : Post) → post ≡ post' → ◌≡◌ {A = Duty} (record { frag = f; post = post }) (record { frag = f; post = post' })
+unfolding duty-with
+does-at f post post' e = ap (duty-with f) e
+
+-- what a producer sends by is the plan's
+pub sends-as : (j : Job) (hash : List ℕ → Row → ℕ → ℕ) (n place : ℕ) (k : ExchangeKind) (p : Plan)
+    (consumers : ℕ) (types : List ColType) (kind : ExchangeKind) (size : ℕ)
+    → consumers ≡ workers (worker_group_at j.layout.worker_groups.items) (target k) → types ≡ types_of (relations j.plan.now) p → kind ≡ k → size ≡ j.packet
+    → sends_by_ship (record { exchange = n; place = place; consumers = consumers; types = types; kind = kind; size = size }) ≡ sends_by_ship (ship_of (model_of hash j) n place k p)
+sends-as j hash n place k p consumers types kind size many same is packet =
+    ap (λ z. sends_by_ship (record { exchange = n; place = place; consumers = z; types = types; kind = kind; size = size })) many
     ∙ ap (λ z. sends_by_ship (record { exchange = n; place = place; consumers = workers (worker_group_at j.layout.worker_groups.items) (target k); types = z; kind = kind; size = size })) same
     ∙ ap (λ z. sends_by_ship (record { exchange = n; place = place; consumers = workers (worker_group_at j.layout.worker_groups.items) (target k); types = types_of (relations j.plan.now) p; kind = z; size = size })) is
-    ∙ ap (λ z. sends_by_ship (record { exchange = n; place = place; consumers = workers (worker_group_at j.layout.worker_groups.items) (target k); types = types_of (relations j.plan.now) p; kind = k; size = z })) packet)
-
--- of the root's worker
-pub root-does : (j : Job) (hash : List ℕ → Row → ℕ → ℕ) (p : Plan) (tree : Tree Operator) (types : List ColType) (post : Post)
-    → IsTreeOf j 0 p tree → post ≡ keeps types → types ≡ types_of (relations j.plan.now) p
-    → ◌≡◌ {A = Duty} (record { frag = shape operator_op tree; post = post }) (root_duty (model_of hash j) p)
-unfolding duty-with
-root-does j hash p tree types post h e same =
-    ap (λ z. duty-with z post) (h.shape_is hash) ∙ ap (λ z. duty-with (fragment (model_of hash j) 0 p) z) (e ∙ ap keeps same)
+    ∙ ap (λ z. sends_by_ship (record { exchange = n; place = place; consumers = workers (worker_group_at j.layout.worker_groups.items) (target k); types = types_of (relations j.plan.now) p; kind = k; size = z })) packet
 
 -- made of this tree, over these producers, it has no more to do than its operators have, and takes of no others
 made-rested : (j : Job) (place : ℕ) (p : Plan) (tree : Tree Operator) (inputs : List (ℕ × ℕ)) (post : Post) (bounds : List Val) (w : Worker Operator Destination) → IsTreeOf j place p tree
@@ -78,19 +78,16 @@ made-rested j place p tree inputs post bounds w h role sources starts =
 
 -- made of this tree and destination it is new
 pub made-new : (j : Job) (place : ℕ) (p : Plan) (tree : Tree Operator) (d : Destination) (inputs : List (ℕ × ℕ)) (w : Worker Operator Destination)
-    → IsTreeOf j place p tree → LeavesFit (types_at j) (relations j.plan.now) p
+    → IsTreeOf j place p tree → LeavesFit (types_at j) (relations j.plan.now) p → IsUnused j d
     → ((m : ℕ → List ColType) → TreeTyped operator_types m tree → IsReady operator_types post_of is_open has_closed m w)
     → role_of operator_op post_of bounds_of w ≡ record { frag = shape operator_op tree; post = post_of d; bounds = bounds_of d; inputs = inputs }
     → ((goes : Routing) (m : ℕ → ℕ → List Row) → DestinationStands d goes fresh (λ _. []) → WorkerStands OperatorStands operator_op DestinationStands task_of goes m w empty_trace)
-    → ((goes : Routing) → DestinationStands d goes fresh (λ _. []))
-    → ((hash : List ℕ → Row → ℕ → ℕ) → RoutesAs (post_of d) (bounds_of d) hash (goes (model_of hash j)))
     → inputs ≡ inputs_of (worker_group_at j.layout.worker_groups.items) p
     → (TreeStarts operator_op operator_most operator_idle tree → ((k : ℕ) → held_in d k ≡ 0) → Starts operator_most operator_idle post_of held_in unclosed_in (shape operator_op tree) w)
-    → ((k : ℕ) → held_in d k ≡ 0)
     → IsNew j w
-made-new j place p tree d inputs w h leaves ready role stands begins routes sources starts none = record {
+made-new j place p tree d inputs w h leaves unused ready role stands sources starts = record {
   ready = ready (types_at j) (h.typed (types_at j) leaves);
-  stands = λ r m. stands r m (begins r);
-  routes = λ hash. subst (λ (x : Role). RoutesAs x.post x.bounds hash (goes (model_of hash j))) (sym role) (routes hash);
-  rested = made-rested j place p tree inputs (post_of d) (bounds_of d) w h role sources (starts h.starts none);
+  stands = λ r m. stands r m (unused.stands r);
+  routes = λ hash. subst (λ (x : Role). RoutesAs x.post x.bounds hash (goes (model_of hash j))) (sym role) (unused.routes hash);
+  rested = made-rested j place p tree inputs (post_of d) (bounds_of d) w h role sources (starts h.starts unused.empty);
 }

@@ -1,5 +1,5 @@
 -- Trees and workers of a job, before any step.
-use Rattle.std.specs.Prelude.{ℕ, ◌≡◌, ◌+◌, true, List}
+use Rattle.std.specs.Prelude.{ℕ, ◌≡◌, ◌+◌, true, List, []}
 use Rattle.vx_relations.specs.Relation.{Relation}
 use Rattle.vx_values.specs.Values.{Row}
 use Rattle.vx_values.specs.declared.value.ColType.{ColType}
@@ -67,6 +67,13 @@ pub record IsTreeOf (j : Job) (place : ℕ) (p : Plan) (tree : Tree Operator) : 
 -- what a worker is to do
 abbrev pub duty : Worker Operator Destination → Duty
 duty w = duty_of (role_of operator_op post_of bounds_of w)
+
+-- a destination of a job's rows to which none came
+pub record IsUnused (j : Job) (d : Destination) : Type 0 where
+  pub opened : is_open d ≡ true
+  pub stands : (goes : Routing) → DestinationStands d goes fresh (λ _. [])
+  pub routes : (hash : List ℕ → Row → ℕ → ℕ) → RoutesAs (post_of d) (bounds_of d) hash (goes (model_of hash j))
+  pub empty : (k : ℕ) → held_in d k ≡ 0
 
 -- a worker of a job that can make its first step, and has made none
 pub record IsNew (j : Job) (w : Worker Operator Destination) : Type 0 where

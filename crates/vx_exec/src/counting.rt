@@ -26,16 +26,16 @@ fn add_lines(lines: &mut Vec<NodeCounts>, tree: &Tree<Operator>) -> Result<(), A
     match tree {
         Tree::Leaf(_, operator) => {
             lines.push(line_of(operator))?;
-            return Ok(());
+            Ok(())
         }
         Tree::One(operator, below) => {
             lines.push(line_of(operator))?;
-            return add_lines(lines, below);
+            add_lines(lines, below)
         }
         Tree::Two(operator, left, right) => {
             lines.push(line_of(operator))?;
             add_lines(lines, left)?;
-            return add_lines(lines, right);
+            add_lines(lines, right)
         }
     }
 }

@@ -40,7 +40,6 @@ pub struct Crew {
     stations: Vec<Station>,
 }
 
-// By hand, so that the drops of its parts are made and proved here once, and not in each function that drops one.
 impl Drop for Crew {
     fn drop(self) {
         let Crew {
@@ -88,17 +87,17 @@ fn add_below(
     ensures new { OnOk result (All (IsNew job.now) crew.new.items) }
 {
     match node {
-        TypedNode::Scan(_, _) => return Ok(()),
-        TypedNode::Unary(_, _, input) => return add_below(crew, alloc, job, input),
+        TypedNode::Scan(_, _) => Ok(()),
+        TypedNode::Unary(_, _, input) => add_below(crew, alloc, job, input),
         TypedNode::Binary(_, _, left, right) => {
             add_below(crew, alloc, job, left)?;
             add_below(crew, alloc, job, right)?;
-            return Ok(());
+            Ok(())
         }
         TypedNode::Exchange(head, exchange, input) => {
             add_producers(crew, alloc, job, head.number, &exchange.kind, input)?;
             add_below(crew, alloc, job, input)?;
-            return Ok(());
+            Ok(())
         }
     }
 }

@@ -30,8 +30,8 @@ fn row_counts(alloc: Global, database: &Database) -> Result<Vec<u64>, AllocError
 }
 
 /// How many rounds a run of a plan over a database needs at most: `run_rounds` with this limit does not end unfinished, nor does
-/// `run_scheduled` by a schedule that holds so many rounds. A number that 64 bits do not hold comes back as `u64::MAX`. A setup that is not
-/// right is refused as a run would refuse it.
+/// `run_scheduled` by a schedule that holds this number of rounds. Where the number does not fit into 64 bits, `u64::MAX` stands for
+/// it, and then it promises nothing more. A setup that is not right is refused as a run would refuse it.
 pub fn rounds_needed(
     alloc: Global,
     plan: &CheckedPlan,

@@ -81,13 +81,13 @@ pub fn answer_of(
     ensures { ComesTo workers.items verdict result }
 {
     match verdict {
-        RunState::Done => return Ok(RunOutcome::Done(rows_of_root(workers))),
-        RunState::Unfinished => return Ok(RunOutcome::Unfinished),
-        RunState::Failed(fault) => return Err(fault_of(fault)),
+        RunState::Done => Ok(RunOutcome::Done(rows_of_root(workers))),
+        RunState::Unfinished => Ok(RunOutcome::Unfinished),
+        RunState::Failed(fault) => Err(fault_of(fault)),
     }
 }
 
-// At most so many rounds of all workers of a job, and what they come to. What they counted is kept, if that is wanted.
+// At most `limit` rounds of all workers of a job, and what they come to. What they counted is kept, if that is wanted.
 fn run_job<R: Router>(
     alloc: Global,
     job: &Job<'_>,
@@ -130,14 +130,15 @@ fn schedule_job<R: Router>(
     let crew = Crew::new(alloc, job)?;
     let (mut workers, mut links) = crew.into_parts();
     match judge_schedule(&mut workers, job, router, &mut links, steps) {
-        Err(index) => return Err(RunFault::BadStep { index }),
-        Ok(verdict) => return answer_of(workers, verdict),
+        Err(index) => Err(RunFault::BadStep { index }),
+        Ok(verdict) => answer_of(workers, verdict),
     }
 }
 
-/// A run of a plan over a database: at most so many rounds, in each of which every worker makes one step, in number order. Once all
+/// A run of a plan over a database: at most `limit` rounds, in each of which every worker makes one step, in number order. Once all
 /// workers have ended and some failed, the fault is that of the lowest-numbered one that failed by itself. As many rounds as `rounds_needed` of
-/// `vx_layout` says are enough: with that limit or a higher one the answer is not Unfinished. What each worker counted is in `counts` afterwards, also where some failed; memory for it is refused only where it is wanted.
+/// `vx_layout` says are enough: with that limit or a higher one the answer is not Unfinished. What each worker counted is in `counts`
+/// afterwards, also where some failed; memory for it is refused only where it is wanted.
 pub fn run_rounds<R: Router>(
     alloc: Global,
     plan: &CheckedPlan,

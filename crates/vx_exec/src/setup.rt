@@ -48,7 +48,7 @@ fn test_ranges(alloc: Global, setup: &Setup, names: &[String]) -> Result<(), Run
     }
 }
 
-// So many workers are at most 256.
+// Refuses a `number` of workers above 256.
 fn test_workers(number: u32) -> Result<(), RunFault>
     ensures { Gives (λ _. tt) result (tested (nat_le number max_workers) (too_many_workers number)) }
 {

@@ -5,20 +5,25 @@ ghost use Rattle.std.specs.List.{All};
 ghost use Rattle.vx_values.specs.Values.{Row};
 ghost use Rattle.vx_rows.specs.Lists.{each_below};
 ghost use Rattle.vx_plan_nodes.specs.Outline.{outline_of, plan_of, kind_of};
+ghost use Rattle.vx_plan_nodes.specs.Outputs.{HasOutputs};
 ghost use Rattle.vx_plan_nodes.specs.Typed.{is_kind};
 ghost use Rattle.vx_plan_nodes.specs.TypedView.{scope};
 ghost use Rattle.vx_plan_nodes.specs.Types.{types_of};
 ghost use Rattle.vx_ports.specs.Packets.{fault};
 ghost use Rattle.vx_ends.specs.Ship.{Ship, packet_of};
+ghost use Rattle.vx_ends.specs.Tasks.{sends_by_ship, post_types};
+ghost use Rattle.vx_operators.specs.Destination.{post_of};
+ghost use Rattle.vx_worker.specs.Fragment.{fragment};
 ghost use Rattle.vx_worker.specs.Intake.{source_of, IsFresh};
-ghost use Rattle.vx_worker.specs.Worker.{inputs_of as sources_of};
+ghost use Rattle.vx_worker.specs.Worker.{inputs_of as sources_of, closing_of};
+ghost use Rattle.vx_laws.specs.RunOf.{ship_of};
 ghost use Rattle.vx_steps.specs.Crews.{producer_duty, root_duty};
 ghost use Rattle.vx_check_rules.specs.Checked.{relations};
 ghost use Rattle.vx_plan_nodes.specs.Workers.{worker_group_at};
 ghost use Rattle.vx_exec.specs.Job.{model_of};
 ghost use Rattle.vx_exec.specs.Part.{IsPartOf};
 ghost use Rattle.vx_exec.specs.Inputs.{inputs_of};
-ghost use Rattle.vx_exec.specs.Crew.{duty, IsNew};
+ghost use Rattle.vx_exec.specs.Crew.{duty, IsNew, IsUnused};
 
 use crate::fragment::tree_of;
 use crate::job::Job;
@@ -31,7 +36,7 @@ use vx_values::ColType;
 use vx_views::Rows;
 use vx_worker::{ExchangeInput, Worker};
 
-// Adds each of so many producers of an exchange.
+// Adds an input for each of the `count` producers of `exchange`.
 fn push_inputs(inputs: &mut Vec<ExchangeInput>, exchange: u32, count: u32) -> Result<(), AllocError>
     ensures fresh { All IsFresh inputs.old.items → OnOk result (All IsFresh inputs.new.items) }
     ensures sources { OnOk result (map source_of inputs.new.items ≡ map source_of inputs.old.items ++ each_below count (λ i. (exchange, i))) }
@@ -52,15 +57,15 @@ fn add_inputs(
     ensures sources { OnOk result (map source_of inputs.new.items ≡ map source_of inputs.old.items ++ inputs_of (worker_group_at job.now.layout.worker_groups.items) (plan_of node.now)) }
 {
     match node {
-        TypedNode::Scan(_, _) => return Ok(()),
-        TypedNode::Unary(_, _, input) => return add_inputs(inputs, job, input),
+        TypedNode::Scan(_, _) => Ok(()),
+        TypedNode::Unary(_, _, input) => add_inputs(inputs, job, input),
         TypedNode::Binary(_, _, left, right) => {
             add_inputs(inputs, job, left)?;
-            return add_inputs(inputs, job, right);
+            add_inputs(inputs, job, right)
         }
         TypedNode::Exchange(head, _, input) => {
             let count = job.workers(input.size());
-            return push_inputs(inputs, head.number, count);
+            push_inputs(inputs, head.number, count)
         }
     }
 }
@@ -98,6 +103,30 @@ fn closing_packets(
     Ok(packets)
 }
 
+// The worker at a place of a node's fragment, before its first step: its rows go to this destination, which it closes with these packets if it fails.
+fn fragment_worker(
+    alloc: Global,
+    job: &Job<'_>,
+    node: &TypedNode,
+    place: u32,
+    destination: Destination,
+    closing: Vec<Packet>,
+) -> Result<Worker<Operator, Destination>, AllocError>
+    requires part { IsPartOf job.now (outline_of node.now) }
+    requires unused { IsUnused job.now destination }
+    requires types { types_of (relations job.now.plan.now) (plan_of node.now) ≡ post_types (post_of destination) }
+    requires closing { closing.items ≡ closing_of (post_of destination) }
+    ensures duty { IfOk result (λ w. (hash : List ℕ → Row → ℕ → ℕ)
+        → duty w ≡ record { frag = fragment (model_of hash job.now) place (plan_of node.now); post = post_of destination }) }
+    ensures new { IfOk result (λ w. IsNew job.now w) }
+    ensures inputs { IfOk result (λ w. sources_of w ≡ inputs_of (worker_group_at job.now.layout.worker_groups.items) (plan_of node.now)) }
+{
+    let inputs = inputs_of(alloc, job, node)?;
+    let tree = tree_of(alloc, job, node, place)?;
+    let number = node.head().number;
+    Ok(Worker::new(alloc, tree, destination, number, closing, inputs))
+}
+
 /// The worker at the root of a plan, which keeps the rows.
 pub fn root_worker(
     alloc: Global,
@@ -109,17 +138,31 @@ pub fn root_worker(
     ensures new { IfOk result (λ w. IsNew job.now w) }
     ensures inputs { IfOk result (λ w. sources_of w ≡ inputs_of (worker_group_at job.now.layout.worker_groups.items) (plan_of node.now)) }
 {
-    let tree = tree_of(alloc, job, node, 0)?;
     let collector = Collector::new(alloc, output_types(node))?;
-    let inputs = inputs_of(alloc, job, node)?;
-    Ok(Worker::new(
-        alloc,
-        tree,
-        Destination::Collect(collector),
-        node.head().number,
-        Vec::new(alloc),
-        inputs,
-    ))
+    let destination = Destination::Collect(collector);
+    fragment_worker(alloc, job, node, 0, destination, Vec::new(alloc))
+}
+
+// The sending end of the producer at a place of an exchange of this kind over a node.
+fn sender_of(
+    alloc: Global,
+    job: &Job<'_>,
+    exchange: u32,
+    kind: &ExchangeKind,
+    node: &TypedNode,
+    place: u32,
+) -> Result<Destination, AllocError>
+    requires kind { is_kind (scope job.now.plan.now) (types_of (relations job.now.plan.now) (plan_of node.now)) (kind_of kind.now) ≡ true }
+    requires outputs { HasOutputs (relations job.now.plan.now) (outline_of node.now) }
+    ensures post { IfOk result (λ d. (hash : List ℕ → Row → ℕ → ℕ)
+        → post_of d ≡ sends_by_ship (ship_of (model_of hash job.now) exchange place (kind_of kind.now) (plan_of node.now))) }
+    ensures unused { IfOk result (λ d. IsUnused job.now d) }
+{
+    let types = output_types(node);
+    let consumers = job.workers(kind.target());
+    let deal = job.deal_of(alloc, types, kind)?;
+    let sender = Sender::new(alloc, exchange, place, consumers, job.packet(), types, deal)?;
+    Ok(Destination::Send(sender))
 }
 
 /// The producer at a place of an exchange of this kind over a node.
@@ -138,19 +181,8 @@ pub fn producer(
     ensures new { IfOk result (λ w. IsNew job.now w) }
     ensures inputs { IfOk result (λ w. sources_of w ≡ inputs_of (worker_group_at job.now.layout.worker_groups.items) (plan_of node.now)) }
 {
-    let tree = tree_of(alloc, job, node, place)?;
-    let types = output_types(node);
     let consumers = job.workers(kind.target());
-    let deal = job.deal_of(alloc, types, kind)?;
-    let sender = Sender::new(alloc, exchange, place, consumers, job.packet(), types, deal)?;
-    let closing = closing_packets(alloc, exchange, place, consumers, types)?;
-    let inputs = inputs_of(alloc, job, node)?;
-    Ok(Worker::new(
-        alloc,
-        tree,
-        Destination::Send(sender),
-        node.head().number,
-        closing,
-        inputs,
-    ))
+    let closing = closing_packets(alloc, exchange, place, consumers, output_types(node))?;
+    let sender = sender_of(alloc, job, exchange, kind, node, place)?;
+    fragment_worker(alloc, job, node, place, sender, closing)
 }

@@ -27,7 +27,6 @@ pub(crate) enum Extremes {
     Values(Vec<Value>),
 }
 
-// By hand, so that the drops of its parts are made and proved here once, and not in each function that drops one.
 impl Drop for Extremes {
     fn drop(self) {
         match self {
@@ -47,7 +46,6 @@ pub(crate) enum AggregateColumn {
     CountRows(Vec<u64>),
 }
 
-// By hand, so that the drops of its parts are made and proved here once, and not in each function that drops one.
 impl Drop for AggregateColumn {
     fn drop(self) {
         match self {

@@ -42,7 +42,6 @@ pub struct Grouping {
     alloc: Global,
 }
 
-// By hand, so that the drops of its parts are made and proved here once, and not in each function that drops one.
 impl Drop for Grouping {
     fn drop(self) {
         let Grouping {

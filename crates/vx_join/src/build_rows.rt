@@ -11,7 +11,7 @@ use vx_merging::push_beside;
 use vx_values::ColType;
 use vx_views::{Chunk, Rows};
 
-// So many rows in a run, and it is worth a chunk of its own.
+// A run of at least `RUN` rows is worth a chunk of its own.
 const RUN: usize = 16;
 
 /// Rows in several chunks, with the place behind the last row of each chunk; and how many rows were joined to them so far, in
@@ -23,7 +23,6 @@ pub(crate) struct BuildChunks {
     runs: usize,
 }
 
-// By hand, so that the drops of its parts are made and proved here once, and not in each function that drops one.
 impl Drop for BuildChunks {
     fn drop(self) {
         let BuildChunks {
@@ -75,7 +74,6 @@ pub(crate) enum BuildRows {
     Several(BuildChunks),
 }
 
-// By hand, so that the drops of its parts are made and proved here once, and not in each function that drops one.
 impl Drop for BuildRows {
     fn drop(self) {
         match self {
@@ -107,7 +105,7 @@ impl BuildRows {
         }
     }
 
-    /// Adds rows of a chunk at some places, each with the row of the build side at the other place beside it.
+    /// Appends to `joined` the row `lefts[i]` of `left` beside the build-side row `rights[i]`, for each `i` in order.
     pub fn push_joined(
         &mut self,
         alloc: Global,
@@ -128,12 +126,12 @@ impl BuildRows {
         match self {
             BuildRows::One(chunk) => {
                 let found = Chunk::joined(alloc, left, lefts, chunk, rights)?;
-                return joined.push(found);
+                joined.push(found)
             }
             BuildRows::Several(parts) => {
                 let left = left.at(alloc, lefts)?;
                 let right = parts.rows.at(alloc, rights)?;
-                return push_beside(alloc, joined, &left, &right);
+                push_beside(alloc, joined, &left, &right)
             }
         }
     }

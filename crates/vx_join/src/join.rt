@@ -32,7 +32,6 @@ pub struct Build {
     alloc: Global,
 }
 
-// By hand, so that the drops of its parts are made and proved here once, and not in each function that drops one.
 impl Drop for Build {
     fn drop(self) {
         let Build {
@@ -64,7 +63,7 @@ struct JoinedPositions {
     rights: Vec<usize>,
 }
 
-// Where a block ends that starts at a row, of so many rows.
+// The end of the block that starts at row `from`, out of `count` rows.
 fn block_end(from: usize, count: usize) -> usize
     requires { from < count }
     ensures more { from < result }
@@ -113,7 +112,7 @@ fn push_pairs(
     }
 }
 
-// Adds the rows of a chunk behind so many that were added: their keys, and the places of the rows of each.
+// Indexes the rows of `chunk` after `first` indexed rows: adds their keys to `keys` and their places to `parts`.
 fn index_chunk(
     alloc: Global,
     keys: &mut Keys,

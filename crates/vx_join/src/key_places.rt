@@ -10,13 +10,12 @@ use vx_views::are_counted_from;
 
 /// For each key the places of its rows.
 pub(crate) enum KeyPlaces {
-    /// So many keys, each of which has one row: key k that at place k.
+    /// The number of keys, each of which has one row: key k has the row at place k.
     Single(usize),
     /// A list for each key.
     Lists(Vec<Vec<usize>>),
 }
 
-// By hand, so that the drops of its parts are made and proved here once, and not in each function that drops one.
 impl Drop for KeyPlaces {
     fn drop(self) {
         match self {
@@ -43,7 +42,7 @@ fn list_of_one(alloc: Global, place: usize) -> Result<Vec<usize>, AllocError>
     Ok(list)
 }
 
-// A list for each of so many keys: that of key k has place k.
+// Makes `count` lists, one per key. The list of key k holds place k.
 fn lists_of_count(alloc: Global, count: usize) -> Result<Vec<Vec<usize>>, AllocError>
     ensures { IfOk result (λ v. map (λ p. p.items) v.items ≡ each_below count (λ k. k ∷ [])) }
 {
@@ -98,7 +97,7 @@ fn listed(lists: &[Vec<usize>], number: usize) -> &[usize]
     lists[number].as_slice()
 }
 
-// The one place of a key, of so many keys, or no place where there is no key with this number.
+// The one place of key `number` out of `count` keys, or no place if there is no such key.
 fn single<'a>(count: usize, number: usize) -> KeyPositions<'a>
     ensures { listed_places result ≡ slice_index_or (each_below count (λ k. k ∷ [])) number [] }
 {

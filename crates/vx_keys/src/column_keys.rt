@@ -30,7 +30,6 @@ pub(crate) struct ColumnKeys {
     alloc: Global,
 }
 
-// By hand, so that the drops of its parts are made and proved here once, and not in each function that drops one.
 impl Drop for ColumnKeys {
     fn drop(self) {
         let ColumnKeys {
@@ -261,7 +260,7 @@ impl ColumnKeys {
         Ok(count)
     }
 
-    // The number of a key, and for a key that is not here the number of the next new one.
+    // The index of the key `cells`, or `self.len()` if it is absent.
     fn number_or_next(&self, cells: &[Cell<'_>]) -> usize
         ensures { result ≡ position_or_len (row_eq (map cell_val cells.now)) self.now.rows }
     {
@@ -277,8 +276,7 @@ impl ColumnKeys {
         count
     }
 
-    /// The numbers of the keys that the rows of a chunk have in these columns, and for a key that is not here the number
-    /// of the next new one.
+    /// The index of the key of each row of `chunk` in `columns`, or `self.len()` where it is absent.
     pub fn find_all(&self, chunk: &Chunk, columns: &[usize]) -> Result<Vec<usize>, AllocError>
         requires { AreColumns (length chunk.now.types) columns.now }
         ensures { IfOk result (λ v. v.items ≡ map (λ r. position_or_len (row_eq (pick columns.now r)) self.now.rows) chunk.now.rows) }

@@ -24,7 +24,6 @@ enum Kept {
     Rows(RowKeys),
 }
 
-// By hand, so that the drops of its parts are made and proved here once, and not in each function that drops one.
 impl Drop for Kept {
     fn drop(self) {
         match self {
@@ -43,7 +42,6 @@ pub(crate) struct CompositeKeys {
     alloc: Global,
 }
 
-// By hand, so that the drops of its parts are made and proved here once, and not in each function that drops one.
 impl Drop for CompositeKeys {
     fn drop(self) {
         let CompositeKeys {
@@ -224,8 +222,7 @@ impl CompositeKeys {
         Ok(())
     }
 
-    /// The numbers of the keys that the rows of a chunk have in these columns, and for a key that is not here the number
-    /// of the next new one.
+    /// The index of the key of each row of `chunk` in `columns`, or `self.len()` where it is absent.
     pub fn find_all(&self, chunk: &Chunk, columns: &[usize]) -> Result<Vec<usize>, AllocError>
         requires { AreColumns (length chunk.now.types) columns.now }
         ensures { IfOk result (λ v. v.items ≡ map (λ r. position_or_len (row_eq (pick columns.now r)) self.now) chunk.now.rows) }

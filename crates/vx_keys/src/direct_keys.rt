@@ -26,7 +26,7 @@ const MOST: usize = 0xffff_ffff;
 // at a time has its length written and read again for each.
 const BLOCK: usize = 64;
 
-// So many known keys before a new one tell that most keys are known.
+// If at least `MANY` known keys come before a new one, most keys are known.
 const MANY: usize = 8;
 
 /// Keys of one number each that are found by direct addressing, as in joins and groups by a perfect hash: the key itself is
@@ -43,7 +43,6 @@ pub(crate) struct DirectKeys {
     alloc: Global,
 }
 
-// By hand, so that the drops of its parts are made and proved here once, and not in each function that drops one.
 impl Drop for DirectKeys {
     fn drop(self) {
         let DirectKeys {
@@ -88,7 +87,7 @@ fn part_end(known: usize, block: usize) -> usize
     known + 1
 }
 
-// The place of a key among so many, if it has one there.
+// The place of `key` in a table of `count` places, or `None` if it has none there.
 fn place_within(key: i64, count: usize) -> Option<usize>
     ensures there { IfSome result (λ place. key ≡ pos place) }
     ensures within { IfSome result (λ place. place < count) }
@@ -117,7 +116,7 @@ fn reach(table: &mut Vec<u32>, place: usize) -> Result<(), AllocError>
 }
 
 impl DirectKeys {
-    /// No keys, of which so many are expected.
+    /// No keys yet. The caller expects `room` of them.
     pub fn new(alloc: Global, room: usize) -> DirectKeys
         ensures { result ≡ [] }
     {
@@ -211,7 +210,7 @@ impl DirectKeys {
         self.put(place)
     }
 
-    // Puts the numbers of the first of these keys, up to the first that is not here, and returns how many these are.
+    // Looks up `keys` in order into `found` until the first absent one; returns how many were found.
     fn find_known(&self, keys: &[i64], found: &mut [usize]) -> usize
         requires { length keys.now ≡ length found.old }
         ensures within { result ≤ length found.old }
@@ -303,7 +302,7 @@ impl DirectKeys {
         Ok(count)
     }
 
-    // The number of a key, and for a key that is not here the number of the next new one.
+    // The index of `key`, or `self.len()` if it is absent.
     fn number_or_next(&self, key: i64) -> usize
         ensures { result ≡ position_or_len (row_eq (number_key key)) self.now }
     {
@@ -313,7 +312,7 @@ impl DirectKeys {
         number
     }
 
-    // Puts the numbers of these keys, and for a key that is not here the number of the next new one.
+    // Sets `found[i]` to the index of `keys[i]`, or to `self.len()` if it is absent.
     fn find_block(&self, keys: &[i64], found: &mut [usize])
         requires { length keys.now ≡ length found.old }
         ensures { found.new ≡ map (λ k. position_or_len (row_eq k) self.now) (map number_key keys.now) }
@@ -323,7 +322,7 @@ impl DirectKeys {
         }
     }
 
-    /// The numbers of these keys, and for a key that is not here the number of the next new one.
+    /// The index of each key in `column`, or `self.len()` where it is absent.
     pub fn find_all(&self, column: &IntColumn<'_>) -> Result<Vec<usize>, AllocError>
         ensures { IfOk result (λ v. v.items ≡ map (λ k. position_or_len (row_eq k) self.now) column.now) }
     {

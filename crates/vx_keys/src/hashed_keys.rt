@@ -19,7 +19,6 @@ pub(crate) struct HashedKeys {
     alloc: Global,
 }
 
-// By hand, so that the drops of its parts are made and proved here once, and not in each function that drops one.
 impl Drop for HashedKeys {
     fn drop(self) {
         let HashedKeys { set: _, alloc: _ } = self;
@@ -37,7 +36,7 @@ impl Model for HashedKeys {
 }
 
 impl HashedKeys {
-    /// No keys, to be hashed by this seed, with room for so many.
+    /// No keys yet, to be hashed with `seed`, with room for `room` keys.
     pub fn with_room(alloc: Global, seed: KeySeed, room: usize) -> Result<HashedKeys, AllocError>
         ensures { IfOk result (λ k. k ≡ []) }
     {
@@ -72,7 +71,7 @@ impl HashedKeys {
         Ok(number)
     }
 
-    /// Adds the numbers of these keys, but for so many at the front. Keys that are new are added.
+    /// Appends to `numbers` the numbers of the keys in `column` from `from` on. It adds keys that are new.
     pub fn number_from(
         &mut self,
         column: &IntColumn<'_>,
@@ -90,7 +89,7 @@ impl HashedKeys {
         Ok(())
     }
 
-    // The number of a key, and for a key that is not here the number of the next new one.
+    // The index of `key`, or `self.len()` if it is absent.
     fn number_or_next(&self, key: i64) -> usize
         ensures { result ≡ position_or_len (row_eq (number_key key)) self.now }
     {
@@ -100,7 +99,7 @@ impl HashedKeys {
         number
     }
 
-    /// The numbers of these keys, and for a key that is not here the number of the next new one.
+    /// The index of each key in `column`, or `self.len()` where it is absent.
     pub fn find_all(&self, column: &IntColumn<'_>) -> Result<Vec<usize>, AllocError>
         ensures { IfOk result (λ v. v.items ≡ map (λ k. position_or_len (row_eq k) self.now) column.now) }
     {

@@ -20,7 +20,6 @@ enum Found {
     Hashed(HashedKeys),
 }
 
-// By hand, so that the drops of its parts are made and proved here once, and not in each function that drops one.
 impl Drop for Found {
     fn drop(self) {
         match self {
@@ -39,7 +38,6 @@ pub(crate) struct IntKeys {
     alloc: Global,
 }
 
-// By hand, so that the drops of its parts are made and proved here once, and not in each function that drops one.
 impl Drop for IntKeys {
     fn drop(self) {
         let IntKeys {
@@ -62,7 +60,7 @@ impl Model for IntKeys {
 }
 
 impl IntKeys {
-    /// No keys, to be hashed by this seed where they have to be, of which so many are expected.
+    /// No keys yet. The caller expects `room` of them. If they have to be hashed, they are hashed with `seed`.
     pub fn with_room(alloc: Global, seed: KeySeed, room: usize) -> Result<IntKeys, AllocError>
         ensures { IfOk result (λ k. k ≡ []) }
     {
@@ -126,7 +124,7 @@ impl IntKeys {
         Ok(column.len())
     }
 
-    // Does what `number_all` does with the keys behind so many, and with all keys hashed from then on.
+    // Continues `number_all` at key `from`, after switching from the table to hashing.
     fn number_rest(
         &mut self,
         column: &IntColumn<'_>,
@@ -160,7 +158,7 @@ impl IntKeys {
         Ok(())
     }
 
-    /// The numbers of these keys, and for a key that is not here the number of the next new one.
+    /// The index of each key in `column`, or `self.len()` where it is absent.
     pub fn find_all(&self, column: &IntColumn<'_>) -> Result<Vec<usize>, AllocError>
         ensures { IfOk result (λ v. v.items ≡ map (λ k. position_or_len (row_eq k) self.now) column.now) }
     {

@@ -28,7 +28,6 @@ enum Kind {
     Rows(CompositeKeys),
 }
 
-// By hand, so that the drops of its parts are made and proved here once, and not in each function that drops one.
 impl Drop for Kind {
     fn drop(self) {
         match self {
@@ -52,7 +51,6 @@ pub struct Keys {
     alloc: Global,
 }
 
-// By hand, so that the drops of its parts are made and proved here once, and not in each function that drops one.
 impl Drop for Keys {
     fn drop(self) {
         let Keys {
@@ -74,7 +72,7 @@ impl Model for Keys {
     ghost view = { λ k. kind_keys k.kind };
 }
 
-// No keys, of the kind that the rows of a chunk have in these columns. So many are expected, if they are of one value each.
+// No keys yet, of the kind that the rows of `chunk` have in `columns`. If these are of one value each, it expects `room` of them.
 fn kind_of(
     alloc: Global,
     seed: KeySeed,
@@ -111,9 +109,9 @@ impl Keys {
         Keys::with_room(alloc, seed, 0)
     }
 
-    /// No keys, to be hashed by this seed, for a caller that knows how many may come: `room`. Once the first rows are numbered
-    /// there is room for so many texts at once. For numbers it says how long the table may be that finds them, and once they
-    /// are hashed there is room for so many. It bounds nothing.
+    /// No keys yet, to be hashed with `seed`. The caller expects `room` keys, which bounds nothing. Text keys reserve room for `room`
+    /// texts when the first rows are numbered. For number keys `room` says how long the table may be that finds them; once
+    /// they are hashed, they have room for `room` numbers.
     pub fn with_room(alloc: Global, seed: KeySeed, room: usize) -> Keys
         ensures { result ≡ [] }
     {
@@ -246,8 +244,7 @@ impl Keys {
         Ok(numbers)
     }
 
-    /// The numbers of the keys that the rows of a chunk have in these columns, and for a key that is not here the number
-    /// of the next new one.
+    /// The index of the key of each row of `chunk` in `columns`, or `self.len()` where it is absent.
     pub fn find_all(&self, chunk: &Chunk, columns: &[usize]) -> Result<Vec<usize>, AllocError>
         requires { AreColumns (length chunk.now.types) columns.now }
         ensures { IfOk result (λ v. v.items ≡ map (λ r. position_or_len (row_eq (pick columns.now r)) self.now) chunk.now.rows) }

@@ -23,7 +23,6 @@ pub(crate) struct RowKeys {
     alloc: Global,
 }
 
-// By hand, so that the drops of its parts are made and proved here once, and not in each function that drops one.
 impl Drop for RowKeys {
     fn drop(self) {
         let RowKeys { set: _, alloc: _ } = self;
@@ -139,7 +138,7 @@ impl RowKeys {
         Ok(())
     }
 
-    // The number of a key, and for a key that is not here the number of the next new one.
+    // The index of `key`, or `self.len()` if it is absent.
     fn number_or_next(&self, key: &Row) -> usize
         ensures { result ≡ position_or_len (row_eq key.now) self.now }
     {
@@ -164,8 +163,7 @@ impl RowKeys {
         Ok(numbers)
     }
 
-    /// The numbers of the keys that the rows of a chunk have in these columns, and for a key that is not here the number
-    /// of the next new one.
+    /// The index of the key of each row of `chunk` in `columns`, or `self.len()` where it is absent.
     pub fn find_all(&self, chunk: &Chunk, columns: &[usize]) -> Result<Vec<usize>, AllocError>
         requires { AreColumns (length chunk.now.types) columns.now }
         ensures { IfOk result (λ v. v.items ≡ map (λ r. position_or_len (row_eq (pick columns.now r)) self.now) chunk.now.rows) }
@@ -209,7 +207,7 @@ fn keys_of(alloc: Global, chunk: &Chunk, columns: &[usize]) -> Result<Table, All
     Ok(table)
 }
 
-// 0, 1, and so on, so many.
+// The numbers from 0 to `count`, without `count` itself.
 fn numbers_below(alloc: Global, count: usize) -> Result<Vec<usize>, AllocError>
     ensures { IfOk result (λ v. v.items ≡ each_below count (λ k. k)) }
 {

@@ -22,7 +22,6 @@ pub struct Seen {
     alloc: Global,
 }
 
-// By hand, so that the drops of its parts are made and proved here once, and not in each function that drops one.
 impl Drop for Seen {
     fn drop(self) {
         let Seen { keys: _, alloc: _ } = self;
@@ -38,7 +37,7 @@ impl Model for Seen {
     ghost view = { λ s. s.keys };
 }
 
-// Whether a number is that of the next new key, behind so many known keys and so many new ones.
+// Whether `number` is that of the next new key, after `known` known keys and `new` new ones.
 fn is_next(number: usize, known: usize, new: usize) -> bool
     ensures yes { result ≡ true → number ≡ known + new }
     ensures no { result ≡ false → number ≢ known + new }
@@ -49,7 +48,7 @@ fn is_next(number: usize, known: usize, new: usize) -> bool
     number - known == new
 }
 
-// The places of keys that are new, by the numbers of all: where so many are known, the next new one has that number.
+// The places where new keys first occur, by the numbers of all keys. With `known` keys known, the first new key has number `known`.
 fn first_places(alloc: Global, known: usize, numbers: &[usize]) -> Result<Vec<usize>, AllocError>
     ensures new { IfOk result (λ v. (ks xs : List Row) → length ks ≡ known → numbers.now ≡ numbers_of ks xs → insert_all row_eq ks xs ≡ ks ++ map (λ i. slice_index_or xs i []) v.items) }
     ensures there { IfOk result (λ v. ArePositions (length numbers.now) v.items) }

@@ -19,7 +19,6 @@ pub(crate) struct TextKeys {
     alloc: Global,
 }
 
-// By hand, so that the drops of its parts are made and proved here once, and not in each function that drops one.
 impl Drop for TextKeys {
     fn drop(self) {
         let TextKeys { set: _, alloc: _ } = self;
@@ -37,7 +36,7 @@ impl Model for TextKeys {
 }
 
 impl TextKeys {
-    /// No keys, to be hashed by this seed, with room for so many.
+    /// No keys yet, to be hashed with `seed`, with room for `room` keys.
     pub fn with_room(alloc: Global, seed: KeySeed, room: usize) -> Result<TextKeys, AllocError>
         ensures { IfOk result (λ k. k ≡ []) }
     {
@@ -91,7 +90,7 @@ impl TextKeys {
         Ok(())
     }
 
-    // The number of a key, and for a key that is not here the number of the next new one.
+    // The index of `key`, or `self.len()` if it is absent.
     fn number_or_next(&self, key: &str) -> usize
         ensures { result ≡ position_or_len (row_eq (text_key key.now)) self.now }
     {
@@ -101,7 +100,7 @@ impl TextKeys {
         number
     }
 
-    /// The numbers of these keys, and for a key that is not here the number of the next new one.
+    /// The index of each key in `column`, or `self.len()` where it is absent.
     pub fn find_all(&self, column: &TextColumn<'_>) -> Result<Vec<usize>, AllocError>
         ensures { IfOk result (λ v. v.items ≡ map (λ k. position_or_len (row_eq k) self.now) column.now) }
     {

@@ -27,7 +27,6 @@ pub struct Layout {
     ghost within: { All (IsWithin 1 max_group_workers) worker_groups.items },
 }
 
-// By hand, so that the drops of its parts are made and proved here once, and not in each function that drops one.
 impl Drop for Layout {
     fn drop(self) {
         let Layout {
@@ -95,7 +94,7 @@ fn add_spans(
 }
 
 impl Layout {
-    /// The layout of a plan, where each size name has so many workers, by its number.
+    /// The layout of a plan. `worker_groups` holds the number of workers of each size name, by its number.
     pub fn of(
         alloc: Global,
         worker_groups: Vec<u32>,

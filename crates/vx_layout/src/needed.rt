@@ -89,7 +89,7 @@ fn work_of(node: &TypedNode, worker_groups: &[u32], rows: &[u64]) -> Work
     }
 }
 
-// The most steps by which a worker with this work goes on that sends to so many consumers.
+// The most steps by which a worker with this `work` goes on that sends to `consumers` consumers.
 #[tactic(auto, using(crate::proofs::Capped::capped_steps))]
 fn steps_of(consumers: u64, work: Work) -> u64
     ensures { (rows turns : ℕ) → work.rows ≡ capped rows → work.turns ≡ capped turns → result ≡ capped ((consumers + 1) * rows + turns + (2 * consumers + 4)) }
@@ -98,7 +98,7 @@ fn steps_of(consumers: u64, work: Work) -> u64
     sum(sum(sent, work.turns), sum(product(2, consumers), 4))
 }
 
-// Those of so many workers with as many steps each, and of all others.
+// The steps of `workers` workers with `each` steps each, and the steps of all `others`.
 #[tactic(auto, using(crate::proofs::Capped::capped_with_others))]
 fn with_others(workers: u32, each: u64, others: u64) -> u64
     ensures { (steps rest : ℕ) → each ≡ capped steps → others ≡ capped rest → result ≡ capped (workers * steps + rest) }

@@ -9,7 +9,7 @@ ghost use Rattle.vx_values.specs.Limits.{max_group_workers};
 
 use vx_plan_nodes::Size;
 
-/// How many workers a size has, where the worker groups of each size name have so many, by its number.
+/// The number of workers of `size`. `worker_groups` holds the number of workers of each group, by the number of its size name.
 pub fn workers_of(worker_groups: &[u32], size: Size) -> u32
     requires { All (IsWithin 1 max_group_workers) worker_groups.now }
     ensures count { result ≡ workers (worker_group_at worker_groups.now) (size_of size) }

@@ -28,7 +28,7 @@ fn read_once<S: Read>(
     Ok(n)
 }
 
-/// Reads bytes of a source behind those of a buffer until this has so many bytes, and returns whether the source came to its end
+/// Reads bytes of `source` behind those of `buffer`, until `buffer` has `size` bytes. Returns whether the source came to its end
 /// before. It fails with NoMemory if the source does: whoever owns the source asks it why.
 pub fn fill<S: Read>(source: &mut S, buffer: &mut Vec<u8>, size: usize) -> Result<bool, LoadFault>
     ensures bytes { OnOk result (Moves buffer.old.items (S.remaining source.old) buffer.new.items (S.remaining source.new)) }

@@ -41,7 +41,7 @@ pub fn last_cut(text: &[u8]) -> usize
     0
 }
 
-/// The beginnings of so many pieces of a text, and its end. The pieces are about as long as each other, but for lines that are
+/// The beginnings of `count` pieces of a text, and its end. The pieces are about as long as each other, but for lines that are
 /// longer; some may be empty.
 pub fn cuts_of(alloc: Global, text: &[u8], count: usize) -> Result<Vec<usize>, AllocError>
     requires { 0 < count }

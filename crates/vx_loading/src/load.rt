@@ -103,8 +103,8 @@ pub fn load_in_shares<P: Threads + Sync, R: ByteIn>(
     Ok(Loaded::new(alloc, catalog, relation, read?)?)
 }
 
-/// The rows of a relation of a catalog, from all bytes of a reader, read by so many threads: what `Loader::load` returns, which
-/// one thread calls.
+/// Reads the rows of a relation of a catalog from all bytes of `reader`, in up to `threads` threads. It returns what
+/// `Loader::load` returns, which one thread calls.
 ///
 /// The text is read by rounds over one buffer of some megabytes, in which the longest line has room. In a round each thread reads a
 /// part of its lines, and their rows are put behind those so far, each column by a thread of its own. From the first part with a

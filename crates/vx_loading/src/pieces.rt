@@ -73,7 +73,7 @@ fn read_pieces<P: Threads + Sync>(
     )
 }
 
-/// An error in a piece, where so many rows come before.
+/// The error of a piece with `n` rows before it: its row, if it has one, is shifted by `n`. It is `TooLarge` beyond the limit.
 pub fn fault_of(n: usize, fault: LoadFault) -> LoadFault
     requires { n ≤ max_rows }
     ensures { result ≡ fault_behind n fault }
@@ -91,7 +91,8 @@ pub fn fault_of(n: usize, fault: LoadFault) -> LoadFault
     }
 }
 
-// The tables of the pieces up to the first that has a quote, behind so many rows, or the first error.
+// The tables of `parts` before the first `None` (a piece with a quote), or the first error. An error's row is shifted by
+// `before` and by the rows of the tables in front of it.
 fn tables_of(
     alloc: Global,
     before: usize,
@@ -121,8 +122,8 @@ fn tables_of(
     Ok(tables)
 }
 
-/// Adds the rows of a text to those so far, up to the first piece that has a quote, and returns how many bytes were read. The
-/// text is cut into so many pieces, each of which is read by a thread of its own.
+/// Adds the rows of `text` to `rows`, up to the first piece that has a quote, and returns how many bytes were read. The text is
+/// cut into `threads` pieces, and a thread of its own reads each.
 pub fn read_round<P: Threads + Sync>(
     rt: &P,
     alloc: Global,

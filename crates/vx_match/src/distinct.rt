@@ -22,7 +22,6 @@ pub struct FirstRows {
     seen: Seen,
 }
 
-// By hand, so that the drops of its parts are made and proved here once, and not in each function that drops one.
 impl Drop for FirstRows {
     fn drop(self) {
         let FirstRows {

@@ -23,7 +23,6 @@ pub struct KeyedGroups {
     failed: Option<FinishFault>,
 }
 
-// By hand, so that the drops of its parts are made and proved here once, and not in each function that drops one.
 impl Drop for KeyedGroups {
     fn drop(self) {
         let KeyedGroups {

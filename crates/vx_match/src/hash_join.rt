@@ -32,7 +32,6 @@ pub struct HashJoining {
     build: Build,
 }
 
-// By hand, so that the drops of its parts are made and proved here once, and not in each function that drops one.
 impl Drop for HashJoining {
     fn drop(self) {
         let HashJoining {

@@ -10,7 +10,7 @@ use vx_ops::{Code, Fault, Got, Polled, Source, StreamState, Want};
 use vx_values::ColType;
 use vx_views::Rows;
 
-// A batch of joined rows is cut once it has so many.
+// A batch of joined rows is cut once it has `MOST` rows.
 const MOST: usize = 65_536;
 
 /// Calls: `new (wants turn)*`.
@@ -27,7 +27,6 @@ pub struct MergeJoin {
     over: StreamState,
 }
 
-// By hand, so that the drops of its parts are made and proved here once, and not in each function that drops one.
 impl Drop for MergeJoin {
     fn drop(self) {
         let MergeJoin {

@@ -70,7 +70,6 @@ pub struct MergeRows {
     right_ended: bool,
 }
 
-// By hand, so that the drops of its parts are made and proved here once, and not in each function that drops one.
 impl Drop for MergeRows {
     fn drop(self) {
         let MergeRows {

@@ -114,7 +114,8 @@ fn is_concat(kind: &ExchangeKind) -> bool
     matches!(kind, ExchangeKind::Concat)
 }
 
-/// The consumer end of an exchange at a place, by its node number, for so many producers of rows of these types, to which nothing came.
+/// The consumer end, at `place`, of the exchange whose node has this `number`. It takes rows of these `types` from `producers` producers,
+/// and no packet has come yet.
 pub fn consumer_operator(
     alloc: Global,
     number: u32,

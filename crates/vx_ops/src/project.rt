@@ -19,7 +19,6 @@ pub struct Projection {
     types: Vec<ColType>,
 }
 
-// By hand, so that the drops of its parts are made and proved here once, and not in each function that drops one.
 impl Drop for Projection {
     fn drop(self) {
         let Projection {

@@ -15,7 +15,6 @@ pub struct Scan {
     over: StreamState,
 }
 
-// By hand, so that the drops of its parts are made and proved here once, and not in each function that drops one.
 impl Drop for Scan {
     fn drop(self) {
         let Scan { types: _, over: _ } = self;

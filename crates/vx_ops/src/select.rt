@@ -20,7 +20,6 @@ pub struct Selection {
     types: Vec<ColType>,
 }
 
-// By hand, so that the drops of its parts are made and proved here once, and not in each function that drops one.
 impl Drop for Selection {
     fn drop(self) {
         let Selection {

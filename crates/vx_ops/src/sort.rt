@@ -20,7 +20,6 @@ pub struct Sorting {
     read: Rows,
 }
 
-// By hand, so that the drops of its parts are made and proved here once, and not in each function that drops one.
 impl Drop for Sorting {
     fn drop(self) {
         let Sorting {

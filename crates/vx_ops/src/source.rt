@@ -23,12 +23,12 @@ pub trait Source {
     // What the source wants next.
     ghost want: { Self → Want };
 
-    // The most rows that it may still return, where so many rows may still come. Rows that come and rows that may come count alike,
-    // so it never rises; a row that is returned is one less.
+    // The most rows that it may still return, if the rows counted by the `Coming` argument may still come. Rows that came and rows
+    // that may come count alike, so it never rises; a row that is returned is one less.
     ghost most: { Self → Coming → ℕ };
 
-    // The most turns of its own in which it may still return nothing, where so many rows may still come. It never rises either, and
-    // each such turn is one less: so what it does without its inputs comes to an end.
+    // The most turns of its own in which it may still return nothing, if the rows counted by `Coming` may still come. It never rises
+    // either, and each such turn is one less. So what it does without its inputs comes to an end.
     ghost idle: { Self → Coming → ℕ };
 
     /// What it wants before its next turn: an input of its own that has not ended, or nothing.

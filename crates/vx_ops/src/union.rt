@@ -17,7 +17,6 @@ pub struct Union {
     over: StreamState,
 }
 
-// By hand, so that the drops of its parts are made and proved here once, and not in each function that drops one.
 impl Drop for Union {
     fn drop(self) {
         let Union {

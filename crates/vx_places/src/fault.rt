@@ -1,4 +1,5 @@
-//! Why a place is not found again.
+//! Why a place is not found again. A place is a line and its columns in the text of a table, or a path of members in the
+//! document of a plan.
 
 use std::alloc::{AllocError, AllocFailed};
 use thiserror::Error;

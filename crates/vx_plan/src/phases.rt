@@ -44,7 +44,7 @@ pub fn parts_of(node: &TypedNode) -> Option<(&[usize], &[Aggregate])>
     }
 }
 
-/// So many columns from the first on.
+/// The first `count` columns.
 #[tactic(auto, using(crate::proofs::PhaseFacts::first_push))]
 pub fn first_columns(alloc: Global, count: usize) -> Result<Vec<usize>, AllocError>
     ensures { IfOk result (λ v. v.items ≡ first_columns count) }

@@ -24,7 +24,6 @@ pub struct NamedClaim {
     pub keys: Vec<Vec<String>>,
 }
 
-// By hand, so that the drops of its parts are made and proved here once, and not in each function that drops one.
 impl Drop for NamedClaim {
     fn drop(self) {
         let NamedClaim {
@@ -82,7 +81,6 @@ pub struct NamedScan {
     pub prefix: String,
 }
 
-// By hand, so that the drops of its parts are made and proved here once, and not in each function that drops one.
 impl Drop for NamedScan {
     fn drop(self) {
         let NamedScan {
@@ -106,7 +104,6 @@ pub enum NamedUnary {
     FinalGroup,
 }
 
-// By hand, so that the drops of its parts are made and proved here once, and not in each function that drops one.
 impl Drop for NamedUnary {
     fn drop(self) {
         match self {
@@ -128,7 +125,6 @@ pub enum NamedBinary {
     MergeJoin(Vec<(String, String)>),
 }
 
-// By hand, so that the drops of its parts are made and proved here once, and not in each function that drops one.
 impl Drop for NamedBinary {
     fn drop(self) {
         match self {
@@ -158,7 +154,6 @@ pub enum NamedKind {
     Concat,
 }
 
-// By hand, so that the drops of its parts are made and proved here once, and not in each function that drops one.
 impl Drop for NamedKind {
     fn drop(self) {
         match self {
@@ -188,7 +183,6 @@ pub enum Node {
     Exchange(NamedClaim, NamedKind, Vec<String>, Box<Node>),
 }
 
-// By hand, so that the drops of its parts are made and proved here once, and not in each function that drops one.
 impl Drop for Node {
     fn drop(self) {
         match self {

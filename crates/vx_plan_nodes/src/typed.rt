@@ -48,7 +48,6 @@ pub struct Claim {
     pub keys: Vec<Vec<usize>>,
 }
 
-// By hand, so that the drops of its parts are made and proved here once, and not in each function that drops one.
 impl Drop for Claim {
     fn drop(self) {
         let Claim {
@@ -100,7 +99,6 @@ pub struct Columns {
     pub types: Vec<ColType>,
 }
 
-// By hand, so that the drops of its parts are made and proved here once, and not in each function that drops one.
 impl Drop for Columns {
     fn drop(self) {
         let Columns { names: _, types: _ } = self;
@@ -114,7 +112,6 @@ pub struct Head {
     pub columns: Arc<Columns>,
 }
 
-// By hand, so that the drops of its parts are made and proved here once, and not in each function that drops one.
 impl Drop for Head {
     fn drop(self) {
         let Head {
@@ -134,7 +131,6 @@ pub struct ScanNode {
     pub prefix: String,
 }
 
-// By hand, so that the drops of its parts are made and proved here once, and not in each function that drops one.
 impl Drop for ScanNode {
     fn drop(self) {
         let ScanNode {
@@ -171,7 +167,6 @@ pub enum Unary {
     Group(Phase, Vec<usize>, Vec<Aggregate>),
 }
 
-// By hand, so that the drops of its parts are made and proved here once, and not in each function that drops one.
 impl Drop for Unary {
     fn drop(self) {
         match self {
@@ -191,7 +186,6 @@ pub enum Binary {
     MergeJoin(Vec<(usize, usize)>),
 }
 
-// By hand, so that the drops of its parts are made and proved here once, and not in each function that drops one.
 impl Drop for Binary {
     fn drop(self) {
         match self {
@@ -237,7 +231,6 @@ pub struct Exchange {
     pub merge: Vec<usize>,
 }
 
-// By hand, so that the drops of its parts are made and proved here once, and not in each function that drops one.
 impl Drop for Exchange {
     fn drop(self) {
         let Exchange { kind: _, merge: _ } = self;
@@ -252,7 +245,6 @@ pub enum TypedNode {
     Exchange(Head, Exchange, Box<TypedNode>),
 }
 
-// By hand, so that the drops of its parts are made and proved here once, and not in each function that drops one.
 impl Drop for TypedNode {
     fn drop(self) {
         match self {

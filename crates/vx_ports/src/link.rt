@@ -15,7 +15,6 @@ pub struct Link {
     closed: bool,
 }
 
-// By hand, so that the drops of its parts are made and proved here once, and not in each function that drops one.
 impl Drop for Link {
     fn drop(self) {
         let Link {

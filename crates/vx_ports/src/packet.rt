@@ -41,7 +41,6 @@ pub struct Packet {
     rows: Rows,
 }
 
-// By hand, so that the drops of its parts are made and proved here once, and not in each function that drops one.
 impl Drop for Packet {
     fn drop(self) {
         let Packet {

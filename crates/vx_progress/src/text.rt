@@ -19,7 +19,7 @@ const ERASED: &[u8] = b"\x1b[K";
 /// Erases the line.
 pub const ENDING: &[u8] = b"\r\x1b[K";
 
-// Whether so many digits are whole groups of three.
+// Whether `digits` digits are whole groups of three.
 fn are_groups(digits: usize) -> bool
     ensures { result ≡ are_groups digits }
 {
@@ -67,7 +67,7 @@ fn unit_name(size: u64) -> &'static [u8]
     if size < MEGABYTE { b" kB" } else { b" MB" }
 }
 
-// Adds so many bytes of a file whose size is not known.
+// Adds the text of `bytes` bytes of a file whose size is not known.
 fn push_bytes(text: &mut Vec<u8>, bytes: u64) -> Result<(), AllocError>
     ensures { OnOk result (text.new.items ≡ text.old.items ++ bytes_text bytes) }
 {
@@ -75,7 +75,7 @@ fn push_bytes(text: &mut Vec<u8>, bytes: u64) -> Result<(), AllocError>
     text.extend_from_slice(unit_name(bytes))
 }
 
-// The hundredths of a size that so many bytes are.
+// How many hundredths of `size` bytes `bytes` bytes are.
 fn percent_of(bytes: u64, size: u64) -> u64
     requires some { 0 < size }
     requires part { bytes ≤ size }
@@ -84,7 +84,7 @@ fn percent_of(bytes: u64, size: u64) -> u64
     (u128::from(bytes) * 100 / u128::from(size)) as u64
 }
 
-// Adds so many bytes of a file of this size.
+// Adds the text of `bytes` bytes of a file of `size` bytes.
 fn push_part(text: &mut Vec<u8>, bytes: u64, size: u64) -> Result<(), AllocError>
     requires some { 0 < size }
     requires part { bytes ≤ size }
@@ -100,7 +100,7 @@ fn push_part(text: &mut Vec<u8>, bytes: u64, size: u64) -> Result<(), AllocError
     text.extend_from_slice(b"%)")
 }
 
-// Adds so many bytes of a file whose size is known or not.
+// Adds the text of `bytes` bytes of a file of `size` bytes, or of unknown size.
 fn push_amount(text: &mut Vec<u8>, size: Option<u64>, bytes: u64) -> Result<(), AllocError>
     ensures { OnOk result (text.new.items ≡ text.old.items ++ amount_text size bytes) }
 {

@@ -22,7 +22,6 @@ pub(crate) struct StreamHead {
     pub ended: bool,
 }
 
-// By hand, so that the drops of its parts are made and proved here once, and not in each function that drops one.
 impl Drop for StreamHead {
     fn drop(self) {
         let StreamHead {
@@ -208,7 +207,7 @@ pub(crate) fn first_lacking(heads: &[StreamHead]) -> Option<usize>
     None
 }
 
-// Heads of so many producers to which nothing came.
+// Heads for the streams of `producers` producers, of which nothing has come yet.
 pub(crate) fn new_heads(
     alloc: Global,
     producers: usize,

@@ -20,7 +20,6 @@ pub struct InOrderReceiver {
     ghost next_in_range: { next < producers },
 }
 
-// By hand, so that the drops of its parts are made and proved here once, and not in each function that drops one.
 impl Drop for InOrderReceiver {
     fn drop(self) {
         let InOrderReceiver {

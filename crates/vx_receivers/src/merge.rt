@@ -16,10 +16,10 @@ use vx_keys::rises;
 use vx_values::ColType;
 use vx_views::Rows;
 
-// Rows are given until there are so many.
+// Rows are given until there are `MOST` or more.
 const MOST: usize = 4096;
 
-// So many rows in a run, and it is worth a chunk of its own.
+// A run of at least `RUN` rows is worth a chunk of its own.
 const RUN: usize = 16;
 
 // Calls: `new (put | end | give)*`, and none after an `Err` or after a `put` that returns false.
@@ -38,7 +38,6 @@ pub(crate) struct StreamMerge {
     missing: Option<usize>,
 }
 
-// By hand, so that the drops of its parts are made and proved here once, and not in each function that drops one.
 impl Drop for StreamMerge {
     fn drop(self) {
         let StreamMerge {
@@ -74,7 +73,7 @@ fn with_few_chunks(alloc: Global, rows: Rows) -> Result<Rows, AllocError>
 }
 
 impl StreamMerge {
-    // A merge on these columns of the streams of so many producers, with rows of these types, of which nothing came.
+    // A merge of the streams of `producers` producers on `columns`, with rows of `types`. Nothing of them has come yet.
     pub(crate) fn new(
         alloc: Global,
         producers: usize,

@@ -26,7 +26,6 @@ pub struct MergeReceiver {
     ghost few: { length kernel.heads ≤ max_group_workers },
 }
 
-// By hand, so that the drops of its parts are made and proved here once, and not in each function that drops one.
 impl Drop for MergeReceiver {
     fn drop(self) {
         let MergeReceiver {

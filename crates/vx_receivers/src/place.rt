@@ -15,7 +15,6 @@ pub(crate) struct ReceiverPlace {
     pub types: Vec<ColType>,
 }
 
-// By hand, so that the drops of its parts are made and proved here once, and not in each function that drops one.
 impl Drop for ReceiverPlace {
     fn drop(self) {
         let ReceiverPlace {

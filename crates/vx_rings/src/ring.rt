@@ -66,8 +66,8 @@ impl RingIn {
     ghost use Rattle.std.specs.Prelude.{◌≤◌, ◌*◌, ◌↔◌, IsTrue, length};
     ghost use Rattle.vx_rings.specs.Ends.{seen_by, places_of};
 
-    /// Whether at most half of the ring's places are taken, by the packets that this end has seen wait. There may be more by
-    /// now.
+    /// Whether at most half the slots are occupied, by this end's cached count: a lower bound, the producer may have pushed
+    /// since.
     pub fn is_half_free(&self) -> bool
         ensures { IsTrue result ↔ (2 * length (seen_by self.now) ≤ places_of self.now) }
     {

@@ -164,7 +164,7 @@ impl Column {
         }
     }
 
-    /// Leaves the first `at` values, and makes room for so many more. The bytes of texts get no room.
+    /// Keeps the first `at` values and reserves room for `additional` more. It reserves none for the bytes of texts.
     pub fn reserve(&mut self, at: usize, additional: usize) -> Result<(), AllocError>
         requires { at ≤ size self.old }
         ensures { KeepsFront at self.old self.new }

@@ -164,7 +164,7 @@ impl NumberWidth {
         }
     }
 
-    // Makes room for so many more.
+    // Reserves room for `additional` more numbers.
     fn reserve(&mut self, additional: usize) -> Result<(), AllocError>
         ensures { kept_numbers self.new ≡ kept_numbers self.old }
     {
@@ -285,7 +285,7 @@ impl Numbers {
         self.width.truncate(at);
     }
 
-    /// Makes room for so many more.
+    /// Reserves room for `additional` more numbers.
     pub(crate) fn reserve(&mut self, additional: usize) -> Result<(), AllocError>
         ensures { self.new ≡ self.old }
     {

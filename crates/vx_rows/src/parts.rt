@@ -80,7 +80,7 @@ fn count_with(at: usize, parts: &[Table]) -> Option<usize>
     Some(count)
 }
 
-// Whether each of these columns has so many values.
+// Whether each of `columns` has at least `count` values.
 fn are_long(columns: &[Column], count: usize) -> bool
     ensures { result ≡ true → AreLong count columns.now }
 {

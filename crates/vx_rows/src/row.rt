@@ -112,8 +112,8 @@ impl Row {
         Ok(())
     }
 
-    /// Becomes the values of a row in these columns. Numbers need no memory once there is room for so many values,
-    /// and texts keep their capacity. After an `Err` the values are arbitrary.
+    /// Becomes the values of row `i` of `rows` in the columns `cols`. Numbers need no memory once there is room for `cols.len()`
+    /// values, and texts keep their capacity. After an `Err` the values are arbitrary.
     pub fn read(&mut self, rows: &Table, i: usize, cols: &[usize]) -> Result<(), AllocError>
         requires row { i < length rows.now.rows }
         requires columns { AreColumns (length rows.now.types) cols.now }

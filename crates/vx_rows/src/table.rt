@@ -248,7 +248,7 @@ impl Table {
         Ok(())
     }
 
-    /// Makes room for so many more rows, but for none of the bytes of their texts.
+    /// Reserves room for `additional` more rows, but not for the bytes of their texts.
     pub fn reserve(&mut self, additional: usize) -> Result<(), AllocError>
         ensures { self.new ≡ self.old }
     {

@@ -225,7 +225,7 @@ impl Texts {
         cut_back(&mut self.bytes, &mut self.cuts, at);
     }
 
-    /// Makes room for so many more texts, but for none of their bytes.
+    /// Reserves room for `additional` more texts, but not for their bytes.
     pub(crate) fn reserve(&mut self, additional: usize) -> Result<(), AllocError>
         ensures { self.new ≡ self.old }
     {

@@ -148,7 +148,7 @@ pub fn put_rows_at(
     Ok(())
 }
 
-/// Makes room in a column for so many rows past the first `at`.
+/// Reserves room in column `j` for `additional` rows past the first `at`.
 pub fn reserve_part(
     columns: &mut Vec<Column>,
     j: usize,
@@ -163,7 +163,7 @@ pub fn reserve_part(
     column.reserve(at, additional)
 }
 
-/// Makes room for so many rows past the first `at`.
+/// Reserves room in each column for `additional` rows past the first `at`.
 pub fn reserve_rows(
     columns: &mut Vec<Column>,
     at: usize,

@@ -90,7 +90,6 @@ pub struct WorkerCounts {
     pub nodes: Vec<NodeCounts>,
 }
 
-// By hand, so that the drops of its parts are made and proved here once, and not in each function that drops one.
 impl Drop for WorkerCounts {
     fn drop(self) {
         let WorkerCounts { steps: _, nodes: _ } = self;
@@ -105,7 +104,6 @@ pub struct RunCounts {
     workers: Vec<WorkerCounts>,
 }
 
-// By hand, so that the drops of its parts are made and proved here once, and not in each function that drops one.
 impl Drop for RunCounts {
     fn drop(self) {
         let RunCounts {

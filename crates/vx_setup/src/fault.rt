@@ -40,7 +40,7 @@ pub enum RunFault {
     /// A packet of another exchange, producer, consumer or types came to an exchange. Never in a run of an accepted plan.
     #[error("X11 Stranger exchange={exchange}")]
     Stranger { exchange: u32 },
-    /// The plan has so many workers, which is over 256.
+    /// The plan has `number` workers, which is over 256.
     #[error("X12 TooManyWorkers number={number}")]
     TooManyWorkers { number: u32 },
     /// A producer is to run ahead by no packet, or by over 1,024 packets.

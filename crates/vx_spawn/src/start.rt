@@ -25,7 +25,7 @@ impl Start {
     // Some thread could not be started.
     const CANCELLED: u64 = 2;
 
-    /// A barrier that is closed, for so many workers.
+    /// A barrier that is closed, for `workers` workers.
     pub fn new(alloc: Global, workers: usize) -> Result<Start, AllocError> {
         let mut parkers = Vec::with_capacity(alloc, workers)?;
         for _ in 0..workers {

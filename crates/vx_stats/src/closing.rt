@@ -10,7 +10,7 @@ use crate::text::StatsForm;
 use itoa::Buffer;
 use vx_bytes::{Broken, ByteOut, write_all};
 
-// The spaces before a number of so many digits in ten places.
+// The spaces before a number of `digits` digits in ten places.
 fn padding(spaces: &[u8; 10], digits: usize) -> &[u8]
     requires { spaces.now ≡ replicate 10 32 }
     ensures { result.now ≡ replicate (10 - digits) 32 }
@@ -18,7 +18,7 @@ fn padding(spaces: &[u8; 10], digits: usize) -> &[u8]
     &spaces[digits.min(10)..]
 }
 
-// Writes so many microseconds in milliseconds, and the end of the line. No memory is asked for.
+// Writes `time`, in microseconds, as milliseconds, and the end of the line. No memory is asked for.
 fn write_milliseconds<W: ByteOut>(out: &mut W, time: u64) -> Result<(), Broken>
     ensures ok { OnOk result (Appends (W.contents out.old) (W.contents out.new) (milliseconds (Some time) ++ codes "\n")) }
     ensures fails { W.has_failed out.new ≡ (W.has_failed out.old || is_err result) }

@@ -14,7 +14,7 @@ pub fn push_number(text: &mut String, number: u64) -> Result<(), AllocError>
     text.push_str(digits.format(number))
 }
 
-// Adds so many spaces.
+// Adds `count` spaces.
 fn push_spaces(text: &mut String, count: usize) -> Result<(), AllocError>
     ensures { OnOk result (string_bytes text.new ≡ string_bytes text.old ++ replicate count 32) }
 {
@@ -24,7 +24,7 @@ fn push_spaces(text: &mut String, count: usize) -> Result<(), AllocError>
     Ok(())
 }
 
-/// Adds a word at the left of a column of so many places.
+/// Adds `word` at the left of a column of `width` places.
 pub fn push_left(text: &mut String, width: usize, word: &str) -> Result<(), AllocError>
     ensures { OnOk result (string_bytes text.new ≡ string_bytes text.old ++ at_left width word.now) }
 {
@@ -32,7 +32,7 @@ pub fn push_left(text: &mut String, width: usize, word: &str) -> Result<(), Allo
     push_spaces(text, width.saturating_sub(word.len()))
 }
 
-/// Adds a word at the right of a column of so many places.
+/// Adds `word` at the right of a column of `width` places.
 pub fn push_right(text: &mut String, width: usize, word: &str) -> Result<(), AllocError>
     ensures { OnOk result (string_bytes text.new ≡ string_bytes text.old ++ at_right width word.now) }
 {
@@ -92,7 +92,7 @@ fn push_thousandths(text: &mut String, n: u64) -> Result<(), AllocError>
     push_digit(text, n % 10)
 }
 
-/// Adds a time of so many microseconds in milliseconds, with three digits behind the point; a dash where it is not known.
+/// Adds `time`, in microseconds, as milliseconds with three digits behind the point, or a dash for `None`.
 pub fn push_milliseconds(text: &mut String, time: Option<u64>) -> Result<(), AllocError>
     ensures { OnOk result (string_bytes text.new ≡ string_bytes text.old ++ milliseconds time) }
 {
@@ -105,7 +105,7 @@ pub fn push_milliseconds(text: &mut String, time: Option<u64>) -> Result<(), All
     }
 }
 
-/// Adds a time of so many microseconds as a JSON value.
+/// Adds `time`, in microseconds, as a JSON value: `null` for `None`.
 pub fn push_microseconds(text: &mut String, time: Option<u64>) -> Result<(), AllocError>
     ensures { OnOk result (string_bytes text.new ≡ string_bytes text.old ++ microseconds time) }
 {

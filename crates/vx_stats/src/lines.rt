@@ -34,7 +34,7 @@ fn line_of(worker: usize, puts: u64, full: u64, node: &NodeCounts) -> Line
     }
 }
 
-// So many waits without those for a packet that one of these nodes wanted.
+// The number `waits` without the waits for a packet that one of `nodes` wanted.
 fn other_waits(waits: u64, nodes: &[NodeCounts]) -> u64
     ensures { result ≡ other_waits waits nodes.now }
 {

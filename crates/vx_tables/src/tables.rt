@@ -38,7 +38,7 @@ pub trait Tables {
         ensures relation { IfOk result (λ l. l.relation ≡ relation) }
         ensures refused { IfErr result (λ e. lacks self.now (relation_at catalog.now relation) e) };
 
-    /// The same rows, read by up to so many threads; by one, where no more is said.
+    /// The same rows, read by up to `_threads` threads. The default reads them in one thread.
     fn load_in_threads<P: Threads + Sync>(
         &self,
         _rt: &P,

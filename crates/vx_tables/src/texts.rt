@@ -29,7 +29,7 @@ fn load_text(
     Loader::load(alloc, catalog, relation, &mut reader)
 }
 
-// The same rows, read by up to so many threads.
+// The same rows, read by up to `threads` threads.
 fn load_text_in_threads<P: Threads + Sync>(
     rt: &P,
     alloc: Global,

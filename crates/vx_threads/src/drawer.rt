@@ -28,9 +28,9 @@ impl Dealer {
         match self {
             Dealer::Seat(deck, seat) => {
                 let deck = *deck;
-                return decks[deck].draw(seat);
+                decks[deck].draw(seat)
             }
-            Dealer::Hand(hand) => return hand.draw(),
+            Dealer::Hand(hand) => hand.draw(),
         }
     }
 }

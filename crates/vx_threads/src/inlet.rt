@@ -86,12 +86,12 @@ impl Inlet {
     {
         self.queue.reserve(1)?;
         match self.pop(parkers) {
-            None => return Ok(false),
+            None => Ok(false),
             Some(packet) => {
                 let Ok(()) = self.queue.push_back(packet) else {
                     unreachable!()
                 };
-                return Ok(true);
+                Ok(true)
             }
         }
     }

@@ -15,10 +15,10 @@ pub fn wake(parkers: &[Parker], worker: usize) {
     }
 }
 
-// Consumers are woken once so many packets wait for each of them,
+// Consumers are woken once `PACKETS` packets wait for each of them,
 const PACKETS: usize = 4;
 
-// or so many rows, which takes longer to work through than to wake the one that does it.
+// or `ROWS` rows, which takes longer to work through than to wake the one that does it.
 const ROWS: usize = 1024;
 
 // There are no more consumers than this.
@@ -50,7 +50,7 @@ impl Unwoken {
         }
     }
 
-    // Adds a packet of so many rows for the consumer at a place.
+    // Adds a packet of `rows` rows for the consumer at `place`.
     fn add(&mut self, place: usize, rows: usize)
         requires { place < 64 }
         ensures noted { IsNoted self.new place }
@@ -71,8 +71,8 @@ impl Unwoken {
             || self.rows >= self.consumers.saturating_mul(ROWS)
     }
 
-    /// Notes what came of a put to the consumer at a place, of a packet of so many rows. If enough waits by now, or the packet closed the
-    /// ring, all consumers with packets are woken; `first` is the number of the first consumer among all workers.
+    /// Notes the `answer` to a put of a packet of `rows` rows to the consumer at `place`. If enough waits by now, or the packet closed the
+    /// ring, all consumers with packets are woken. `first` is the number of the first consumer among all workers.
     pub fn note(
         &mut self,
         place: usize,

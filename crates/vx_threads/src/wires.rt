@@ -77,11 +77,11 @@ impl<'d> ThreadWires<'d> {
                     return true;
                 }
             },
-            Room::Refused | Room::Reported => return false,
+            Room::Refused | Room::Reported => false,
         }
     }
 
-    /// What was drawn of a shared scan since the last call, if anything was.
+    /// Takes the last draw from a shared scan, if there was one since the previous call. `Some(None)`: the deck was empty.
     pub fn noted(&mut self) -> Option<Option<u64>>
         ensures ends { self.new.ends ≡ self.old.ends }
         ensures noted { result ≡ self.old.noted }
@@ -118,9 +118,9 @@ impl<'d> ThreadWires<'d> {
         match self.room {
             Room::Refused => {
                 self.room = Room::Reported;
-                return Err(AllocError);
+                Err(AllocError)
             }
-            Room::There | Room::Reported => return Ok(()),
+            Room::There | Room::Reported => Ok(()),
         }
     }
 }
@@ -158,8 +158,8 @@ impl<'d> Wires for ThreadWires<'d> {
             return self.ends.put(to, packet, self.parkers);
         }
         match self.report() {
-            Ok(()) => return self.ends.put(to, packet, self.parkers),
-            Err(_) => return Put::NoMemory(packet),
+            Ok(()) => self.ends.put(to, packet, self.parkers),
+            Err(_) => Put::NoMemory(packet),
         }
     }
 }

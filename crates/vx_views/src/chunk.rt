@@ -38,7 +38,6 @@ pub struct Chunk {
     count: usize,
 }
 
-// By hand, so that the drops of its parts are made and proved here once, and not in each function that drops one.
 impl Drop for Chunk {
     fn drop(self) {
         let Chunk {
@@ -298,7 +297,7 @@ fn field_of(fields: &ArcSlice<Field>, column: usize) -> Field
     fields.as_slice()[column]
 }
 
-// Adds the fields of others, before whose parts so many stand.
+// Adds the fields `others`, each with its part index increased by `before`.
 fn push_shifted(fields: &mut Vec<Field>, others: &[Field], before: usize) -> Result<(), AllocError>
     requires { All (λ f. f.part + before < 2 ^ 64) others.now }
     ensures { OnOk result (fields.new.items ≡ fields.old.items ++ map (shifted before) others.now) }
@@ -326,7 +325,7 @@ fn types_of_both(
     ArcSlice::from_vec(all)
 }
 
-// Fields, and others behind them, before whose parts so many stand.
+// The fields `fields`, then `others`, each of these with its part index increased by `before`.
 fn fields_of_both(
     alloc: Global,
     fields: &[Field],

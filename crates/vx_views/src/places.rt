@@ -21,7 +21,7 @@ pub trait NumberTest {
         ensures { result ≡ says self.now number.now };
 }
 
-// The numbers at the positions from `from` on, so many.
+// The `count` numbers at the positions from `from` on.
 pub(crate) fn part_of(numbers: &Numbers, from: usize, count: usize) -> NumbersRef<'_>
     requires { (k : ℕ) → k < count → from + k < length numbers.now }
     ensures { map num (seen_numbers result) ≡ map (λ q. num (slice_index_or numbers.now q (pos 0))) (each_below count (λ k. from + k)) }

@@ -51,7 +51,6 @@ pub struct PositionList {
     width: PositionWidth,
 }
 
-// By hand, so that the drops of its parts are made and proved here once, and not in each function that drops one.
 impl Drop for PositionList {
     fn drop(self) {
         let PositionList { width: _ } = self;
@@ -140,7 +139,6 @@ pub struct Positions {
     count: usize,
 }
 
-// By hand, so that the drops of its parts are made and proved here once, and not in each function that drops one.
 impl Drop for Positions {
     fn drop(self) {
         let Positions {
@@ -175,7 +173,7 @@ impl Positions {
     ghost use Rattle.std.specs.Arc.{arc_value};
     ghost use Rattle.vx_views.specs.Seen.{seen_positions};
 
-    /// The positions from `from` on, so many.
+    /// The `count` positions from `from` on.
     pub fn range(from: usize, count: usize) -> Positions
         requires { from + count < 2 ^ 64 }
         ensures { result ≡ each_below count (λ k. from + k) }

@@ -24,7 +24,6 @@ pub struct Rows {
     count: usize,
 }
 
-// By hand, so that the drops of its parts are made and proved here once, and not in each function that drops one.
 impl Drop for Rows {
     fn drop(self) {
         let Rows {
@@ -272,7 +271,7 @@ fn spot_of(chunks: &[Chunk], i: usize) -> RowPosition
     unreachable!()
 }
 
-// Adds the rows of chunks behind the first `skip` of them, so many.
+// Adds up to `count` rows of `chunks`, after skipping the first `skip` rows.
 fn add_part(
     alloc: Global,
     found: &mut Rows,
@@ -396,7 +395,7 @@ fn add_run(
     Ok(to)
 }
 
-// Where the places from `from` on end that are among so many from `start` on.
+// The end of the run in `places`, from index `from` on, whose places lie in `start..start + count`.
 fn run_end(places: &[usize], from: usize, start: usize, count: usize) -> usize
     requires there { from < length places.now }
     requires low { start ≤ slice_index places.now from }

@@ -25,7 +25,6 @@ pub struct TableRows {
     at: Positions,
 }
 
-// By hand, so that the drops of its parts are made and proved here once, and not in each function that drops one.
 impl Drop for TableRows {
     fn drop(self) {
         let TableRows { base: _, at: _ } = self;
@@ -165,7 +164,7 @@ impl TableRows {
     }
 }
 
-// Adds so many rows of another table from a position on.
+// Adds `count` rows of `other`, from position `from` on.
 fn append_part(rows: &mut Table, other: &Table, from: usize, count: usize) -> Result<(), AllocError>
     requires types { other.now.types ≡ rows.old.types }
     requires there { ArePositions (length other.now.rows) (each_below count (λ k. from + k)) }

@@ -24,7 +24,7 @@ pub struct Making {
     pub places: Vec<DeckPlace>,
 }
 
-// How many morsels a relation has, where the relations have so many. One past the last has none.
+// The number of morsels of `relation`. `morsels` holds that of each relation; a relation past the last has none.
 fn morsels_of(morsels: &[u64], relation: usize) -> u64
     requires { All (λ m. m ≤ max_rows) morsels.now }
     ensures count { result ≡ counts_in morsels.now relation }
@@ -145,20 +145,20 @@ impl Making {
         ensures { OnOk result (AddsSpan (counts_in morsels.now) span (made_of self.old) (made_of self.new)) }
     {
         match span {
-            NodeSpan::Inner => return Ok(()),
+            NodeSpan::Inner => Ok(()),
             NodeSpan::Exchange(exchange) => {
                 self.add_producers(alloc, exchange, slack)?;
-                return Ok(());
+                Ok(())
             }
             NodeSpan::Scan(scan) => {
                 self.add_scan(alloc, morsels, scan)?;
-                return Ok(());
+                Ok(())
             }
         }
     }
 
-    /// What all nodes of a plan need, by their spans, and all workers of the plan. The relations have so many morsels, and
-    /// a ring has room for `slack` packets.
+    /// What all nodes of a plan need, by their spans, and all workers of the plan. `morsels` holds the number of morsels of each
+    /// relation. A ring has room for `slack` packets.
     pub fn of(
         alloc: Global,
         morsels: &[u64],

@@ -64,7 +64,7 @@ fn write_lines<W: ByteOut>(writer: &mut W, buffer: &mut [u8], rows: u64) -> Resu
     Ok(())
 }
 
-/// Writes the text of the relation with so many rows, as rows of a relation are written: 10,000,000 rows at most. It takes
+/// Writes the text of the relation with `rows` rows, as rows of a relation are written: 10,000,000 rows at most. It takes
 /// the memory of one block, whatever the number of rows.
 pub fn generate<W: ByteOut>(alloc: Global, rows: u64, writer: &mut W) -> Result<(), GenerateFault>
     ensures text { OnOk result (Appends (W.contents writer.old) (W.contents writer.new) (csv_text column_names (wisconsin rows))) }

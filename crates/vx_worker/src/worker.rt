@@ -62,7 +62,6 @@ pub struct Worker<O, S> {
     counts: StepCounts,
 }
 
-// By hand, so that the drops of its parts are made and proved here once, and not in each function that drops one.
 impl<O: Drop, S: Drop> Drop for Worker<O, S> {
     fn drop(self) {
         let Worker {
@@ -180,9 +179,9 @@ impl<O: Source, S: Sends> Worker<O, S> {
         match self.advance(morsels, router, wires) {
             StepOutcome::Waiting => {
                 self.counts.add_wait();
-                return StepOutcome::Waiting;
+                StepOutcome::Waiting
             }
-            stepped => return stepped,
+            stepped => stepped,
         }
     }
 
@@ -248,14 +247,14 @@ impl<O: Source, S: Sends> Worker<O, S> {
         match self.sender.next() {
             Some(next) => {
                 self.pending = Some(next);
-                return self.send(wires);
+                self.send(wires)
             }
             None => {
                 if self.is_over {
                     self.phase = WorkerState::Well;
                     return StepOutcome::Ended;
                 }
-                return self.pull(morsels, router, wires);
+                self.pull(morsels, router, wires)
             }
         }
     }
@@ -321,7 +320,7 @@ impl<O: Source, S: Sends> Worker<O, S> {
     {
         let wish = self.tree.wants();
         match self.intake.fetch(wish, morsels, wires) {
-            Err(_) => return self.fail(self.no_memory()),
+            Err(_) => self.fail(self.no_memory()),
             Ok(got) => {
                 let nothing_came = matches!(got, Got::Packet(None));
                 match self.tree.turn(got) {
@@ -391,7 +390,7 @@ impl<O: Source, S: Sends> Worker<O, S> {
         match self.next_closing() {
             None => {
                 self.phase = WorkerState::Draining(fault);
-                return StepOutcome::Moved;
+                StepOutcome::Moved
             }
             Some((to, packet)) => match wires.put(to, packet) {
                 Put::Done => {
@@ -424,7 +423,7 @@ impl<O: Source, S: Sends> Worker<O, S> {
         ensures phase { self.new.phase ≡ self.old.phase }
     {
         match self.pending.take() {
-            Some(next) => return Some(next),
+            Some(next) => Some(next),
             None => match self.closing.pop() {
                 Some(packet) => return Some((packet.to(), packet)),
                 None => return None,
@@ -450,11 +449,11 @@ impl<O: Source, S: Sends> Worker<O, S> {
         ensures ended { (result ≡ StepOutcome.Ended) ↔ IsSome (outcome_of self.new) }
     {
         match self.intake.drain(wires) {
-            Drained::Dropped => return StepOutcome::Moved,
-            Drained::Nothing => return StepOutcome::Waiting,
+            Drained::Dropped => StepOutcome::Moved,
+            Drained::Nothing => StepOutcome::Waiting,
             Drained::All => {
                 self.phase = WorkerState::Failed(fault);
-                return StepOutcome::Ended;
+                StepOutcome::Ended
             }
         }
     }

@@ -9,7 +9,7 @@ use std::thread;
 use std::thread::Threads;
 use vx_views::Rows;
 
-/// Where block `i` of so many rows begins, if the first begins at `from` and each has `size` of them.
+/// Where block `i` of `len` rows begins, if the first begins at `from` and each has `size` of them.
 pub fn block_start(len: usize, from: usize, size: usize, i: usize) -> usize
     ensures { result ≡ min (from + i * size) len }
 {
@@ -34,7 +34,7 @@ fn block_lines(
     Lines::of(alloc, names, &block)
 }
 
-/// The lines of so many blocks from row `from` on, each of which is made by a thread of its own if one can be started.
+/// The lines of `count` blocks of `size` rows, from row `from` on. A thread of its own makes each, if one can be started.
 pub fn lines_of_blocks<P: Threads + Sync>(
     rt: &P,
     alloc: Global,

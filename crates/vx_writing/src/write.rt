@@ -67,7 +67,7 @@ pub fn format_in_shares<P: Threads + Sync>(
     Ok(text)
 }
 
-/// The text of rows, as `format_rows` makes it, by up to so many threads.
+/// The text of rows, as `format_rows` makes it, by up to `threads` threads.
 ///
 /// The rows are shared out in rounds. In a round each thread makes the text of some thousand rows that follow one another, and these texts
 /// are put behind the text so far. The text of few rows is made by one thread.
