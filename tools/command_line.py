@@ -1,4 +1,4 @@
-"""The commands and options of the program, read from crates/vx_arguments/src/command_line.rt, whose texts `--help` shows.
+"""The commands and options of the program, read from crates/volcano_arguments/src/command_line.rt, whose texts `--help` shows.
 
 Each function of that file is some `let`s and an expression, all of them chains of calls as clap has them. `read_program` evaluates `command`
 by evaluating these; a call that is not known here ends it with a `ValueError` that names it, so that nothing is left out unseen.
@@ -8,8 +8,8 @@ import re
 from dataclasses import dataclass, field
 
 ROOT = os.path.dirname(os.path.dirname(os.path.realpath(__file__)))
-SOURCE = "crates/vx_arguments/src/command_line.rt"
-CODES = "crates/vx_why/src"
+SOURCE = "crates/volcano_arguments/src/command_line.rt"
+CODES = "crates/volcano_why/src"
 TOKEN = re.compile(
     r"""\s+ | //[^\n]* | (?P<text>"(?:[^"\\]|\\.)*") | (?P<char>'(?:[^'\\]|\\.)') | '\w+
       | (?P<number>\d[\d_]*) | (?P<name>[A-Za-z_]\w*(?:::[A-Za-z_]\w*)*) | (?P<sign>\.\.=?|.)""",

@@ -1,4 +1,4 @@
-# Completion of volcano for bash. Made by tools/make-manual of the texts in crates/vx_arguments/src/command_line.rt: change them there.
+# Completion of volcano for bash. Made by tools/make-manual of the texts in crates/volcano_arguments/src/command_line.rt: change them there.
 _volcano() {
     local word=${COMP_WORDS[COMP_CWORD]} before=${COMP_WORDS[COMP_CWORD - 1]} options='' words='' option
     # `--mode=rounds` comes as three words.

@@ -6,9 +6,10 @@ use anyhow::Error;
 use std::alloc::{AllocError, Global};
 use std::rt::Clock;
 use std::time::Instant;
-use vx_catalog::Catalog;
-use vx_check::check;
-use vx_plan::{Plan, resolve};
+use vx_catalog_relations::Catalog;
+use vx_check_rules::check;
+use vx_plan::resolve;
+use vx_plan_json::Plan;
 
 const WIDTH: usize = 64;
 

@@ -5,7 +5,7 @@ use anyhow::{Error, bail};
 use std::alloc::Global;
 use vx_catalog::Database;
 use vx_rows::Table;
-use vx_values::Cell;
+use vx_rows_values::Cell;
 
 /// A list for each column, whose texts are lent by the database.
 #[derive(Drop)]

@@ -1,6 +1,6 @@
 //! Draws from one deck: how long one takes, by one thread and by four at once.
 
-ghost use Rattle.vx_decks.specs.Seats.{IsSeatOf};
+ghost use Rattle.vx_morsel_decks.specs.Seats.{IsSeatOf};
 
 use crate::bench::{Bench, least, nanos_since};
 use anyhow::{Error, bail};
@@ -8,7 +8,7 @@ use std::rt::Clock;
 use std::thread;
 use std::thread::Threads;
 use std::time::Instant;
-use vx_decks::{DeckSeat, SharedDeck};
+use vx_morsel_decks::{DeckSeat, SharedDeck};
 
 const NUMBERS_OF_A_ROW: u64 = 10;
 

@@ -3,7 +3,7 @@
 ghost use Rattle.std.specs.Prelude.{◌<◌, length};
 
 use vx_rows::Table;
-use vx_values::Cell;
+use vx_rows_values::Cell;
 
 // The multiplier of the checksums.
 const PRIME: u64 = 0x0000_0100_0000_01b3;

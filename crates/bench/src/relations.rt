@@ -7,13 +7,14 @@ use std::alloc::Global;
 use std::rt::Clock;
 use std::thread::Threads;
 use std::time::Instant;
-use vx_bytes::{MemoryIn, Real};
-use vx_catalog::{Catalog, Database, Loader, format_rows};
-use vx_loading::load_in_threads;
+use vx_catalog::{Database, Loader, format_rows};
+use vx_catalog_bytes::{MemoryIn, Real};
+use vx_catalog_loading::load_in_threads;
+use vx_catalog_relations::Catalog;
+use vx_catalog_writing::format_in_threads;
 use vx_rows::Table;
-use vx_views::Rows;
+use vx_rows_views::Rows;
 use vx_wisconsin::{catalog, generate};
-use vx_writing::format_in_threads;
 
 /// The relations, by their numbers in the catalog.
 pub const TENK1: usize = 0;

@@ -9,11 +9,11 @@ use std::thread::Threads;
 use std::time::Instant;
 use std::{hint, thread};
 use vx_ports::{Body, InPort, OutPort, Packet, Put};
-use vx_rings::{RingIn, RingOut, ring_pair};
+use vx_ports_rings::{RingIn, RingOut, ring_pair};
 use vx_rows::Table;
-use vx_values::limits::MAX_PACKET_ROWS;
-use vx_values::{ColType, Value};
-use vx_views::Rows;
+use vx_rows_values::limits::MAX_PACKET_ROWS;
+use vx_rows_values::{ColType, Value};
+use vx_rows_views::Rows;
 
 const SLACK: u32 = 8;
 

@@ -1,12 +1,12 @@
 //! A deck that 64 seats in eight threads draw from.
 
 ghost use Rattle.std.specs.Prelude.{All, IfOk};
-ghost use Rattle.vx_decks.specs.Seats.{IsSeatOf};
+ghost use Rattle.vx_morsel_decks.specs.Seats.{IsSeatOf};
 
 use std::alloc::{AllocError, Global};
 use std::thread;
 use std::thread::Threads;
-use vx_decks::{DeckSeat, SharedDeck};
+use vx_morsel_decks::{DeckSeat, SharedDeck};
 
 const NUMBERS: u64 = 1_000_000;
 

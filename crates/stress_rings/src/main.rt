@@ -10,7 +10,7 @@ use std::alloc::{AllocError, Global};
 use std::io;
 use std::sync::Arc;
 use vx_rows::Table;
-use vx_values::{ColType, Value};
+use vx_rows_values::{ColType, Value};
 
 const PACKETS: u32 = 100_000;
 

@@ -6,11 +6,11 @@ use std::sync::{Arc, Wait};
 use std::thread;
 use std::thread::Threads;
 use vx_ports::{Body, InPort, OutPort, Packet, Put, StreamEnd};
-use vx_rings::{RingIn, RingOut, ring_pair};
+use vx_ports_rings::{RingIn, RingOut, ring_pair};
 use vx_rows::Table;
-use vx_values::limits::MAX_PACKET_ROWS;
-use vx_values::{Cell, ColType};
-use vx_views::Rows;
+use vx_rows_values::limits::MAX_PACKET_ROWS;
+use vx_rows_values::{Cell, ColType};
+use vx_rows_views::Rows;
 
 /// What the last thread saw, and how many packets were not those that were to come.
 #[derive(Clone, Copy)]

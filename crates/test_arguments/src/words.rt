@@ -4,7 +4,7 @@ use clap::Error;
 use std::alloc::{AllocError, Global};
 use std::process::Abort;
 use std::test::Fail;
-use vx_arguments::{Request, asked_for};
+use volcano_arguments::{Request, asked_for};
 
 // The words of a line.
 fn words_of<'a>(alloc: Global, line: &'a str) -> Result<Vec<&'a str>, AllocError> {

@@ -4,7 +4,7 @@ use crate::loading::KEYED;
 use std::alloc::Global;
 use std::test::Fail;
 use test_tables::parts;
-use vx_catalog::{Catalog, CatalogFault};
+use vx_catalog_relations::{Catalog, CatalogFault};
 
 // What is read from a text: that the catalog has no relations or some, or the refusal.
 fn outcome(alloc: Global, text: &str) -> Result<String, Fail> {

@@ -5,10 +5,11 @@ use std::process::Abort;
 use std::sync::Arc;
 use std::test::Fail;
 use test_tables::parts;
-use vx_bytes::{MemoryIn, MemoryOut};
-use vx_catalog::{Catalog, Database, Loader, format_rows, write_rows};
+use vx_catalog::{Database, Loader, format_rows, write_rows};
+use vx_catalog_bytes::{MemoryIn, MemoryOut};
+use vx_catalog_relations::Catalog;
 use vx_rows::Table;
-use vx_views::Rows;
+use vx_rows_views::Rows;
 
 /// One relation, with a key and an order.
 pub const KEYED: &str =

@@ -3,7 +3,7 @@
 use std::test::Fail;
 use test_tables::{TYPES, shown};
 use vx_rows::OpenRows;
-use vx_values::Cell;
+use vx_rows_values::Cell;
 
 #[test]
 fn rows_are_filled_value_by_value(rt: HostRuntime) -> Result<(), Fail> {

@@ -1,7 +1,7 @@
 //! Ports for bytes, over memory that fails at a byte and over readers and writers of std.
 
 use std::test::Fail;
-use vx_bytes::{
+use vx_catalog_bytes::{
     Broken, ByteIn, ByteOut, MemoryIn, MemoryOut, ReadFault, Real, read_all, write_all,
 };
 

@@ -5,9 +5,10 @@
 use std::alloc::{AllocError, Global};
 use std::process::Abort;
 use std::test::Fail;
-use vx_bytes::{MemoryIn, Real};
-use vx_catalog::{Catalog, CatalogFault, Database, LoadFault, Loader, WriteFault, write_rows};
-use vx_views::Rows;
+use vx_catalog::{Database, LoadFault, Loader, WriteFault, write_rows};
+use vx_catalog_bytes::{MemoryIn, Real};
+use vx_catalog_relations::{Catalog, CatalogFault};
+use vx_rows_views::Rows;
 
 const SMALL: &str =
     r#"{"relations":[{"name":"w","columns":[{"name":"a","type":"int"},{"name":"b","type":"text"}],"keys":[["a"]],"order":["b"]}]}"#;

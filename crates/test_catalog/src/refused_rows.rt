@@ -3,14 +3,14 @@
 //! `ample` in its name makes the same calls once, and passes only where none of its allocations is refused.
 
 ghost use Rattle.std.specs.Prelude.{◌≡◌, ◌<◌, [], ◌∷◌, length, IfOk};
-ghost use Rattle.vx_values.specs.declared.value.ColType.TheVariants as kind;
+ghost use Rattle.vx_rows_values.specs.declared.value.ColType.TheVariants as kind;
 
 use std::alloc::{AllocError, Global};
 use std::process::Abort;
 use std::test::Fail;
 use test_tables::TYPES;
 use vx_rows::Table;
-use vx_values::Cell;
+use vx_rows_values::Cell;
 
 // The rows after each growth.
 const GROWN: &str = "7 b\n-5 \n7 b\n-5 \n-5 \n7 b\n9 b";

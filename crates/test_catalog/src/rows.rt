@@ -1,7 +1,7 @@
 //! What no clause says of rows: that calls succeed with ample memory, and the answers of worked examples.
 
 ghost use Rattle.std.specs.Prelude.{◌≡◌, [], ◌∷◌, length, IfOk};
-ghost use Rattle.vx_values.specs.declared.value.ColType.TheVariants as kind;
+ghost use Rattle.vx_rows_values.specs.declared.value.ColType.TheVariants as kind;
 ghost use Rattle.vx_rows.specs.View.{AreColumns};
 
 use std::alloc::{AllocError, Global};
@@ -10,7 +10,7 @@ use std::process::Abort;
 use std::test::Fail;
 use test_tables::{shown, table};
 use vx_rows::{Row, Table};
-use vx_values::Cell;
+use vx_rows_values::Cell;
 
 // Four rows, two of them with one text of more than one byte a character.
 const FOUR: [(i64, &str); 4] = [(i64::MIN, ""), (i64::MAX, "aä€😀"), (0, "b"), (7, "aä€😀")];

@@ -5,8 +5,11 @@ use std::alloc::{AllocError, Global};
 use std::test::Fail;
 use test_runs::{Case, ROWS_OF_D, ROWS_OF_T, SELECTED, case_of, first_part, setup_of};
 use vx_exchange::ByteRouter;
-use vx_exec::{RunCounts, RunOutcome, WorkerCounts, run_rounds};
-use vx_parallel::{Free, Threading, run_threads};
+use vx_exec::run_rounds;
+use vx_exec_parallel::{Threading, run_threads};
+use vx_exec_runs::RunOutcome;
+use vx_exec_setup::{RunCounts, WorkerCounts};
+use vx_exec_threads::Free;
 
 // What the workers of a run counted at a node, together, as one text: rows that came from the left, rows given, morsels, packets taken;
 // and how many workers have the node.

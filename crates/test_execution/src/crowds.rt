@@ -8,7 +8,7 @@ use test_runs::{
 };
 use test_tables::three_numbers;
 use vx_exchange::ByteRouter;
-use vx_exec::Setup;
+use vx_exec_setup::Setup;
 
 // A setup by a line of `numbers`: `many` workers in each of three groups, `few` that scan, and the `slack`. Packets and morsels have
 // one row.

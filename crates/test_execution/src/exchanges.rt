@@ -11,7 +11,7 @@ use test_runs::{
 };
 use test_tables::three_numbers;
 use vx_exchange::ByteRouter;
-use vx_exec::Setup;
+use vx_exec_setup::Setup;
 
 // How often each plan is run by threads with each setup.
 const RUNS: u32 = 2;

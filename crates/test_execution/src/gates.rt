@@ -2,7 +2,7 @@
 
 use std::sync::atomic::{AtomicU64, Ordering};
 use std::thread;
-use vx_parallel::Gate;
+use vx_exec_threads::Gate;
 
 // How often a thread that is held up looks whether it may go on, before it goes on anyway.
 const LOOKS: u32 = 1_000_000;

@@ -12,8 +12,8 @@ use test_runs::{
     case_of, case_of_query, setup_of,
 };
 use vx_exchange::ByteRouter;
-use vx_exec::Setup;
-use vx_values::limits::MAX_WORKERS;
+use vx_exec_setup::Setup;
+use vx_rows_values::limits::MAX_WORKERS;
 
 // Rows of t, one for each morsel of a scan.
 const EIGHT_ROWS: &str = "0,a,7\n1,b,7\n2,c,7\n3,d,7\n4,e,7\n5,f,7\n6,g,7\n7,h,7\n";

@@ -3,7 +3,9 @@
 use std::test::Fail;
 use test_runs::{ROWS_OF_D, ROWS_OF_T, case_of, setup_of};
 use vx_exchange::ByteRouter;
-use vx_exec::{RunCounts, RunOutcome, rounds_needed, run_rounds};
+use vx_exec::{rounds_needed, run_rounds};
+use vx_exec_runs::RunOutcome;
+use vx_exec_setup::RunCounts;
 
 // Three workers scan four rows, and one gathers them. The root's worker has 3 * 4 rows, takes 3 * (4 + 1) packets, and needs 4 steps more: 31. Each of the
 // others has 4 rows, draws 4 morsels, and puts 4 packets; with 2 to close its consumer and 4 more it needs 18 steps.

@@ -9,7 +9,7 @@ use test_runs::{
     SELECTED, SUMS_IN_TWO_PHASES, TOO_LARGE, by_steps, case_of, first_part, in_turn, setup_of,
 };
 use vx_exchange::ByteRouter;
-use vx_exec::Setup;
+use vx_exec_setup::Setup;
 
 // How many schedules are drawn.
 const SCHEDULES: u32 = 1000;

@@ -5,9 +5,12 @@ use std::alloc::{AllocError, Global};
 use std::process::Abort;
 use std::test::Fail;
 use test_runs::{CATALOG, Case, first_part, plan_of};
-use vx_catalog::{Catalog, Database};
+use vx_catalog::Database;
+use vx_catalog_relations::Catalog;
 use vx_exchange::ByteRouter;
-use vx_exec::{RunCounts, RunFault, RunOutcome, run_rounds};
+use vx_exec::run_rounds;
+use vx_exec_runs::RunOutcome;
+use vx_exec_setup::{RunCounts, RunFault};
 
 // The same relations without a declared order.
 const OTHER: &str =

@@ -3,7 +3,7 @@
 use std::alloc::Global;
 use std::test::Fail;
 use test_tables::three_numbers;
-use vx_exec::Setup;
+use vx_exec_setup::Setup;
 
 // A name and its number, as `many=4`.
 fn named_number(text: &str) -> Option<(&str, u32)> {

@@ -4,10 +4,11 @@ use std::alloc::{AllocError, Global};
 use std::sync::Wait;
 use std::thread::Threads;
 use test_runs::{Case, agrees, outcome};
-use vx_exec::{RunCounts, Setup};
-use vx_parallel::{Free, Gate, Threading, run_threads};
-use vx_plan::Router;
-use vx_values::limits::MAX_WORKERS;
+use vx_exec_parallel::{Threading, run_threads};
+use vx_exec_setup::{RunCounts, Setup};
+use vx_exec_threads::{Free, Gate};
+use vx_plan_nodes::Router;
+use vx_rows_values::limits::MAX_WORKERS;
 
 /// What a case comes to in threads.
 pub fn by_threads<T: Threads + Wait + Sync, R: Router + Sync>(

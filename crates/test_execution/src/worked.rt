@@ -15,8 +15,8 @@ use test_runs::{
 };
 use test_tables::ToFirst;
 use vx_exchange::ByteRouter;
-use vx_exec::Setup;
-use vx_plan::Router;
+use vx_exec_setup::Setup;
+use vx_plan_nodes::Router;
 
 // Workers of each group; how many schedules are drawn for them; and in how many turns all workers make a step at the end of each,
 // which is more than a run needs.

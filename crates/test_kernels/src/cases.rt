@@ -1,15 +1,15 @@
 //! Cases as lines of text, and the tables and columns that they name. An array of as many cases would take far longer to prove.
 
 ghost use Rattle.std.specs.Prelude.{◌≡◌, [], ◌∷◌, IfOk};
-ghost use Rattle.vx_values.specs.declared.value.ColType.TheVariants as kind;
+ghost use Rattle.vx_rows_values.specs.declared.value.ColType.TheVariants as kind;
 ghost use Rattle.vx_rows.specs.View.{AreColumns};
 
 use std::alloc::{AllocError, Global};
 use std::test::Fail;
 use test_tables::TYPES;
 use vx_rows::Table;
-use vx_values::Cell;
-use vx_views::Rows;
+use vx_rows_values::Cell;
+use vx_rows_views::Rows;
 
 /// The parts of a line, with a `|` between them: what the case shows, four parts of what is given, and what has to come of it.
 pub fn parts(line: &str) -> Option<(&str, &str, &str, &str, &str, &str)> {

@@ -6,9 +6,9 @@ use crate::cases::{columns_of, parts, rows_of};
 use std::alloc::Global;
 use std::test::Fail;
 use test_tables::shown;
-use vx_grouping::{GroupFault, grouped};
-use vx_plan::Aggregate;
-use vx_seeds::KeySeed;
+use vx_match_grouping::{GroupFault, grouped};
+use vx_plan_nodes::Aggregate;
+use vx_rows_values::KeySeed;
 
 const EVERY: [Aggregate; 4] = [
     Aggregate::Least(0),

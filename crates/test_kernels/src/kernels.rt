@@ -7,12 +7,12 @@ use crate::cases::{columns_of, parts, rows_of};
 use std::alloc::{AllocError, Global};
 use std::test::Fail;
 use test_tables::shown;
-use vx_algebra::sorted_chunks;
-use vx_join::{Build, hash_join};
-use vx_keys::{Seen, rises};
-use vx_merging::{MergeFault, merge_join};
-use vx_seeds::KeySeed;
-use vx_views::Rows;
+use vx_match_join::{Build, hash_join};
+use vx_match_keys::{Seen, rises};
+use vx_match_merging::{MergeFault, merge_join};
+use vx_ops_kernels::sorted_chunks;
+use vx_rows_values::KeySeed;
+use vx_rows_views::Rows;
 
 // What a kernel over one input makes of rows. There is none with any other name.
 fn of_one(alloc: Global, kernel: &str, columns: &[usize], rows: &Rows) -> Result<Rows, AllocError>

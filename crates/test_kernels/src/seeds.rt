@@ -1,7 +1,7 @@
 //! No clause says that seeds differ: here some do.
 use std::hash::BuildHasher;
 use std::test::Fail;
-use vx_seeds::KeySeed;
+use vx_rows_values::KeySeed;
 
 // The hashes of one key under several seeds.
 fn hashes() -> [u64; 5] {

@@ -3,9 +3,12 @@
 use std::alloc::{AllocError, Global};
 use std::test::Fail;
 use test_tables::{parts, shown};
-use vx_bytes::MemoryIn;
-use vx_catalog::{Catalog, Database, Loader};
-use vx_plan::{Plan, TypedPlan, resolve};
+use vx_catalog::{Database, Loader};
+use vx_catalog_bytes::MemoryIn;
+use vx_catalog_relations::Catalog;
+use vx_plan::resolve;
+use vx_plan_json::Plan;
+use vx_plan_nodes::TypedPlan;
 use vx_serial::eval;
 
 const CATALOG: &str =

@@ -7,9 +7,10 @@ use std::alloc::Global;
 use std::process::Abort;
 use std::test::Fail;
 use std::thread::Threads;
-use vx_bytes::MemoryIn;
-use vx_catalog::{Catalog, CatalogFault, LoadFault};
-use vx_loading::{ReadShares, load_in_shares};
+use vx_catalog::LoadFault;
+use vx_catalog_bytes::MemoryIn;
+use vx_catalog_loading::{ReadShares, load_in_shares};
+use vx_catalog_relations::{Catalog, CatalogFault};
 
 const FINE: &[u8] = b"id,k,v\n0,a,5\n1,b,7\n2,a,-2\n3,c,7\n4,d,1\n";
 

@@ -5,11 +5,12 @@ use std::process::Abort;
 use std::sync::Arc;
 use std::test::Fail;
 use std::thread::Threads;
-use vx_bytes::MemoryIn;
-use vx_catalog::{Catalog, LoadFault, Loaded, Loader, format_rows};
-use vx_loading::{ReadShares, load_in_shares, load_in_threads};
+use vx_catalog::{LoadFault, Loaded, Loader, format_rows};
+use vx_catalog_bytes::MemoryIn;
+use vx_catalog_loading::{ReadShares, load_in_shares, load_in_threads};
+use vx_catalog_relations::Catalog;
 use vx_rows::Table;
-use vx_views::Rows;
+use vx_rows_views::Rows;
 
 /// One relation, with a key and an order.
 pub const KEYED: &str =

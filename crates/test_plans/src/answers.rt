@@ -5,10 +5,13 @@ use crate::case::Case;
 use crate::outline::{columns, is_claimed, outline};
 use serde_json::{Error, Value as Json};
 use std::alloc::{AllocError, Global};
-use vx_annotate::annotate;
-use vx_check::{CheckedPlan, Refused, check, explain};
-use vx_plan::{Plan, PlanFault, TypedPlan, erase, resolve, to_json};
-use vx_relations::Catalog;
+use vx_catalog_relations::Catalog;
+use vx_check::explain;
+use vx_check_annotate::annotate;
+use vx_check_rules::{CheckedPlan, Refused, check};
+use vx_plan::{erase, resolve};
+use vx_plan_json::{Plan, PlanFault, to_json};
+use vx_plan_nodes::TypedPlan;
 
 // An answer, or why a plan is none.
 type Answer = Result<String, PlanFault>;

@@ -6,7 +6,7 @@ use crate::member::text_at;
 use anyhow::{Context, Error, bail};
 use serde_json::Value as Json;
 use std::alloc::{AllocError, Global};
-use vx_plan::{Plan, to_json};
+use vx_plan_json::{Plan, to_json};
 
 /// A call over a plan, and what it has to give.
 #[derive(Drop)]

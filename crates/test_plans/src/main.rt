@@ -19,7 +19,7 @@ use serde_json::Value as Json;
 use std::path::Path;
 use std::rt::Files;
 use std::{env, fs};
-use vx_relations::Catalog;
+use vx_catalog_relations::Catalog;
 
 // The JSON value in a file.
 fn json_in(rt: &(impl Files + AllocGlobal), path: &str) -> Result<Json, Error> {

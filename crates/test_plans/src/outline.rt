@@ -1,8 +1,8 @@
 //! Typed plans in a few words.
 
 use std::alloc::{AllocError, Global};
-use vx_plan::{Binary, Head, Phase, TypedNode, TypedPlan, Unary};
-use vx_values::ColType;
+use vx_plan_nodes::{Binary, Head, Phase, TypedNode, TypedPlan, Unary};
+use vx_rows_values::ColType;
 
 fn unary_name(unary: &Unary) -> &'static str {
     match unary {

@@ -9,8 +9,7 @@ use std::alloc::{AllocError, Global};
 use std::sync::Wait;
 use std::test::Fail;
 use std::thread::Threads;
-use vx_answer::Store;
-use vx_bytes::{MemoryIn, MemoryOut};
+use vx_catalog_bytes::{MemoryIn, MemoryOut, Store};
 
 // The relation t(id, k, v), with the key id, and in the order of id.
 const CATALOG: &str =
@@ -48,7 +47,7 @@ impl<'a> Store for Shelf<'a> {
     ghost use Rattle.std.specs.Prelude.{option_map, bytes_eq, is_none, true};
     ghost use Rattle.std.specs.Option.{unwrap_or};
     ghost use Rattle.std.specs.List.{find};
-    ghost use Rattle.vx_bytes.specs.Stored.{stored_or_absent};
+    ghost use Rattle.vx_catalog_bytes.specs.Stored.{stored_or_absent};
 
     type In = MemoryIn<'a>;
 

@@ -6,16 +6,16 @@ use serde_json::Value as Json;
 use std::alloc::Global;
 use std::process::Abort;
 use std::test::Fail;
-use vx_answer::{Refusal, deliver, report};
-use vx_bundle::{Bundle, Command, bundle_in};
-use vx_bytes::MemoryOut;
+use volcano_answer::deliver;
+use volcano_bundle::{Bundle, Command, bundle_in};
+use volcano_refusals::{Refusal, report};
 use vx_catalog::LoadFault;
-use vx_check::Rule;
+use vx_catalog_bytes::MemoryOut;
+use vx_check_rules::Rule;
 use vx_exchange::ByteRouter;
-use vx_exec::RunFault;
-use vx_plan::Router;
-use vx_setup::Mode;
-use vx_values::Value;
+use vx_exec_setup::{Mode, RunFault};
+use vx_plan_nodes::Router;
+use vx_rows_values::Value;
 
 const FIRST: &str =
     r#"{"command":"run","catalog":{"relations":[{"name":"t","columns":[{"name":"id","type":"int"},{"name":"k","type":"text"},{"name":"v","type":"int"}],"keys":[["id"]],"order":["id"]}]},"plan":{"sizes":["many"],"root":{"op":"exchange","kind":"gather","claim":{"part":"one"},"input":{"op":"select","where":[{"column":"v","op":"=","value":7}],"input":{"op":"scan","relation":"t","mode":"shared","size":"many"}}}},"tables":{"t":"id,k,v\n0,a,5\n1,b,7\n2,a,-2\n3,c,7\n"},"sizes":{"many":3},"packet":1,"morsel":1,"slack":4,"mode":"rounds"}"#;

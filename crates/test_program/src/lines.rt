@@ -1,16 +1,17 @@
 //! What an answer writes, with its status, as one text, and a store without files.
 
 ghost use Rattle.std.specs.Prelude.{true};
-ghost use Rattle.vx_bytes.specs.Stored.{absent};
+ghost use Rattle.vx_catalog_bytes.specs.Stored.{absent};
 
 use std::alloc::Global;
 use std::sync::Wait;
 use std::test::Fail;
 use std::thread::Threads;
-use vx_answer::{NoClock, Session, Store, answer};
-use vx_bytes::{ByteOut, MemoryIn, MemoryOut};
-use vx_parallel::Engine;
-use vx_seeds::KeySeed;
+use volcano_answer::{Session, answer};
+use volcano_stats::NoClock;
+use vx_catalog_bytes::{ByteOut, MemoryIn, MemoryOut, Store};
+use vx_exec_parallel::Engine;
+use vx_rows_values::KeySeed;
 
 /// More bytes than an answer or a refusal of these tests has.
 pub const ROOM: usize = 10000;

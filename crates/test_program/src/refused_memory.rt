@@ -7,7 +7,7 @@ use std::process::Abort;
 use std::sync::Wait;
 use std::test::Fail;
 use std::thread::Threads;
-use vx_bytes::{MemoryIn, Real};
+use vx_catalog_bytes::{MemoryIn, Real};
 
 // The line of the columns' names.
 const HEADER: &str =

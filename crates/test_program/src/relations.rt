@@ -5,7 +5,7 @@ use std::alloc::Global;
 use std::sync::Wait;
 use std::test::Fail;
 use std::thread::Threads;
-use vx_bytes::{MemoryIn, MemoryOut};
+use vx_catalog_bytes::{MemoryIn, MemoryOut};
 
 // How many bytes were written, the errors and the status, as one text.
 fn counted(alloc: Global, out: &[u8], err: &[u8], status: u8) -> Result<String, Fail> {

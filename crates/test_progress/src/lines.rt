@@ -1,7 +1,7 @@
 //! The texts of lines and names, worked by hand.
 
 use std::test::Fail;
-use vx_progress::{is_quiet, relation_at, shown_name, shown_text};
+use volcano_progress::{is_quiet, relation_at, shown_name, shown_text};
 
 // The size of a file, the bytes and the lines of it read so far, and the line for them without what moves the cursor.
 const LINES: [(Option<u64>, u64, u64, &str); 9] = [

@@ -4,8 +4,8 @@ use crate::script::{Everywhere, Script, Scripted};
 use std::fs::Files;
 use std::test::Fail;
 use std::time::Clock;
-use vx_bytes::{ByteIn, Disk, Store};
-use vx_progress::{Screen, Terminal, Watched};
+use volcano_progress::{Screen, Terminal, Watched};
+use vx_catalog_bytes::{ByteIn, Disk, Store};
 
 // More than a screen of these tests is written on.
 const ROOM: usize = 10_000;

@@ -1,12 +1,12 @@
 //! A screen by script: its clock goes on by the same time whenever it is asked, and what is written on it is kept.
 
 ghost use Rattle.std.specs.Prelude.{is_none, None};
-ghost use Rattle.vx_bytes.specs.Stored.{present};
+ghost use Rattle.vx_catalog_bytes.specs.Stored.{present};
 
 use std::alloc::{AllocError, Global};
 use std::cell::{Cell, RefCell};
-use vx_bytes::{Broken, ByteOut, MemoryIn, Store};
-use vx_progress::Screen;
+use volcano_progress::Screen;
+use vx_catalog_bytes::{Broken, ByteOut, MemoryIn, Store};
 
 /// What a screen does, and what was written on it.
 #[derive(Drop)]

@@ -2,9 +2,10 @@
 
 use std::alloc::Global;
 use std::test::Fail;
-use vx_catalog::Catalog;
-use vx_check::{CheckedPlan, check};
-use vx_plan::{Plan, resolve};
+use vx_catalog_relations::Catalog;
+use vx_check_rules::{CheckedPlan, check};
+use vx_plan::resolve;
+use vx_plan_json::Plan;
 
 /// The plan of a text over a catalog, as the checker accepts it.
 pub fn accepted(alloc: Global, catalog: &Catalog, text: &str) -> Result<CheckedPlan, Fail> {

@@ -4,9 +4,10 @@ use crate::plans::accepted;
 use crate::rows::fill;
 use std::alloc::Global;
 use std::test::Fail;
-use vx_bytes::MemoryOut;
-use vx_catalog::{Catalog, Database};
-use vx_check::CheckedPlan;
+use vx_catalog::Database;
+use vx_catalog_bytes::MemoryOut;
+use vx_catalog_relations::Catalog;
+use vx_check_rules::CheckedPlan;
 use vx_wisconsin::{catalog, generate, plan};
 
 /// The text of `rows` rows of the relations that are generated.

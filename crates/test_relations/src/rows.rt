@@ -2,8 +2,9 @@
 
 use std::alloc::Global;
 use std::test::Fail;
-use vx_bytes::MemoryIn;
-use vx_catalog::{Catalog, Database, Loader};
+use vx_catalog::{Database, Loader};
+use vx_catalog_bytes::MemoryIn;
+use vx_catalog_relations::Catalog;
 
 /// Fills a relation with the rows of a text.
 pub fn fill(

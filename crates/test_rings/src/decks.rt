@@ -1,11 +1,11 @@
 //! Numbers that the seats of a deck draw, in one thread.
 
 ghost use Rattle.std.specs.Prelude.{◌≡◌, All, length};
-ghost use Rattle.vx_decks.specs.Seats.{IsSeatOf};
+ghost use Rattle.vx_morsel_decks.specs.Seats.{IsSeatOf};
 
 use std::test::Fail;
-use vx_decks::{DeckDraw, DeckSeat, SharedDeck};
 use vx_morsel::Draw;
+use vx_morsel_decks::{DeckDraw, DeckSeat, SharedDeck};
 
 // Which of two seats draws, and what it draws.
 const DRAWS: [(usize, Option<u64>); 7] = [

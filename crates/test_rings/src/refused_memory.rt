@@ -4,9 +4,9 @@
 
 use std::alloc::{AllocError, Global};
 use std::test::Fail;
-use vx_decks::SharedDeck;
+use vx_morsel_decks::SharedDeck;
 use vx_ports::InPort;
-use vx_rings::ring_pair;
+use vx_ports_rings::ring_pair;
 
 // Whether a ring is made, from which nothing can be taken yet.
 fn has_ring(alloc: Global) -> Result<bool, AllocError> {

@@ -3,10 +3,10 @@
 use std::alloc::{AllocError, Global};
 use std::test::Fail;
 use vx_ports::{InPort, OutPort, Packet, Put, StreamEnd};
-use vx_rings::{RingIn, RingOut, reunite, ring_pair};
+use vx_ports_rings::{RingIn, RingOut, reunite, ring_pair};
 use vx_rows::Table;
-use vx_values::{ColType, Value};
-use vx_views::Rows;
+use vx_rows_values::{ColType, Value};
+use vx_rows_views::Rows;
 
 // What came of a put: nothing is left, or the packet of this producer was returned, or the port was closed before.
 #[derive(Clone, Copy, Debug, PartialEq, Eq)]

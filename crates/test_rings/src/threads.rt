@@ -1,18 +1,18 @@
 //! Ends and seats in threads of their own.
 
 ghost use Rattle.vx_ports.specs.Packets.{Flows};
-ghost use Rattle.vx_rings.specs.Ends.{IsRing, SameIn, SameOut, put_to, taken_from};
-ghost use Rattle.vx_decks.specs.Seats.{IsSeatOf};
+ghost use Rattle.vx_ports_rings.specs.Ends.{IsRing, SameIn, SameOut, put_to, taken_from};
+ghost use Rattle.vx_morsel_decks.specs.Seats.{IsSeatOf};
 
 use std::alloc::{AllocError, Global};
 use std::test::Fail;
 use std::thread;
 use std::thread::Threads;
-use vx_decks::{DeckSeat, SharedDeck};
+use vx_morsel_decks::{DeckSeat, SharedDeck};
 use vx_ports::{InPort, OutPort, Packet, StreamEnd};
-use vx_rings::{RingIn, RingOut, reunite, ring_pair};
-use vx_values::ColType;
-use vx_views::Rows;
+use vx_ports_rings::{RingIn, RingOut, reunite, ring_pair};
+use vx_rows_values::ColType;
+use vx_rows_views::Rows;
 
 // Draws until the seat meets the end.
 fn draw_all(deck: &SharedDeck, mut seat: DeckSeat, alloc: Global) -> Result<Vec<u64>, AllocError>

@@ -5,11 +5,14 @@ use std::alloc::{AllocError, Global};
 use std::test::Fail;
 use test_tables::shown;
 use vx_catalog::Database;
-use vx_check::CheckedPlan;
-use vx_exec::{RunCounts, RunFault, RunOutcome, Setup, rounds_needed, run_rounds, run_scheduled};
-use vx_plan::{Router, erase};
+use vx_check_rules::CheckedPlan;
+use vx_exec::{rounds_needed, run_rounds, run_scheduled};
+use vx_exec_runs::RunOutcome;
+use vx_exec_setup::{RunCounts, RunFault, Setup};
+use vx_plan::erase;
+use vx_plan_nodes::Router;
+use vx_rows_views::Rows;
 use vx_serial::eval;
-use vx_views::Rows;
 
 /// A plan over a database.
 #[derive(Drop)]

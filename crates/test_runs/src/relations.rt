@@ -3,8 +3,9 @@
 use std::alloc::{AllocError, Global};
 use std::test::Fail;
 use test_relations::{accepted, fill};
-use vx_catalog::{Catalog, Database};
-use vx_check::CheckedPlan;
+use vx_catalog::Database;
+use vx_catalog_relations::Catalog;
+use vx_check_rules::CheckedPlan;
 
 /// The relations t(id, k, v), by its key and order id, and d(k, n), by its key k.
 pub const CATALOG: &str =

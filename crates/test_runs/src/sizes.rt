@@ -1,7 +1,7 @@
 //! Setups of runs.
 
 use std::alloc::{AllocError, Global};
-use vx_exec::Setup;
+use vx_exec_setup::Setup;
 
 /// A setup: `sizes` has the number of workers for each name. A packet has `packet` rows, a morsel `morsel` rows; and the `slack`.
 pub fn setup_with(

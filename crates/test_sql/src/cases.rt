@@ -6,10 +6,12 @@ use std::alloc::Global;
 use std::process::Abort;
 use std::test::Fail;
 use test_relations::{accepted, fill};
-use vx_catalog::{Catalog, Database};
-use vx_plan::{TypedPlan, erase};
+use vx_catalog::Database;
+use vx_catalog_relations::Catalog;
+use vx_check_sql::{Dialect, plan_sql};
+use vx_plan::erase;
+use vx_plan_nodes::TypedPlan;
 use vx_serial::eval;
-use vx_sql::{Dialect, plan_sql};
 
 /// A database of the relations of a catalog, each with the rows of its text.
 pub fn database_of(alloc: Global, catalog: &str, texts: &[&str]) -> Result<Database, Fail> {

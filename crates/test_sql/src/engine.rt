@@ -7,9 +7,10 @@ use sqlite::types::ValueRef;
 use sqlite::{Connection, MemStore, Row};
 use std::alloc::{AllocError, Global};
 use std::test::Fail;
-use vx_catalog::{Database, Relation};
+use vx_catalog::Database;
+use vx_catalog_relations::Relation;
 use vx_rows::Table;
-use vx_values::{Cell, ColType};
+use vx_rows_values::{Cell, ColType};
 
 // Adds a value.
 fn push_value(alloc: Global, text: &mut String, cell: Cell<'_>) -> Result<(), AllocError> {

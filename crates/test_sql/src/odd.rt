@@ -7,8 +7,8 @@ use crate::examples::CATALOG;
 use sqlite::{Connection, Error, ErrorCode, MemStore};
 use std::test::Fail;
 use test_relations::accepted;
+use vx_check_sql::{Dialect, plan_sql};
 use vx_serial::eval;
-use vx_sql::{Dialect, plan_sql};
 
 // The number of all rows, and the least and greatest of a column.
 const BY_NOTHING: &str =

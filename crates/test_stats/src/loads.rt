@@ -5,10 +5,10 @@ use crate::runs::plan;
 use std::alloc::Global;
 use std::test::Fail;
 use std::thread::Threads;
-use vx_bundle::{bundle_in, value_of_text};
-use vx_seeds::KeySeed;
-use vx_stats::{LoadTime, LoadTimer, NoClock};
-use vx_tables::{Loading, Observer, load_tables_in_threads};
+use volcano_bundle::{bundle_in, value_of_text};
+use volcano_stats::{LoadTime, LoadTimer, NoClock};
+use volcano_tables::{Loading, Observer, load_tables_in_threads};
+use vx_rows_values::KeySeed;
 
 // A bundle with the rows of t.
 const BUNDLE: &str =

@@ -2,9 +2,11 @@
 
 use std::alloc::{AllocError, Global};
 use std::test::Fail;
-use vx_catalog::Catalog;
-use vx_plan::{Plan, TypedPlan, resolve};
-use vx_setup::{NodeCounts, OperatorCounts, StepCounts, WorkerCounts};
+use vx_catalog_relations::Catalog;
+use vx_exec_setup::{NodeCounts, OperatorCounts, StepCounts, WorkerCounts};
+use vx_plan::resolve;
+use vx_plan_json::Plan;
+use vx_plan_nodes::TypedPlan;
 
 // The relations d "2"(n), whose name has quotes, and t(id, k, v).
 const CATALOG: &str =

@@ -3,10 +3,10 @@
 use crate::runs::{catalog, plan, workers};
 use std::alloc::Global;
 use std::test::Fail;
-use vx_bytes::{MemoryOut, write_all};
-use vx_stats::{
+use volcano_stats::{
     LoadTime, PhaseTime, StatsForm, WorkPhase, push_lone_plan, push_plan, push_shared, write_end,
 };
+use vx_catalog_bytes::{MemoryOut, write_all};
 
 const TABLE: &str =
     " node operator       worker      rows in     right in     rows out  morsels    taken      put    waits     full

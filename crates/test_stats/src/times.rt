@@ -3,7 +3,7 @@
 use crate::clocks::Ticking;
 use std::alloc::Global;
 use std::test::Fail;
-use vx_stats::{NoClock, PhaseTime, Timer, WorkPhase};
+use volcano_stats::{NoClock, PhaseTime, Timer, WorkPhase};
 
 // A phase with its microseconds.
 fn timed(phase: WorkPhase, microseconds: Option<u64>) -> PhaseTime {

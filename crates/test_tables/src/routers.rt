@@ -1,7 +1,7 @@
 //! Routes of keys.
 
 use vx_plan_nodes::Router;
-use vx_values::Value;
+use vx_rows_values::Value;
 
 /// Sends every key to consumer 0.
 #[derive(Drop)]

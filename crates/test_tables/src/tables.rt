@@ -1,11 +1,11 @@
 //! Tables of a number and a text, and rows as text.
 
 ghost use Rattle.std.specs.Prelude.{◌≡◌, ◌<◌, [], ◌∷◌, length, IfOk};
-ghost use Rattle.vx_values.specs.declared.value.ColType.TheVariants as kind;
+ghost use Rattle.vx_rows_values.specs.declared.value.ColType.TheVariants as kind;
 
 use std::alloc::{AllocError, Global};
 use vx_rows::Table;
-use vx_values::{Cell, ColType, Value};
+use vx_rows_values::{Cell, ColType, Value};
 
 /// A number and a text.
 pub const TYPES: [ColType; 2] = [ColType::Int, ColType::Text];

@@ -12,10 +12,11 @@ use std::fs::{File, Files};
 use std::sync::Wait;
 use std::thread::Threads;
 use std::{env, fs};
-use vx_answer::{Disk, NoClock, Session, answer};
-use vx_bytes::{MemoryIn, MemoryOut};
-use vx_parallel::Engine;
-use vx_seeds::KeySeed;
+use volcano_answer::{Session, answer};
+use volcano_stats::NoClock;
+use vx_catalog_bytes::{Disk, MemoryIn, MemoryOut};
+use vx_exec_parallel::Engine;
+use vx_rows_values::KeySeed;
 
 // What a command may write on its output, and what it may write on its errors, in bytes.
 const ROOM: usize = 1 << 20;

@@ -4,8 +4,8 @@ use crate::cuts::{FIVE, Pairs, all_below, cells, copied, cut, of, picked};
 use std::alloc::{AllocError, Global};
 use std::process::Abort;
 use std::test::Fail;
-use vx_values::ColType;
-use vx_views::{Chunk, NumberTest, Position, PositionsRef};
+use vx_rows_values::ColType;
+use vx_rows_views::{Chunk, NumberTest, Position, PositionsRef};
 
 // What is made of the rows so far.
 #[derive(Clone, Copy)]

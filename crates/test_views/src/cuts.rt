@@ -1,14 +1,14 @@
 //! Chunks for tests, and what they show.
 
 ghost use Rattle.std.specs.Prelude.{◌≡◌, ◌<◌, [], ◌∷◌, length, IfOk, IsTrue};
-ghost use Rattle.vx_values.specs.declared.value.ColType.TheVariants as kind;
+ghost use Rattle.vx_rows_values.specs.declared.value.ColType.TheVariants as kind;
 ghost use Rattle.vx_rows.specs.View.{ArePositions};
 
 use std::alloc::{AllocError, Global};
 use std::sync::Arc;
 use test_tables::{show_cell, shown, table};
 use vx_rows::Table;
-use vx_views::Chunk;
+use vx_rows_views::Chunk;
 
 /// The rows of a table: a number and a text each.
 pub type Pairs<'a> = &'a [(i64, &'a str)];

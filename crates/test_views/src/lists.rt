@@ -4,7 +4,7 @@ use crate::cuts::all_below;
 use std::alloc::{AllocError, Global};
 use std::process::Abort;
 use std::test::Fail;
-use vx_views::{Positions, PositionsRef};
+use vx_rows_views::{Positions, PositionsRef};
 
 // The least position that does not fit 32 bits.
 const LARGE: usize = 0x1_0000_0000;

@@ -1,7 +1,7 @@
 //! Rows in many chunks.
 
 ghost use Rattle.std.specs.Prelude.{◌≡◌, [], ◌∷◌, IfOk};
-ghost use Rattle.vx_values.specs.declared.value.ColType.TheVariants as kind;
+ghost use Rattle.vx_rows_values.specs.declared.value.ColType.TheVariants as kind;
 
 use crate::cuts::{FIVE, all_below, cut, of};
 use std::alloc::{AllocError, Global};
@@ -9,7 +9,7 @@ use std::process::Abort;
 use std::sync::Arc;
 use std::test::Fail;
 use test_tables::{shown, table};
-use vx_views::Rows;
+use vx_rows_views::Rows;
 
 // The five rows in three chunks: two rows, none, and three.
 fn three_chunks(alloc: Global) -> Result<Rows, AllocError>

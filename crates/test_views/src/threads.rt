@@ -3,8 +3,8 @@
 use crate::cuts::{FIVE, cut, of};
 use std::test::Fail;
 use std::thread;
-use vx_values::Cell;
-use vx_views::Chunk;
+use vx_rows_values::Cell;
+use vx_rows_views::Chunk;
 
 // The number of row i, or 0.
 fn number(chunk: &Chunk, i: usize) -> i64 {

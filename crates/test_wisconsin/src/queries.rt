@@ -8,7 +8,8 @@ use std::alloc::Global;
 use std::test::Fail;
 use test_relations::{generated, generated_database, plan_of_query};
 use vx_catalog::{Database, format_rows};
-use vx_plan::{erase, name_texts};
+use vx_plan::erase;
+use vx_plan_nodes::name_texts;
 use vx_serial::eval;
 use vx_wisconsin::plan;
 

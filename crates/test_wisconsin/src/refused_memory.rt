@@ -6,7 +6,7 @@ use crate::texts::{HEADER, SMALL};
 use std::alloc::Global;
 use std::process::Abort;
 use std::test::Fail;
-use vx_bytes::Real;
+use vx_catalog_bytes::Real;
 use vx_wisconsin::{GenerateFault, generate};
 
 // Whether these are the header and four rows.

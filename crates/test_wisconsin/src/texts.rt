@@ -3,7 +3,7 @@
 use std::alloc::Global;
 use std::test::Fail;
 use test_relations::generated;
-use vx_bytes::MemoryOut;
+use vx_catalog_bytes::MemoryOut;
 use vx_wisconsin::{GenerateFault, generate};
 
 /// The header of each text.

@@ -7,11 +7,12 @@ use crate::batches::numbers;
 use std::process::Abort;
 use std::test::Fail;
 use test_tables::ToFirst;
-use vx_exchange::{Collector, Deal, Receiver, Sender, Sends};
+use vx_exchange::{Collector, Deal, Receiver, Sender};
+use vx_exchange_ends::Sends;
 use vx_ops::{Code, Fault, Got, Polled, Source, Want};
 use vx_ports::{Body, Packet, StreamEnd};
-use vx_values::ColType;
-use vx_views::Rows;
+use vx_rows_values::ColType;
+use vx_rows_views::Rows;
 
 // A receiver's turn with a packet, or with none.
 fn turn(rt: &impl Abort, receiver: &mut Receiver, packet: Option<Packet>) -> Polled {

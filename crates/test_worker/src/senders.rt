@@ -9,12 +9,13 @@ use std::alloc::{AllocError, Global};
 use std::process::Abort;
 use std::test::Fail;
 use test_tables::three_numbers;
-use vx_exchange::{ByteRouter, Deal, KeyRoute, Ranges, Router, Sender, Sends};
+use vx_exchange::{ByteRouter, Deal, KeyRoute, Ranges, Sender};
+use vx_exchange_ends::Sends;
 use vx_ops::Polled;
-use vx_plan_nodes::Size;
+use vx_plan_nodes::{Router, Size};
 use vx_ports::{Body, StreamEnd};
-use vx_values::{Cell, ColType, Value};
-use vx_views::Rows;
+use vx_rows_values::{Cell, ColType, Value};
+use vx_rows_views::Rows;
 
 // How many consumers there are, how large packets are, and how many rows come, a case on each line.
 const CASES: &str = "1 1 0

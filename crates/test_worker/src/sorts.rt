@@ -1,7 +1,7 @@
 //! A sort, turn by turn.
 
 ghost use Rattle.std.specs.Prelude.{◌≡◌, [], ◌∷◌, IfOk};
-ghost use Rattle.vx_values.specs.declared.value.ColType.{ColType as ExchangeKind};
+ghost use Rattle.vx_rows_values.specs.declared.value.ColType.{ColType as ExchangeKind};
 ghost use Rattle.vx_ops.specs.Sort.{sort_types};
 ghost use Rattle.vx_ops.specs.Turn.{GivesRows};
 
@@ -10,8 +10,8 @@ use std::process::Abort;
 use std::test::Fail;
 use vx_ops::{Fault, Got, Polled, Sort, Source, Want};
 use vx_rows::Table;
-use vx_values::{Cell, ColType, Value};
-use vx_views::Rows;
+use vx_rows_values::{Cell, ColType, Value};
+use vx_rows_views::Rows;
 
 // One row for each of these numbers.
 fn rows_of(alloc: Global, numbers: &[i64]) -> Result<Rows, AllocError>

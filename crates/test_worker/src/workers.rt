@@ -1,7 +1,7 @@
 //! A worker that scans, from its first step to its end.
 
 ghost use Rattle.std.specs.Prelude.{◌≡◌, [], ◌∷◌, IfOk};
-ghost use Rattle.vx_values.specs.declared.value.ColType.{ColType as ExchangeKind};
+ghost use Rattle.vx_rows_values.specs.declared.value.ColType.{ColType as ExchangeKind};
 ghost use Rattle.vx_ops.specs.Scan.{scan_types};
 ghost use Rattle.vx_exchange.specs.Collector.{collector_post, collector_is_open, collector_has_closed};
 ghost use Rattle.vx_worker.specs.Worker.{IsReady};
@@ -13,8 +13,8 @@ use vx_exchange::Collector;
 use vx_ops::{Code, Fault, Scan};
 use vx_ports::{Packet, Put};
 use vx_rows::Table;
-use vx_values::{ColType, Value};
-use vx_views::Rows;
+use vx_rows_values::{ColType, Value};
+use vx_rows_views::Rows;
 use vx_worker::{Morsels, StepOutcome, Tree, Wires, Worker, WorkerOutcome};
 
 // Numbers from `next` to below `end`, and no packet.

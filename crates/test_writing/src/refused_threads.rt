@@ -7,7 +7,7 @@ use std::alloc::{AllocError, Global};
 use std::process::Abort;
 use std::test::Fail;
 use std::thread::Threads;
-use vx_writing::{WriteShares, format_in_shares};
+use vx_catalog_writing::{WriteShares, format_in_shares};
 
 // The worked rows as text, in two rounds.
 fn text<P: Threads + Sync>(rt: &P, alloc: Global) -> Result<Vec<u8>, AllocError> {

@@ -1,7 +1,7 @@
 //! Rows that are shared out among threads in many ways: each text is the worked one, or that of `format_rows`.
 
 ghost use Rattle.std.specs.Prelude.{◌≡◌, [], ◌∷◌, IfOk};
-ghost use Rattle.vx_values.specs.declared.value.ColType.TheVariants as kind;
+ghost use Rattle.vx_rows_values.specs.declared.value.ColType.TheVariants as kind;
 
 use std::alloc::{AllocError, Global};
 use std::process::Abort;
@@ -9,10 +9,10 @@ use std::sync::Arc;
 use std::test::Fail;
 use std::thread::Threads;
 use vx_catalog::format_rows;
+use vx_catalog_writing::{WriteShares, format_in_shares, format_in_threads};
 use vx_rows::Table;
-use vx_values::{ColType, Value};
-use vx_views::Rows;
-use vx_writing::{WriteShares, format_in_shares, format_in_threads};
+use vx_rows_values::{ColType, Value};
+use vx_rows_views::Rows;
 
 // Rows whose texts need quotes, or look as if they did.
 const ENTRIES: [(i64, &str); 7] = [

@@ -10,11 +10,12 @@ use std::io::{ErrorKind, IsTerminal};
 use std::process::ExitCode;
 use std::random::RandomSource;
 use std::{env, io};
-use vx_answer::{Disk, Refusal, Session, answer, report};
-use vx_bytes::{Real, write_all};
-use vx_parallel::Engine;
-use vx_progress::{Terminal, Watched, is_quiet};
-use vx_seeds::KeySeed;
+use volcano_answer::{Session, answer};
+use volcano_progress::{Terminal, Watched, is_quiet};
+use volcano_refusals::{Refusal, report};
+use vx_catalog_bytes::{Disk, Real, write_all};
+use vx_exec_parallel::Engine;
+use vx_rows_values::KeySeed;
 
 // The arguments, without the program's name.
 fn arguments_of(rt: &(impl Env + AllocGlobal)) -> io::Result<Vec<String>> {

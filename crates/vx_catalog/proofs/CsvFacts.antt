@@ -2,10 +2,10 @@
 use Rattle.std.proofs.Common.{◌≡◌, ℕ, ◌+◌, ◌<◌, List, [], ◌∷◌, ◌++◌, sym, ap, ◌∙◌, get_or, take, length, append_assoc, flat_map}
 use Rattle.std.proofs.lemmas.Grind.{flat_map-append}
 use Rattle.std.proofs.lemmas.List.{append-nil, take_more}
-use Rattle.vx_values.specs.Values.{Row}
+use Rattle.vx_rows_values.specs.Values.{Row}
 use Rattle.vx_rows.specs.View.{RowsView}
-use Rattle.vx_views.specs.Chunks.{all_rows}
-use Rattle.vx_views.proofs.Whole.{next-rows}
+use Rattle.vx_rows_views.specs.Chunks.{all_rows}
+use Rattle.vx_rows_views.proofs.Whole.{next-rows}
 use Rattle.vx_catalog.specs.Csv.{line_text}
 
 -- one row more

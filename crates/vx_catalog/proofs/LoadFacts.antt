@@ -4,17 +4,17 @@ use Rattle.std.specs.Prelude.{IfSome, option_map}
 use Rattle.csv.specs.Reading.{strip_bom}
 use Rattle.csv.specs.declared.parser.State.{State}
 use Rattle.csv.specs.declared.parser.State.TheVariants as st
-use Rattle.vx_values.specs.Values.{Row}
-use Rattle.vx_values.specs.declared.value.ColType.{ColType}
-use Rattle.vx_relations.specs.Relation.{Relation}
-use Rattle.vx_relations.specs.Walk.{◌>>=◌}
+use Rattle.vx_rows_values.specs.Values.{Row}
+use Rattle.vx_rows_values.specs.declared.value.ColType.{ColType}
+use Rattle.vx_catalog_relations.specs.Relation.{Relation}
+use Rattle.vx_catalog_relations.specs.Walk.{◌>>=◌}
 use Rattle.vx_catalog.specs.Records.{records_left, Begins}
 use Rattle.vx_catalog.specs.Counting.{Settles}
 use Rattle.vx_catalog.specs.declared.fault.LoadFault.{LoadFault}
 use Rattle.vx_catalog.specs.declared.fault.LoadFault.TheVariants as fault
 use Rattle.vx_catalog.specs.Loading.{Fails, Gives, is_header, rows_onto, under_header, records_of, tested, load_of}
 use Rattle.vx_catalog.proofs.RowFacts.{fails_along}
-use Rattle.vx_values.specs.Limits.{max_text_bytes}
+use Rattle.vx_rows_values.specs.Limits.{max_text_bytes}
 
 -- the rows under a header are those of the records behind it
 pub under_reported : {X : Type 0} (look : X → List Row) (result : Result X LoadFault) (names : List (List ℕ)) (types : List ColType) (fields : List (List ℕ)) (all left : Option (List (List (List ℕ))))

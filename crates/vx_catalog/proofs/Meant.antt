@@ -7,22 +7,22 @@ use Rattle.std.specs.Str.{is_utf8}
 use Rattle.std.proofs.lemmas.List.{append-nil, length-append, length_push}
 use Rattle.std.proofs.lemmas.Bool.Decides.{Decides-ltb, Decides-eqb}
 use Rattle.csv.specs.Records.{field_at}
-use Rattle.vx_values.specs.Values.{Val, num, text, Row}
-use Rattle.vx_values.specs.Order.{sorted}
-use Rattle.vx_values.specs.declared.value.ColType.{ColType}
-use Rattle.vx_values.specs.declared.value.ColType.TheVariants as kind
-use Rattle.vx_values.proofs.KeyFacts.{key-law}
-use Rattle.vx_values.proofs.Order.{NoFall, sorted_neighbours}
-use Rattle.vx_relations.specs.Relation.{Relation, KeysHold}
-use Rattle.vx_relations.specs.Walk.{◌>>=◌, walk_onto}
+use Rattle.vx_rows_values.specs.Values.{Val, num, text, Row}
+use Rattle.vx_rows_values.specs.Order.{sorted}
+use Rattle.vx_rows_values.specs.declared.value.ColType.{ColType}
+use Rattle.vx_rows_values.specs.declared.value.ColType.TheVariants as kind
+use Rattle.vx_rows_values.proofs.KeyFacts.{key-law}
+use Rattle.vx_rows_values.proofs.Order.{NoFall, sorted_neighbours}
+use Rattle.vx_catalog_relations.specs.Relation.{Relation, KeysHold}
+use Rattle.vx_catalog_relations.specs.Walk.{◌>>=◌, walk_onto}
 use Rattle.vx_catalog.specs.Number.{number_of}
 use Rattle.vx_catalog.specs.declared.fault.LoadFault.{LoadFault}
 use Rattle.vx_catalog.specs.declared.fault.LoadFault.TheVariants as fault
 use Rattle.vx_catalog.specs.Loading.{records_of, some_number, value_of, some_value, next_value, row_of, row_added, rows_onto, is_header, under_header, keys_kept, fall_from, first_fall, order_kept, load_of}
 use Rattle.vx_catalog.specs.Meaning.{IsValueOf, IsRowOf, Under, IsTextOf, LoadLaw}
-use Rattle.vx_relations.proofs.Accepted.{ok_bind}
+use Rattle.vx_catalog_relations.proofs.Accepted.{ok_bind}
 use Rattle.vx_catalog.proofs.OrderFacts.{keys_kept_is, order_kept_is}
-use Rattle.vx_values.specs.Limits.{max_rows, max_text_bytes}
+use Rattle.vx_rows_values.specs.Limits.{max_rows, max_text_bytes}
 
 -- ---- values
 

@@ -1,14 +1,14 @@
 -- Keys and order of rows, one after another, and what is shown when none is broken.
 use Rattle.std.proofs.Common.{◌≡◌, ℕ, zero, suc, ◌+◌, ◌<◌, ◌≤◌, List, [], ◌∷◌, Bool, true, false, cond, Option, Some, None, Result, Ok, Err, refl, sym, ap, ◌∙◌, length, get_or, drop, arith, add-one, drop-cons, is_lt}
 use Rattle.std.specs.List.{AllByRecursion}
-use Rattle.vx_values.specs.Types.{Fits}
+use Rattle.vx_rows_values.specs.Types.{Fits}
 use Rattle.std.proofs.lemmas.List.{drop_all}
-use Rattle.vx_values.specs.Values.{Row}
-use Rattle.vx_values.specs.Order.{compare_on, sorted}
-use Rattle.vx_values.specs.Keys.{first_clash, HasKey}
-use Rattle.vx_values.proofs.KeyFacts.{key-law}
-use Rattle.vx_values.proofs.Order.{NoFall, sorted_from}
-use Rattle.vx_relations.specs.Relation.{Relation, KeysHold, Meets}
+use Rattle.vx_rows_values.specs.Values.{Row}
+use Rattle.vx_rows_values.specs.Order.{compare_on, sorted}
+use Rattle.vx_rows_values.specs.Keys.{first_clash, HasKey}
+use Rattle.vx_rows_values.proofs.KeyFacts.{key-law}
+use Rattle.vx_rows_values.proofs.Order.{NoFall, sorted_from}
+use Rattle.vx_catalog_relations.specs.Relation.{Relation, KeysHold, Meets}
 use Rattle.vx_catalog.specs.declared.fault.LoadFault.{LoadFault}
 use Rattle.vx_catalog.specs.declared.fault.LoadFault.TheVariants as fault
 use Rattle.vx_catalog.specs.Loading.{no_clash, keys_kept, fall_from, first_fall, no_fall, order_kept}

@@ -4,21 +4,21 @@ use Rattle.std.specs.Prelude.{IsUtf8, ℤ, IfSome, ◌≢◌}
 use Rattle.std.proofs.lemmas.Bool.Decides.{Decides-ltb}
 use Rattle.std.proofs.lemmas.List.{length-append}
 use Rattle.csv.specs.Records.{field_at}
-use Rattle.vx_values.specs.Types.{type_of}
+use Rattle.vx_rows_values.specs.Types.{type_of}
 use Rattle.vx_catalog.specs.Number.{number_of}
-use Rattle.vx_relations.proofs.Accepted.{ok_bind}
+use Rattle.vx_catalog_relations.proofs.Accepted.{ok_bind}
 use Rattle.std.specs.Str.{is_utf8, IsAscii}
 use Rattle.std.proofs.lemmas.Str.{is_utf8-from_IsUtf8, IsUtf8-from_is_utf8, IsUtf8-from_ascii}
-use Rattle.vx_values.specs.Values.{Row, Val, num, text}
-use Rattle.vx_values.specs.declared.value.ColType.{ColType}
-use Rattle.vx_values.specs.declared.value.ColType.TheVariants as kind
-use Rattle.vx_relations.specs.Walk.{◌>>=◌}
+use Rattle.vx_rows_values.specs.Values.{Row, Val, num, text}
+use Rattle.vx_rows_values.specs.declared.value.ColType.{ColType}
+use Rattle.vx_rows_values.specs.declared.value.ColType.TheVariants as kind
+use Rattle.vx_catalog_relations.specs.Walk.{◌>>=◌}
 use Rattle.vx_catalog.specs.declared.fault.LoadFault.{LoadFault}
 use Rattle.vx_catalog.specs.declared.fault.LoadFault.TheVariants as fault
 use Rattle.vx_catalog.specs.Records.{Begins}
 use Rattle.vx_catalog.proofs.RowsReported.{RowsSoFar}
 use Rattle.vx_catalog.specs.Loading.{Fails, some_number, value_of, some_value, next_value, row_of, row_added, rows_onto}
-use Rattle.vx_values.specs.Limits.{max_rows}
+use Rattle.vx_rows_values.specs.Limits.{max_rows}
 
 pub ascii_is_utf8 : (bytes : List ℕ) → IsAscii bytes → IsUtf8 bytes
 ascii_is_utf8 bytes h = IsUtf8-from_ascii bytes h

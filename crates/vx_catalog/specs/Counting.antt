@@ -1,9 +1,9 @@
 -- The bytes of a port, counted as they are read.
 use Rattle.std.specs.Prelude.{◌≡◌, ℕ, ◌+◌, ◌==◌, ◌≤◌, nat_le, List, length, Option, Some, None, IsSome, if◌then◌else◌, Bool, true, false, ◌&&◌, ◌||◌, not, Result, Err, ◌⊎◌}
-use Rattle.vx_bytes.specs.Ports.{IsOver}
+use Rattle.vx_catalog_bytes.specs.Ports.{IsOver}
 use Rattle.vx_catalog.specs.declared.fault.LoadFault.{LoadFault}
 use Rattle.vx_catalog.specs.declared.fault.LoadFault.TheVariants as fault
-use Rattle.vx_values.specs.Limits.{max_text_bytes}
+use Rattle.vx_rows_values.specs.Limits.{max_text_bytes}
 
 -- where the text and the bytes that are left of it are known, those that were read and those that are left are no more than the text
 abbrev pub is_within : Option (List ℕ) → Option (List ℕ) → ℕ → Bool

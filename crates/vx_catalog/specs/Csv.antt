@@ -2,7 +2,7 @@
 use Rattle.std.specs.Prelude.{ℕ, List, ◌++◌, map, flat_map}
 use Rattle.std.specs.Fmt.{signed_decimal}
 use Rattle.csv.specs.Writing.{default_writer, row_text}
-use Rattle.vx_values.specs.Values.{Val, num, text, Row}
+use Rattle.vx_rows_values.specs.Values.{Val, num, text, Row}
 
 -- the bytes of a value: a plain decimal number, or the text itself
 abbrev pub field_text : Val → List ℕ

@@ -1,10 +1,10 @@
 -- Databases: for each relation of a catalog rows that meet it.
 use Rattle.std.specs.Prelude.{◌≡◌, ℕ, ◌<◌, ◌≤◌, List, [], length, slice_index_or, slice_set}
-use Rattle.vx_values.specs.Values.{Row}
+use Rattle.vx_rows_values.specs.Values.{Row}
 use Rattle.vx_rows.specs.View.{RowsView}
-use Rattle.vx_relations.specs.Relation.{Relation, Meets}
-use Rattle.vx_relations.specs.Catalog.{relation_at}
-use Rattle.vx_values.specs.Limits.{max_rows}
+use Rattle.vx_catalog_relations.specs.Relation.{Relation, Meets}
+use Rattle.vx_catalog_relations.specs.Catalog.{relation_at}
+use Rattle.vx_rows_values.specs.Limits.{max_rows}
 
 -- rows of the relation with this number
 pub record LoadedRows : Type 0 where

@@ -4,17 +4,17 @@ use Rattle.std.specs.Ordering.{is_lt}
 use Rattle.std.specs.Str.{is_utf8}
 use Rattle.csv.specs.Reading.{records, default_config, strip_bom}
 use Rattle.csv.specs.Records.{field_at}
-use Rattle.vx_values.specs.Values.{Val, num, text, Row}
-use Rattle.vx_values.specs.Order.{compare_on}
-use Rattle.vx_values.specs.Keys.{first_clash}
-use Rattle.vx_values.specs.declared.value.ColType.{ColType}
-use Rattle.vx_values.specs.declared.value.ColType.TheVariants as kind
-use Rattle.vx_relations.specs.Relation.{Relation}
-use Rattle.vx_relations.specs.Walk.{◌>>=◌, walk_onto}
+use Rattle.vx_rows_values.specs.Values.{Val, num, text, Row}
+use Rattle.vx_rows_values.specs.Order.{compare_on}
+use Rattle.vx_rows_values.specs.Keys.{first_clash}
+use Rattle.vx_rows_values.specs.declared.value.ColType.{ColType}
+use Rattle.vx_rows_values.specs.declared.value.ColType.TheVariants as kind
+use Rattle.vx_catalog_relations.specs.Relation.{Relation}
+use Rattle.vx_catalog_relations.specs.Walk.{◌>>=◌, walk_onto}
 use Rattle.vx_catalog.specs.Number.{number_of}
 use Rattle.vx_catalog.specs.declared.fault.LoadFault.{LoadFault}
 use Rattle.vx_catalog.specs.declared.fault.LoadFault.TheVariants as fault
-use Rattle.vx_values.specs.Limits.{max_rows, max_text_bytes}
+use Rattle.vx_rows_values.specs.Limits.{max_rows, max_text_bytes}
 
 -- what a call refused is what the reading refuses; running out of memory excuses, and no reading of bytes fails as a reader does
 abbrev pub Fails : {Y : Type 0} → LoadFault → Result Y LoadFault → Type 0

@@ -2,14 +2,14 @@
 use Rattle.std.specs.Prelude.{◌≡◌, ◌↔◌, ℕ, ◌≤◌, List, [], ◌∷◌, length, Some, Ok, true}
 use Rattle.std.specs.List.{AllZip}
 use Rattle.std.specs.Str.{is_utf8}
-use Rattle.vx_values.specs.Values.{Val, num, text, Row}
-use Rattle.vx_values.specs.Order.{sorted}
-use Rattle.vx_values.specs.declared.value.ColType.{ColType}
-use Rattle.vx_values.specs.declared.value.ColType.TheVariants as kind
-use Rattle.vx_relations.specs.Relation.{Relation, KeysHold}
+use Rattle.vx_rows_values.specs.Values.{Val, num, text, Row}
+use Rattle.vx_rows_values.specs.Order.{sorted}
+use Rattle.vx_rows_values.specs.declared.value.ColType.{ColType}
+use Rattle.vx_rows_values.specs.declared.value.ColType.TheVariants as kind
+use Rattle.vx_catalog_relations.specs.Relation.{Relation, KeysHold}
 use Rattle.vx_catalog.specs.Number.{number_of}
 use Rattle.vx_catalog.specs.Loading.{records_of, is_header, load_of}
-use Rattle.vx_values.specs.Limits.{max_rows, max_text_bytes}
+use Rattle.vx_rows_values.specs.Limits.{max_rows, max_text_bytes}
 
 -- a field of a column of this type stands for this value
 abbrev pub IsValueOf : ColType → List ℕ → Val → Type 0

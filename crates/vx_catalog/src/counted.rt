@@ -3,17 +3,17 @@
 ghost use Rattle.std.specs.Prelude.{◌≡◌, ◌⊎◌, ℕ, List, Option, None, Bool, Err, true, false};
 ghost use Rattle.std.specs.Io.KnownBytes.{IsAtEnd};
 ghost use Rattle.std.specs.Borrow.{GName};
-ghost use Rattle.vx_bytes.specs.Ports.{IsOver};
+ghost use Rattle.vx_catalog_bytes.specs.Ports.{IsOver};
 ghost use Rattle.vx_catalog.specs.Counting.{is_within, left_of, StaysKnown, Settles};
-ghost use Rattle.vx_values.specs.Limits.{max_text_bytes};
+ghost use Rattle.vx_rows_values.specs.Limits.{max_text_bytes};
 
 use crate::fault::LoadFault;
 use std::io;
 use std::io::{ErrorKind, Read};
 use std::marker::{Brand, PhantomData};
-use vx_bytes::ByteIn;
+use vx_catalog_bytes::ByteIn;
 use vx_rows::Table;
-use vx_values::limits::MAX_TEXT_BYTES;
+use vx_rows_values::limits::MAX_TEXT_BYTES;
 
 /// Names a port, and what was known of it when its counting began. A type names them, since the contracts of what reads through a
 /// `LimitedReader` say nothing of it but the bytes that are left.

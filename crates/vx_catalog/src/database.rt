@@ -2,19 +2,19 @@
 
 ghost use Rattle.std.specs.Prelude.{◌≡◌, ◌≢◌, ◌<◌, ◌≤◌, [], map, length, IfOk, IfErr, OnOk, OnErr};
 ghost use Rattle.std.specs.Arc.{arc_value};
-ghost use Rattle.vx_relations.specs.Relation.{Meets};
-ghost use Rattle.vx_relations.specs.Catalog.{relation_at};
+ghost use Rattle.vx_catalog_relations.specs.Relation.{Meets};
+ghost use Rattle.vx_catalog_relations.specs.Catalog.{relation_at};
 ghost use Rattle.vx_catalog.specs.Database.{rows_at, with_rows, IsDatabase, MeetsAll};
-ghost use Rattle.vx_values.specs.Limits.{max_rows};
+ghost use Rattle.vx_rows_values.specs.Limits.{max_rows};
 
 use crate::loader::Loaded;
 use crate::shared_table::SharedTable;
 use std::alloc::{AllocError, Global};
 use std::marker::Model;
 use std::sync::Arc;
-use vx_relations::Catalog;
+use vx_catalog_relations::Catalog;
 use vx_rows::Table;
-use vx_seeds::KeySeed;
+use vx_rows_values::KeySeed;
 
 // No rows for each relation of a catalog.
 fn empty_tables(alloc: Global, catalog: &Catalog) -> Result<Vec<SharedTable>, AllocError>

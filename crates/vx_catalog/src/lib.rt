@@ -18,5 +18,7 @@ pub use folder::path_in;
 pub use loader::{Loaded, Loader, read_text, test_rows, texts_are_loaded_exactly};
 pub use record::{is_header, next_record, read_rows};
 pub use shared_table::SharedTable;
-pub use vx_relations::{Catalog, CatalogFault, Relation, catalogs_are_read_exactly, find_name};
+pub use vx_catalog_relations::{
+    Catalog, CatalogFault, Relation, catalogs_are_read_exactly, find_name,
+};
 pub use writing::{format_rows, write_rows};

@@ -4,17 +4,17 @@ ghost use Rattle.std.specs.Prelude.{◌≡◌, ◌≢◌, ◌⊎◌, ◌<◌, �
 ghost use Rattle.csv.specs.Reading.{source_of};
 ghost use Rattle.std.specs.Ordering.{is_lt};
 ghost use Rattle.std.specs.List.{AllByRecursion};
-ghost use Rattle.vx_values.specs.Types.{Fits};
+ghost use Rattle.vx_rows_values.specs.Types.{Fits};
 ghost use Rattle.vx_rows.specs.View.{row, AreColumns};
-ghost use Rattle.vx_values.specs.Order.{compare_on};
-ghost use Rattle.vx_relations.specs.Relation.{Meets};
-ghost use Rattle.vx_relations.specs.Catalog.{relation_at, IsRelation};
+ghost use Rattle.vx_rows_values.specs.Order.{compare_on};
+ghost use Rattle.vx_catalog_relations.specs.Relation.{Meets};
+ghost use Rattle.vx_catalog_relations.specs.Catalog.{relation_at, IsRelation};
 ghost use Rattle.vx_catalog.specs.Database.{IsLoaded};
 ghost use Rattle.vx_catalog.specs.Meaning.{LoadLaw};
 ghost use Rattle.vx_catalog.specs.Counting.{StaysKnown};
 ghost use Rattle.vx_catalog.specs.Records.{IsPlain, rest_of};
 ghost use Rattle.vx_catalog.specs.Loading.{Gives, under_header, tested, keys_kept, order_kept, first_fall, load_of};
-ghost use Rattle.vx_values.specs.Limits.{max_rows};
+ghost use Rattle.vx_rows_values.specs.Limits.{max_rows};
 
 use crate::counted::{Lent, LimitedReader, Origin};
 use crate::fault::LoadFault;
@@ -24,8 +24,8 @@ use csv::{ByteRecord, Reader, ReaderBuilder};
 use std::alloc::{AllocError, Global};
 use std::io::Read;
 use std::marker::{Brand, Model};
-use vx_bytes::ByteIn;
-use vx_relations::{Catalog, Relation};
+use vx_catalog_bytes::ByteIn;
+use vx_catalog_relations::{Catalog, Relation};
 use vx_rows::{Table, compare_on};
 
 /// The rows under a text's header. It also fails with NoMemory if the source underneath failed.
@@ -152,8 +152,8 @@ pub struct Loaded {
 
 impl Model for Loaded {
     ghost use Rattle.std.specs.Prelude.{◌≡◌};
-    ghost use Rattle.vx_relations.specs.Relation.{Meets};
-    ghost use Rattle.vx_relations.specs.Catalog.{relation_at};
+    ghost use Rattle.vx_catalog_relations.specs.Relation.{Meets};
+    ghost use Rattle.vx_catalog_relations.specs.Catalog.{relation_at};
     ghost use Rattle.vx_catalog.specs.Database.{LoadedRows, IsLoaded};
 
     ghost Value = { LoadedRows };

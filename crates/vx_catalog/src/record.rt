@@ -5,13 +5,13 @@ ghost use Rattle.std.specs.Option.{option_copied};
 ghost use Rattle.csv.specs.Reading.{source_of, strip_bom};
 ghost use Rattle.csv.specs.Records.{fields_of, field_at};
 ghost use Rattle.std.specs.List.{AllByRecursion};
-ghost use Rattle.vx_values.specs.Types.{Fits};
-ghost use Rattle.vx_values.specs.ValueView.{cell_val};
-ghost use Rattle.vx_relations.specs.Walk.{walk_onto};
+ghost use Rattle.vx_rows_values.specs.Types.{Fits};
+ghost use Rattle.vx_rows_values.specs.ValueView.{cell_val};
+ghost use Rattle.vx_catalog_relations.specs.Walk.{walk_onto};
 ghost use Rattle.vx_catalog.specs.Counting.{StaysKnown};
 ghost use Rattle.vx_catalog.specs.Records.{IsPlain, rest_of, Takes};
 ghost use Rattle.vx_catalog.specs.Loading.{Gives, value_of, some_value, next_value, row_of, row_added, rows_onto, same_name, names_from, is_header};
-ghost use Rattle.vx_values.specs.Limits.{max_rows};
+ghost use Rattle.vx_rows_values.specs.Limits.{max_rows};
 
 use crate::fault::LoadFault;
 use crate::number::number_of;
@@ -21,8 +21,8 @@ use std::io::Read;
 use std::str;
 use std::str::Utf8Error;
 use vx_rows::{OpenRows, Table};
-use vx_values::limits::MAX_ROWS;
-use vx_values::{Cell, ColType};
+use vx_rows_values::limits::MAX_ROWS;
+use vx_rows_values::{Cell, ColType};
 
 // A field as a text, if it is UTF-8. Most texts are ASCII, which is tested faster.
 #[tactic(auto, using(crate::proofs::RowFacts::ascii_is_utf8))]

@@ -4,9 +4,9 @@ ghost use Rattle.std.specs.Prelude.{◌≡◌, ◌<◌, ◌++◌, ◌∷◌, [],
 ghost use Rattle.std.specs.Io.KnownBytes.{Appends};
 ghost use Rattle.csv.specs.Records.{fields_of};
 ghost use Rattle.csv.specs.Writing.{row_text, default_writer};
-ghost use Rattle.vx_values.specs.ValueView.{cell_val};
+ghost use Rattle.vx_rows_values.specs.ValueView.{cell_val};
 ghost use Rattle.vx_rows.specs.View.{row};
-ghost use Rattle.vx_views.specs.Chunks.{all_rows};
+ghost use Rattle.vx_rows_views.specs.Chunks.{all_rows};
 ghost use Rattle.vx_catalog.specs.Csv.{field_text, line_text, csv_text};
 ghost use Rattle.vx_catalog.specs.Text.{StandsAt};
 
@@ -14,9 +14,9 @@ use crate::fault::WriteFault;
 use csv::{StringRecord, Writer, WriterBuilder};
 use itoa::Buffer;
 use std::alloc::{AllocError, Global};
-use vx_bytes::{ByteOut, write_all};
-use vx_values::Cell;
-use vx_views::{Chunk, Rows};
+use vx_catalog_bytes::{ByteOut, write_all};
+use vx_rows_values::Cell;
+use vx_rows_views::{Chunk, Rows};
 
 // Adds the text of a value to a record.
 fn push_cell(line: &mut StringRecord, cell: Cell<'_>) -> Result<(), AllocError>

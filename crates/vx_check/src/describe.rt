@@ -1,8 +1,8 @@
 //! What the text that explains a plan says of a node's operator.
 
 ghost use Rattle.std.specs.Prelude.{◌≡◌, ◌++◌, ◌+◌, ◌<◌, ◌^◌, map, string_bytes, length, OnOk, IfOk, codes, false};
-ghost use Rattle.vx_values.specs.ValueView.{val_of};
-ghost use Rattle.vx_relations.specs.Catalog.{relation_at};
+ghost use Rattle.vx_rows_values.specs.ValueView.{val_of};
+ghost use Rattle.vx_catalog_relations.specs.Catalog.{relation_at};
 ghost use Rattle.vx_plan_nodes.specs.Outline.{outline_of, columns, condition_of, aggregate_of, phase_of, unary_of, renamed_of, binary_of, kind_of};
 ghost use Rattle.vx_plan_nodes.specs.TypedView.{names_in};
 ghost use Rattle.vx_check.specs.Explain.{name_at, separated, value_text, condition_text, kept_text, kept_texts, function_text, aggregate_texts, aggregates_text, group_text, grouping_text, unary_text, pair_text, binary_text, kind_text, merge_text, scan_text, prefix_text, description};
@@ -14,7 +14,7 @@ use vx_plan_nodes::{
     Aggregate, Binary, Condition, Exchange, ExchangeKind, Name, Phase, Projected, ScanNode, Side,
     TypedNode, TypedPlan, Unary,
 };
-use vx_values::Value;
+use vx_rows_values::Value;
 
 // Adds a number in plain decimal, or a text as `serde_json` writes it.
 fn push_value(alloc: Global, text: &mut String, value: &Value) -> Result<(), AllocError>

@@ -1,8 +1,8 @@
 -- The parts that are placed are options of their nodes.
 use Rattle.std.proofs.Common.{◌≡◌, ℕ, Bool, true, false, cond, ◌&&◌, ◌||◌, ◌==◌, List, [], ◌∷◌, Option, Some, None, option_map, unwrap_or, refl, sym, ap, ◌∙◌, true≢false, eqb-true, eq-eqb}
 use Rattle.std.specs.List.{list_any, list_all, find}
-use Rattle.vx_values.proofs.Booleans.{and-left, and-right, and-both}
-use Rattle.vx_relations.specs.Relation.{Relation}
+use Rattle.vx_rows_values.proofs.Booleans.{and-left, and-right, and-both}
+use Rattle.vx_catalog_relations.specs.Relation.{Relation}
 use Rattle.vx_plan_nodes.specs.Plan.{Route, by_hash, by_range, Part, one, any, all, routed, ExchangeKind, route_to, round, broadcast, gather, concat, Plan}
 use Rattle.vx_check_rules.specs.Rules.{numbers_eq, route_eq, rises_by}
 use Rattle.vx_check_rules.specs.Refusal.{or_else}

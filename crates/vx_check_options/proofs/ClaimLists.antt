@@ -1,8 +1,8 @@
 -- The claims of a plan, node by node, as the program puts them behind one another.
 use Rattle.std.proofs.Common.{◌≡◌, ℕ, zero, suc, Bool, true, ◌&&◌, ◌||◌, Some, slice_get, get_or, List, map, ◌<◌, arith, [], ◌∷◌, ◌++◌, length, refl, sym, ap, ◌∙◌, subst, append_assoc, Result, Ok, Err}
 use Rattle.std.specs.Result.{IfOk}
-use Rattle.vx_values.proofs.Booleans.{and-right}
-use Rattle.vx_relations.specs.Relation.{Relation}
+use Rattle.vx_rows_values.proofs.Booleans.{and-right}
+use Rattle.vx_catalog_relations.specs.Relation.{Relation}
 use Rattle.vx_plan_nodes.specs.Plan.{Part, Claim, Unary, Binary, ExchangeKind, Size, Plan, scan, unary, binary, exchange, claim, size, is_one}
 use Rattle.vx_plan_nodes.specs.declared.typed.Claim as rust_claim
 use Rattle.vx_plan_nodes.specs.Outline.{claim_of}

@@ -1,6 +1,6 @@
 -- The checker refuses claims with the keys that are found exactly where no claims fit.
 use Rattle.std.proofs.Common.{sym, ap, ◌∙◌}
-use Rattle.vx_relations.specs.Catalog.{relation_at}
+use Rattle.vx_catalog_relations.specs.Catalog.{relation_at}
 use Rattle.vx_check_rules.specs.Refusal.{first_refused}
 use Rattle.vx_check_options.specs.Claimed.{ClaimedIsFit}
 use Rattle.vx_check_options.proofs.PlacedIsFit.{placed-is-fit}

@@ -5,8 +5,8 @@ use Rattle.std.proofs.lemmas.List.{take_all}
 use Rattle.std.proofs.lemmas.Bool.{eqb-true}
 use Rattle.std.proofs.lemmas.Bool.Decides.{nat_tests}
 use Rattle.std.proofs.lemmas.List.Folds.{list_any-append, list_all-append, list_any_more, list_any_at}
-use Rattle.vx_values.proofs.Booleans.{and-left, and-right, and-both}
-use Rattle.vx_relations.specs.Catalog.{are_distinct}
+use Rattle.vx_rows_values.proofs.Booleans.{and-left, and-right, and-both}
+use Rattle.vx_catalog_relations.specs.Catalog.{are_distinct}
 use Rattle.vx_check_rules.specs.Rules.{contains, within, covers}
 use Rattle.vx_check_rules.proofs.Bools.{or-left, or-right, all-more, any-more}
 use Rattle.vx_check_options.specs.FoundKeys.{are_apart, with_key, with_column, meets_each, IsChoice, IsMet, Finds}

@@ -1,8 +1,8 @@
 -- Orders among the columns that may stand at their places.
 use Rattle.std.proofs.Common.{ℕ, ◌≡◌, ◌==◌, Bool, true, false, cond, ◌&&◌, ◌||◌, ⊎_elim, List, [], ◌∷◌, map, flat_map, filter, Option, Some, None, is_some, refl, sym, ◌∙◌, eqb-true}
 use Rattle.std.specs.List.{list_any}
-use Rattle.vx_values.proofs.Booleans.{and-left, and-right, and-both}
-use Rattle.vx_relations.specs.Relation.{Relation}
+use Rattle.vx_rows_values.proofs.Booleans.{and-left, and-right, and-both}
+use Rattle.vx_catalog_relations.specs.Relation.{Relation}
 use Rattle.vx_plan_nodes.specs.Plan.{by_hash, by_range, Part, one, any, all, routed, Claim, Unary, select, project, distinct, sort, group, plain, partial, final, Binary, union, join, ExchangeKind, route_to, round, broadcast, gather, concat, Plan, unary, binary, exchange, claim, size, is_one}
 use Rattle.vx_plan_nodes.specs.Typed.{may_merge}
 use Rattle.vx_plan_nodes.specs.Describe.{Copying, whole_rows, columns_kept, source, OrderAfter, order_kept, sorted_on, described}

@@ -4,8 +4,8 @@ use Rattle.std.specs.List.{list_all, list_any, filter}
 use Rattle.std.proofs.lemmas.Bool.{eqb-true}
 use Rattle.std.proofs.lemmas.List.Folds.{list_any-append, list_all-append, list_all-map, list_all_more, list_any_more, list_any_at}
 use Rattle.std.proofs.lemmas.Bool.Decides.{nat_tests}
-use Rattle.vx_values.proofs.Booleans.{and-left, and-right, and-both}
-use Rattle.vx_relations.specs.Catalog.{all_below, are_distinct}
+use Rattle.vx_rows_values.proofs.Booleans.{and-left, and-right, and-both}
+use Rattle.vx_catalog_relations.specs.Catalog.{all_below, are_distinct}
 use Rattle.vx_plan_nodes.specs.Typed.{are_columns}
 use Rattle.vx_plan_nodes.specs.Describe.{Copying, source}
 use Rattle.vx_plan_nodes.specs.Phases.{first_columns}

@@ -2,17 +2,17 @@
 use Rattle.std.proofs.Common.{ℕ, ◌≡◌, nat_lt, nat_le, Bool, true, false, cond, ◌&&◌, ◌||◌, ◌⊎◌, inl, inr, ⊎_elim, List, [], ◌∷◌, map, length, take, Option, Some, None, is_some, refl, sym, ap, ◌∙◌, subst, arith}
 use Rattle.std.specs.List.{list_all, list_any}
 use Rattle.std.proofs.lemmas.Bool.Decides.{nat_tests}
-use Rattle.vx_values.specs.declared.value.ColType.{ColType}
-use Rattle.vx_values.specs.Lists.{is_some_list}
-use Rattle.vx_values.proofs.Booleans.{and-left, and-right, and-both}
-use Rattle.vx_relations.specs.Relation.{Relation}
-use Rattle.vx_relations.specs.Catalog.{relation_at, all_below, are_distinct}
+use Rattle.vx_rows_values.specs.declared.value.ColType.{ColType}
+use Rattle.vx_rows_values.specs.Lists.{is_some_list}
+use Rattle.vx_rows_values.proofs.Booleans.{and-left, and-right, and-both}
+use Rattle.vx_catalog_relations.specs.Relation.{Relation}
+use Rattle.vx_catalog_relations.specs.Catalog.{relation_at, all_below, are_distinct}
 use Rattle.vx_plan_nodes.specs.Plan.{Size, one_worker, group_of, by_hash, by_range, Part, one, any, all, routed, Claim, Unary, Binary, union, join, ExchangeKind, Plan, scan, unary, binary, exchange, claim, size, size_eq, is_one}
 use Rattle.vx_plan_nodes.specs.Phases.{phase_fits, both_closed}
 use Rattle.vx_plan_nodes.specs.Types.{types_of, binary_width, unary_width, width}
 use Rattle.vx_plan_nodes.specs.Describe.{described, described_both}
 use Rattle.vx_plan_nodes.specs.Typed.{Scope, bounds_at, range_type, type_eq, are_columns, is_size, is_part, is_claim, is_unary, is_binary, is_kind, may_merge, is_output, typed}
-use Rattle.vx_values.specs.Types.{type_at}
+use Rattle.vx_rows_values.specs.Types.{type_at}
 use Rattle.vx_check_rules.specs.Rules.{part_gives, is_prefix, sizes_match, not_replicated, inputs_match, order_given, part_shown, order_shown, keys_shown, allowed_here, allowed}
 use Rattle.vx_check_rules.specs.Refusal.{Rule, size_mismatch, replicated_input, inputs_not_matched, order_needed, order_not_shown, or_else, refused_at}
 use Rattle.vx_check_rules.specs.Behaviour.{gives, ways_along, ways_over, behaviour, shown_part}

@@ -5,7 +5,7 @@ use Rattle.std.proofs.Math.Numerals.{add-one}
 use Rattle.std.proofs.Math.Seq.{drop-cons}
 use Rattle.std.specs.List.{list_any, filter, find}
 use Rattle.std.specs.Prelude.{is_some}
-use Rattle.vx_relations.specs.Relation.{Relation}
+use Rattle.vx_catalog_relations.specs.Relation.{Relation}
 use Rattle.vx_plan_nodes.specs.Plan.{Route, Part, routed, Plan, size, is_one}
 use Rattle.vx_plan_nodes.specs.declared.typed.Part as rust_part
 use Rattle.vx_plan_nodes.specs.Outline.{part_of}

@@ -1,9 +1,9 @@
 -- What is placed is typed.
 use Rattle.std.proofs.Common.{◌≡◌, ℕ, nat_lt, nat_le, Bool, true, not, ◌&&◌, List, [], length, refl, sym, ap, ◌∙◌}
-use Rattle.vx_values.specs.declared.value.ColType.{ColType}
-use Rattle.vx_values.proofs.Booleans.{and-left, and-right, and-both}
-use Rattle.vx_relations.specs.Relation.{Relation}
-use Rattle.vx_relations.specs.Catalog.{relation_at, IsCatalog}
+use Rattle.vx_rows_values.specs.declared.value.ColType.{ColType}
+use Rattle.vx_rows_values.proofs.Booleans.{and-left, and-right, and-both}
+use Rattle.vx_catalog_relations.specs.Relation.{Relation}
+use Rattle.vx_catalog_relations.specs.Catalog.{relation_at, IsCatalog}
 use Rattle.vx_plan_nodes.specs.Plan.{Part, Aggregate, Claim, Unary, select, project, distinct, sort, group, plain, partial, final, Binary, ExchangeKind, Plan, scan, unary, binary, exchange, claim, size, is_one}
 use Rattle.vx_plan_nodes.specs.Describe.{whole_rows, described}
 use Rattle.vx_plan_nodes.specs.Types.{unary_types, binary_types, types_of}

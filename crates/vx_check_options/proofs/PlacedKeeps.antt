@@ -1,8 +1,8 @@
 -- What is placed keeps the claims that are there.
 use Rattle.std.proofs.Common.{◌≡◌, ℕ, Bool, true, false, cond, ◌&&◌, List, [], ◌∷◌, map, take, refl, sym, ap, ◌∙◌, true≢false, None}
-use Rattle.vx_values.specs.Lists.{is_some_list}
-use Rattle.vx_values.proofs.Booleans.{and-left, and-right}
-use Rattle.vx_relations.specs.Relation.{Relation}
+use Rattle.vx_rows_values.specs.Lists.{is_some_list}
+use Rattle.vx_rows_values.proofs.Booleans.{and-left, and-right}
+use Rattle.vx_catalog_relations.specs.Relation.{Relation}
 use Rattle.vx_plan_nodes.specs.Plan.{Part, one, any, all, routed, Binary, union, join, ExchangeKind, route_to, round, broadcast, gather, concat, Plan, scan, unary, binary, exchange, claim, size, is_one}
 use Rattle.vx_plan_nodes.specs.Describe.{Copying, whole_rows, OrderAfter, order_kept, sorted_on, described}
 use Rattle.vx_check_rules.specs.Rules.{part_gives, sizes_match}

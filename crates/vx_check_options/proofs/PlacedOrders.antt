@@ -4,8 +4,8 @@ use Rattle.std.specs.List.{list_any, list_all, flat_map}
 use Rattle.std.proofs.lemmas.Bool.{eqb-true}
 use Rattle.std.proofs.lemmas.Bool.Decides.{nat_tests}
 use Rattle.std.proofs.lemmas.List.Folds.{list_any-append}
-use Rattle.vx_values.specs.Lists.{is_some_list}
-use Rattle.vx_values.proofs.Booleans.{and-left, and-right, and-both}
+use Rattle.vx_rows_values.specs.Lists.{is_some_list}
+use Rattle.vx_rows_values.proofs.Booleans.{and-left, and-right, and-both}
 use Rattle.vx_plan_nodes.specs.Plan.{Part}
 use Rattle.vx_plan_nodes.specs.Describe.{Copying, whole_rows, columns_kept, left_of, right_of, source, OrderAfter, order_kept, sorted_on}
 use Rattle.vx_check_rules.specs.Rules.{contains, is_prefix, cons_both, if_some}

@@ -1,9 +1,9 @@
 -- The orders that are placed are columns of their nodes, none twice.
 use Rattle.std.proofs.Common.{◌≡◌, ℕ, nat_lt, Bool, true, false, cond, List, [], ◌∷◌, ◌++◌, map, length, refl, sym, ap, ◌∙◌, true≢false}
-use Rattle.vx_values.specs.declared.value.ColType.{ColType}
-use Rattle.vx_values.specs.Lists.{is_some_list}
-use Rattle.vx_values.proofs.Booleans.{and-left, and-right, and-both}
-use Rattle.vx_relations.specs.Catalog.{relation_at, IsCatalog}
+use Rattle.vx_rows_values.specs.declared.value.ColType.{ColType}
+use Rattle.vx_rows_values.specs.Lists.{is_some_list}
+use Rattle.vx_rows_values.proofs.Booleans.{and-left, and-right, and-both}
+use Rattle.vx_catalog_relations.specs.Catalog.{relation_at, IsCatalog}
 use Rattle.vx_plan_nodes.specs.Plan.{Part, Unary, select, project, distinct, sort, group, plain, partial, final, Binary, union, join, ExchangeKind, route_to, round, broadcast, gather, concat}
 use Rattle.vx_plan_nodes.specs.Describe.{Copying, whole_rows, columns_kept, described}
 use Rattle.vx_plan_nodes.specs.Types.{unary_types, binary_types}

@@ -4,12 +4,12 @@ use Rattle.std.specs.List.{list_any, list_all}
 use Rattle.std.proofs.lemmas.Bool.Decides.{nat_tests}
 use Rattle.std.proofs.lemmas.List.{append-nil}
 use Rattle.std.proofs.lemmas.List.Folds.{list_all-append, list_all-map}
-use Rattle.vx_values.specs.declared.value.ColType.{ColType}
-use Rattle.vx_values.specs.Types.{type_at}
-use Rattle.vx_values.specs.Lists.{is_some_list}
-use Rattle.vx_values.proofs.Booleans.{and-left, and-right, and-both}
-use Rattle.vx_relations.specs.Relation.{Relation}
-use Rattle.vx_relations.specs.Catalog.{relation_at, all_below, are_distinct}
+use Rattle.vx_rows_values.specs.declared.value.ColType.{ColType}
+use Rattle.vx_rows_values.specs.Types.{type_at}
+use Rattle.vx_rows_values.specs.Lists.{is_some_list}
+use Rattle.vx_rows_values.proofs.Booleans.{and-left, and-right, and-both}
+use Rattle.vx_catalog_relations.specs.Relation.{Relation}
+use Rattle.vx_catalog_relations.specs.Catalog.{relation_at, all_below, are_distinct}
 use Rattle.vx_plan_nodes.specs.Plan.{Route, by_hash, by_range, Part, one, any, all, routed, Unary, select, project, distinct, sort, group, plain, partial, final, Binary, union, join, ExchangeKind, route_to, round, broadcast, gather, concat, Plan, scan, unary, binary, exchange, claim, size, is_one, Claim}
 use Rattle.vx_plan_nodes.specs.Parts.{kind_part}
 use Rattle.vx_plan_nodes.specs.Describe.{Copying, whole_rows, columns_kept, left_of, right_of, source, described}

@@ -1,9 +1,9 @@
 -- Plans without their keys: no test of a node but the one of its keys looks at them.
 use Rattle.std.proofs.Common.{◌≡◌, ℕ, Bool, true, false, ◌&&◌, ◌||◌, List, [], ◌∷◌, refl, sym, ap, subst, ◌∙◌, Option, Some, None}
 use Rattle.std.specs.List.{list_all}
-use Rattle.vx_values.proofs.Booleans.{and-left}
-use Rattle.vx_relations.specs.Relation.{Relation}
-use Rattle.vx_relations.specs.Catalog.{all_below, are_distinct}
+use Rattle.vx_rows_values.proofs.Booleans.{and-left}
+use Rattle.vx_catalog_relations.specs.Relation.{Relation}
+use Rattle.vx_catalog_relations.specs.Catalog.{all_below, are_distinct}
 use Rattle.vx_plan_nodes.specs.Plan.{Size, Part, one, any, all, routed, Unary, select, project, distinct, sort, group, plain, partial, final, Binary, union, join, ExchangeKind, route_to, round, broadcast, gather, concat, Plan, scan, unary, binary, exchange, claim, size, is_one}
 use Rattle.vx_plan_nodes.specs.Types.{width, unary_width, binary_width}
 use Rattle.vx_plan_nodes.specs.Typed.{are_columns}

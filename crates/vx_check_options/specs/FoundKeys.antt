@@ -1,7 +1,7 @@
 -- The keys that are found at a node, among the lists of columns that are shown as keys there.
 use Rattle.std.specs.Prelude.{ℕ, ◌≡◌, ◌<◌, Bool, true, cond, not, ◌&&◌, ◌||◌, List, [], ◌∷◌, ◌++◌, map, length}
 use Rattle.std.specs.List.{list_all, list_any, filter}
-use Rattle.vx_relations.specs.Catalog.{all_below, are_distinct}
+use Rattle.vx_catalog_relations.specs.Catalog.{all_below, are_distinct}
 use Rattle.vx_plan_nodes.specs.Typed.{are_columns}
 use Rattle.vx_plan_nodes.specs.Describe.{Copying, source}
 use Rattle.vx_check_rules.specs.Rules.{contains, within, covers}

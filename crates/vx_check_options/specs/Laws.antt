@@ -1,14 +1,14 @@
 -- What the options of nodes are good for: no accepted claims are left out, and those that are placed by them are accepted and tell the most.
 use Rattle.std.specs.Prelude.{ℕ, ◌≡◌, ◌≤◌, ◌⊎◌, nat_lt, Bool, true, false, ◌&&◌, ◌||◌, List, [], ◌∷◌, length, None}
 use Rattle.std.specs.List.{list_all, list_any}
-use Rattle.vx_relations.specs.Relation.{Relation}
-use Rattle.vx_relations.specs.Catalog.{relation_at}
+use Rattle.vx_catalog_relations.specs.Relation.{Relation}
+use Rattle.vx_catalog_relations.specs.Catalog.{relation_at}
 use Rattle.vx_plan_nodes.specs.Plan.{Route, Part, one, any, all, routed, Claim, Plan, scan, unary, binary, exchange, claim, size, is_one}
 use Rattle.vx_plan_nodes.specs.Typed.{Scope, typed}
 use Rattle.vx_check_rules.specs.Rules.{part_gives, contains, is_prefix, allowed}
 use Rattle.vx_check_rules.specs.Behaviour.{behaviour, shown_part, shown_order}
 use Rattle.vx_check_options.specs.Options.{OrderChoices, parts_at, is_within, places_at, same_part, first_unfit}
-use Rattle.vx_values.specs.Limits.{max_columns}
+use Rattle.vx_rows_values.specs.Limits.{max_columns}
 
 -- ---- claims beside others
 

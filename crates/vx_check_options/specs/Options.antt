@@ -1,14 +1,14 @@
 -- What nodes can claim: the parts, and the columns that may stand at each place of an order, each by what the inputs can claim. A claim that a node has already narrows them.
 use Rattle.std.specs.Prelude.{ℕ, suc, ◌+◌, ◌==◌, nat_lt, nat_le, Bool, true, false, cond, ◌&&◌, ◌||◌, List, [], ◌∷◌, ◌++◌, map, flat_map, filter, length, take, Option, Some, None, is_some, option_map, unwrap_or}
 use Rattle.std.specs.List.{list_all, list_any}
-use Rattle.vx_values.specs.Lists.{is_some_list}
-use Rattle.vx_relations.specs.Relation.{Relation}
+use Rattle.vx_rows_values.specs.Lists.{is_some_list}
+use Rattle.vx_catalog_relations.specs.Relation.{Relation}
 use Rattle.vx_plan_nodes.specs.Plan.{Route, Part, one, any, all, routed, Binary, union, join, ExchangeKind, concat, Plan, scan, unary, binary, exchange, claim, size, is_one}
 use Rattle.vx_plan_nodes.specs.Describe.{Copying, whole_rows, columns_kept, left_of, right_of, OrderAfter, order_kept, sorted_on, described}
 use Rattle.vx_check_rules.specs.Rules.{part_gives, contains, rises_by, sizes_match}
 use Rattle.vx_check_rules.specs.Behaviour.{Way, gives, common_part, ways_from}
 use Rattle.vx_check_rules.specs.Refusal.{Rule, size_mismatch, replicated_input, inputs_not_matched, order_needed, order_not_shown, or_else, refused_at}
-use Rattle.vx_values.specs.Limits.{max_columns}
+use Rattle.vx_rows_values.specs.Limits.{max_columns}
 
 -- ---- copies of columns
 

@@ -1,6 +1,6 @@
 -- What a node and its inputs can claim, as the program has it.
 use Rattle.std.specs.Prelude.{ℕ, ◌≡◌, List, map, None, option_map}
-use Rattle.vx_relations.specs.Relation.{Relation}
+use Rattle.vx_catalog_relations.specs.Relation.{Relation}
 use Rattle.vx_plan_nodes.specs.Plan.{Part, Plan, scan, unary, binary, exchange}
 use Rattle.vx_plan_nodes.specs.Outline.{part_of}
 use Rattle.vx_check_rules.specs.RuleView.{refusal_of}

@@ -1,6 +1,6 @@
 -- The claims that are placed at all nodes, from the top down: under the part and the order of a node its inputs get those with which they are shown.
 use Rattle.std.specs.Prelude.{ℕ, Bool, true, false, cond, ◌&&◌, ◌||◌, List, [], ◌∷◌, map, find, Option, Some, None, option_map, unwrap_or, slice_get}
-use Rattle.vx_relations.specs.Relation.{Relation}
+use Rattle.vx_catalog_relations.specs.Relation.{Relation}
 use Rattle.vx_plan_nodes.specs.Plan.{Part, any, Claim, Binary, union, join, ExchangeKind, concat, Plan, scan, unary, binary, exchange, size, is_one}
 use Rattle.vx_plan_nodes.specs.Describe.{Copying, whole_rows, source, OrderAfter, order_kept, sorted_on, described}
 use Rattle.vx_check_rules.specs.Rules.{contains, rises_by}

@@ -2,7 +2,7 @@
 
 ghost use Rattle.std.specs.Prelude.{◌≡◌, ◌++◌, true, map, IfOk, OnOk};
 ghost use Rattle.std.specs.List.{filter};
-ghost use Rattle.vx_relations.specs.Catalog.{are_distinct};
+ghost use Rattle.vx_catalog_relations.specs.Catalog.{are_distinct};
 ghost use Rattle.vx_plan_nodes.specs.Describe.{source};
 ghost use Rattle.vx_plan_nodes.specs.Phases.{first_columns};
 ghost use Rattle.vx_plan_nodes.specs.DescribeView.{copying_of};

@@ -1,7 +1,7 @@
 //! The claims of all nodes of a plan: a part and an order for each from the top down, and its keys from the inputs upwards.
 
 ghost use Rattle.std.specs.Prelude.{◌≡◌, ℕ, List, ◌∷◌, [], ◌++◌, true, Some, map, length, slice_get, IfOk};
-ghost use Rattle.vx_relations.specs.Catalog.{relation_at};
+ghost use Rattle.vx_catalog_relations.specs.Catalog.{relation_at};
 ghost use Rattle.vx_plan_nodes.specs.Plan.{Plan, claim, size, is_one};
 ghost use Rattle.vx_plan_nodes.specs.Describe.{whole_rows, described};
 ghost use Rattle.vx_plan_nodes.specs.Outline.{part_of, claim_of, unary_of, binary_of, kind_of, outline_of, plan_of};
@@ -18,9 +18,9 @@ use crate::placing::{
     Placement, part_sent, parts_below, wanted_below, wanted_left, wanted_right, wanted_sent,
 };
 use std::alloc::{AllocError, Global};
+use vx_catalog_relations::Catalog;
 use vx_check_rules::{Columns, has_one_worker, is_total};
 use vx_plan_nodes::{Binary, Claim, Copying, Exchange, TypedNode, Unary, output_types};
-use vx_relations::Catalog;
 
 // What the input of an operator over one input is to claim.
 fn place_below(

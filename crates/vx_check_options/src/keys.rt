@@ -2,7 +2,7 @@
 
 ghost use Rattle.std.specs.Prelude.{◌≡◌, ℕ, ◌==◌, List, ◌∷◌, [], true, not, map, length, option_map, option_to_list, IfOk, OnOk};
 ghost use Rattle.std.specs.List.{list_all, filter};
-ghost use Rattle.vx_relations.specs.Catalog.{relation_at};
+ghost use Rattle.vx_catalog_relations.specs.Catalog.{relation_at};
 ghost use Rattle.vx_plan_nodes.specs.Phases.{first_columns};
 ghost use Rattle.vx_plan_nodes.specs.Outline.{outline_of, plan_of};
 ghost use Rattle.vx_plan_nodes.specs.Outputs.{HasOutputs};
@@ -17,9 +17,9 @@ ghost use Rattle.vx_check_options.specs.FoundKeys.{show, both_give, IsPart, IsKe
 use crate::choices::{add_choices, add_key, put_choices};
 use crate::copies::Lists;
 use std::alloc::{AllocError, Global};
+use vx_catalog_relations::Catalog;
 use vx_check_rules::{Columns, CopiedKeys, Keyed, KeysSeen, are_covered, keyed_from, show_key};
 use vx_plan_nodes::{Copying, TypedNode, output_types};
-use vx_relations::Catalog;
 
 // The keys of both inputs, and how many columns an output has.
 #[derive(Clone, Copy)]

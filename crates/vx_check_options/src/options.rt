@@ -2,8 +2,8 @@
 
 ghost use Rattle.std.specs.Prelude.{◌≡◌, ℕ, map, option_map, None, IfOk};
 ghost use Rattle.std.specs.List.{list_any};
-ghost use Rattle.vx_relations.specs.Relation.{Relation};
-ghost use Rattle.vx_relations.specs.Catalog.{relation_at};
+ghost use Rattle.vx_catalog_relations.specs.Relation.{Relation};
+ghost use Rattle.vx_catalog_relations.specs.Catalog.{relation_at};
 ghost use Rattle.vx_plan_nodes.specs.Plan.{any};
 ghost use Rattle.vx_plan_nodes.specs.Outline.{part_of, outline_of, plan_of};
 ghost use Rattle.vx_plan_nodes.specs.Outputs.{HasOutputs};
@@ -16,9 +16,9 @@ ghost use Rattle.vx_check_options.specs.OptionsView.{CanClaim, IsAbsent, AreInpu
 use crate::order_choices::{OrderChoices, choices_over, may_begin, narrowed};
 use crate::parts::{only_part, parts_over};
 use std::alloc::{AllocError, Global};
+use vx_catalog_relations::Catalog;
 use vx_check_rules::{Columns, Rule, do_sizes_match, gives, has_one_worker};
 use vx_plan_nodes::{Binary, Part, TypedNode};
-use vx_relations::Catalog;
 
 /// What a node can claim, and the first node, from it downwards, that no claims can save.
 pub struct Options {

@@ -2,7 +2,7 @@
 
 ghost use Rattle.std.specs.Prelude.{◌≡◌, [], ◌∷◌, flat_map, map, filter, is_some, IfOk};
 ghost use Rattle.std.specs.List.{list_any};
-ghost use Rattle.vx_relations.specs.Catalog.{relation_at};
+ghost use Rattle.vx_catalog_relations.specs.Catalog.{relation_at};
 ghost use Rattle.vx_plan_nodes.specs.Describe.{described};
 ghost use Rattle.vx_plan_nodes.specs.Outline.{part_of, kind_of, unary_of, binary_of, plan_of};
 ghost use Rattle.vx_plan_nodes.specs.DescribeView.{copying_of};
@@ -13,9 +13,9 @@ ghost use Rattle.vx_check_options.specs.Options.{singles, copies, places_up, pla
 use crate::copies::{add_copies, copied};
 use crate::placing::first_rising;
 use std::alloc::{AllocError, Global};
+use vx_catalog_relations::Catalog;
 use vx_check_rules::{Columns, has_one_worker};
 use vx_plan_nodes::{Binary, Copying, Exchange, ExchangeKind, OrderAfter, Part, TypedNode, Unary};
-use vx_relations::Catalog;
 
 /// For each place of an order the columns that may stand there.
 pub type OrderChoices = Vec<Vec<usize>>;

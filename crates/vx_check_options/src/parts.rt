@@ -2,7 +2,7 @@
 
 ghost use Rattle.std.specs.Prelude.{◌≡◌, ◌∷◌, [], map, flat_map, filter, take, find, option_map, false, IfOk, OnOk};
 ghost use Rattle.std.specs.List.{list_any};
-ghost use Rattle.vx_relations.specs.Catalog.{relation_at};
+ghost use Rattle.vx_catalog_relations.specs.Catalog.{relation_at};
 ghost use Rattle.vx_plan_nodes.specs.Plan.{claim, size, is_one};
 ghost use Rattle.vx_plan_nodes.specs.Outline.{part_of, route_of, outline_of, plan_of};
 ghost use Rattle.vx_plan_nodes.specs.Outputs.{HasOutputs};
@@ -12,9 +12,9 @@ ghost use Rattle.vx_check_options.specs.Placed.{first_two, is_given};
 
 use crate::copies::copied_lists;
 use std::alloc::{AllocError, Global};
+use vx_catalog_relations::Catalog;
 use vx_check_rules::{Had, PartSeen, Way, gives, has_one_worker, seen, show_part, ways_from};
 use vx_plan_nodes::{Part, Route, TypedNode, copied_part, routed_part};
-use vx_relations::Catalog;
 
 // So many parts of a node are kept at most.
 const MAX_PARTS: usize = 64;

@@ -1,7 +1,7 @@
 //! The part and the order of each input under those of a node.
 
 ghost use Rattle.std.specs.Prelude.{◌≡◌, map, find, option_map, slice_get, unwrap_or, IfOk};
-ghost use Rattle.vx_relations.specs.Catalog.{relation_at};
+ghost use Rattle.vx_catalog_relations.specs.Catalog.{relation_at};
 ghost use Rattle.vx_plan_nodes.specs.Plan.{any};
 ghost use Rattle.vx_plan_nodes.specs.Describe.{Copying as Copies, whole_rows};
 ghost use Rattle.vx_plan_nodes.specs.DescribeView.{copying_of, order_after_of};
@@ -15,11 +15,11 @@ ghost use Rattle.vx_check_options.specs.Claimed.{note};
 
 use crate::parts::first_two;
 use std::alloc::{AllocError, Global};
+use vx_catalog_relations::Catalog;
 use vx_check_rules::{Columns, rises_with_workers};
 use vx_plan_nodes::{
     Binary, Claim, Copying, ExchangeKind, OrderAfter, Part, TypedNode, copied_part,
 };
-use vx_relations::Catalog;
 
 /// The part and the order that a node is to claim.
 pub struct Placement {

@@ -1,7 +1,7 @@
 -- Tests that are joined.
 use Rattle.std.proofs.Common.{◌≡◌, Bool, true, false, ◌&&◌, ◌||◌, List, [], ◌∷◌, refl}
 use Rattle.std.specs.List.{list_any, list_all}
-use Rattle.vx_values.proofs.Booleans.{and-left, and-right, and-both}
+use Rattle.vx_rows_values.proofs.Booleans.{and-left, and-right, and-both}
 use Rattle.vx_check_rules.specs.Behaviour.{if_so}
 
 pub or-false : (b : Bool) → (b || false) ≡ b

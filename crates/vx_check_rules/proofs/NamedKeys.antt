@@ -1,10 +1,10 @@
 -- In a typed plan the claimed keys of every node name its columns.
 use Rattle.std.proofs.Common.{◌≡◌, Bool, true, ◌&&◌, ℕ, List, length, nat_le, nat_lt, sym, ap, ◌∙◌}
 use Rattle.std.specs.List.{list_all}
-use Rattle.vx_values.specs.declared.value.ColType.{ColType}
-use Rattle.vx_values.proofs.Booleans.{and-left, and-right}
-use Rattle.vx_relations.specs.Relation.{Relation}
-use Rattle.vx_relations.specs.Catalog.{relation_at, all_below, are_distinct}
+use Rattle.vx_rows_values.specs.declared.value.ColType.{ColType}
+use Rattle.vx_rows_values.proofs.Booleans.{and-left, and-right}
+use Rattle.vx_catalog_relations.specs.Relation.{Relation}
+use Rattle.vx_catalog_relations.specs.Catalog.{relation_at, all_below, are_distinct}
 use Rattle.vx_plan_nodes.specs.Plan.{Plan, scan, unary, binary, exchange, claim}
 use Rattle.vx_plan_nodes.specs.Types.{types_of, width}
 use Rattle.vx_plan_nodes.specs.Typed.{Scope, are_columns, is_part, is_claim, is_size, is_unary, is_binary, is_kind, may_merge, is_output, typed}

@@ -1,10 +1,10 @@
 -- Where no test fails at any node, the plan is allowed.
 use Rattle.std.proofs.Common.{ap, ◌∙◌, ◌≡◌, ℕ, Bool, true, false, cond, ◌&&◌, List, [], ◌∷◌, Option, Some, None, option_map, refl, ◌↔◌}
-use Rattle.vx_relations.specs.Relation.{Relation}
+use Rattle.vx_catalog_relations.specs.Relation.{Relation}
 use Rattle.vx_plan_nodes.specs.Plan.{Plan, scan, unary, binary, exchange, number}
 use Rattle.vx_check_rules.specs.Rules.{allowed, allowed_here, root_allowed}
 use Rattle.vx_check_rules.specs.Refusal.{Rule, first_failure, node_tests, root_tests, or_else, refused_at, first_refused, refusal}
-use Rattle.vx_values.proofs.Booleans.{and-both, and-left, and-right}
+use Rattle.vx_rows_values.proofs.Booleans.{and-both, and-left, and-right}
 
 abbrev pub passed : List (Bool × Rule) → Bool
 passed [] = true

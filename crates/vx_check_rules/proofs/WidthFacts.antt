@@ -1,9 +1,9 @@
 -- As many types as columns.
 use Rattle.std.proofs.Common.{◌≡◌, ℕ, ◌+◌, List, map, length, refl, ap, ◌∙◌, length-append}
 use Rattle.std.proofs.lemmas.List.{length-map}
-use Rattle.vx_values.specs.declared.value.ColType.{ColType}
-use Rattle.vx_values.specs.Types.{type_at}
-use Rattle.vx_relations.specs.Relation.{Relation}
+use Rattle.vx_rows_values.specs.declared.value.ColType.{ColType}
+use Rattle.vx_rows_values.specs.Types.{type_at}
+use Rattle.vx_catalog_relations.specs.Relation.{Relation}
 use Rattle.vx_plan_nodes.specs.Plan.{Unary, select, project, distinct, sort, group, Binary, union, join, Plan, scan, unary, binary, exchange}
 use Rattle.vx_plan_nodes.specs.Types.{aggregate_type, unary_types, unary_width, binary_types, binary_width, types_of, width}
 

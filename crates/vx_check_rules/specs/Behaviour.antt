@@ -1,7 +1,7 @@
 -- What a node has of its inputs' claims, by the description of its operator: the ways to a part, the orders and the keys that are there. Read downwards it tests a claim; read upwards it makes one.
 use Rattle.std.specs.Prelude.{ℕ, ◌==◌, Bool, true, false, cond, not, ◌&&◌, ◌||◌, List, [], ◌∷◌, ◌++◌, map, flat_map, filter_map, Option, Some, None}
 use Rattle.std.specs.List.{list_all, list_any}
-use Rattle.vx_relations.specs.Relation.{Relation}
+use Rattle.vx_catalog_relations.specs.Relation.{Relation}
 use Rattle.vx_plan_nodes.specs.Plan.{Route, Part, one, any, all, routed, ExchangeKind, Plan, scan, unary, binary, exchange, claim, size, is_one}
 use Rattle.vx_plan_nodes.specs.Parts.{kind_part}
 use Rattle.vx_plan_nodes.specs.Phases.{first_columns}

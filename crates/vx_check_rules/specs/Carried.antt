@@ -1,7 +1,7 @@
 -- That what is carried up is shown.
 use Rattle.std.specs.Prelude.{ℕ, ◌≡◌, Bool, true, [], ◌∷◌, Some, None}
 use Rattle.std.specs.List.{list_all}
-use Rattle.vx_relations.specs.Relation.{Relation}
+use Rattle.vx_catalog_relations.specs.Relation.{Relation}
 use Rattle.vx_plan_nodes.specs.Plan.{Part, Claim, Plan, scan, unary, binary, exchange}
 use Rattle.vx_plan_nodes.specs.Describe.{Copying, source, place}
 use Rattle.vx_check_rules.specs.Rules.{sizes_match, not_replicated, inputs_match, order_given}

@@ -1,7 +1,7 @@
 -- What the checker says of a typed plan.
 use Rattle.std.specs.Prelude.{ℕ, Bool, Option}
-use Rattle.vx_relations.specs.Relation.{Relation}
-use Rattle.vx_relations.specs.Catalog.{relation_at}
+use Rattle.vx_catalog_relations.specs.Relation.{Relation}
+use Rattle.vx_catalog_relations.specs.Catalog.{relation_at}
 use Rattle.vx_plan_nodes.specs.declared.typed_plan.TypedPlan.{TypedPlan}
 use Rattle.vx_plan_nodes.specs.TypedView.{scope, plan, resolved_of}
 use Rattle.vx_check_rules.specs.Rules.{allowed, root_allowed}

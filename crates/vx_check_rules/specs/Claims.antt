@@ -1,11 +1,11 @@
 -- What a claim means: of the streams of a node's workers and of the serial rows of the plan below it.
 use Rattle.std.specs.Prelude.{◌≡◌, ℕ, ◌<◌, ◌==◌, Bool, true, List, ◌≤◌}
 use Rattle.std.specs.List.{list_all}
-use Rattle.vx_values.specs.Values.{Row, pick, val_cmp, value_at}
-use Rattle.vx_values.specs.Order.{sorted}
-use Rattle.vx_values.specs.Bags.{SameRows}
+use Rattle.vx_rows_values.specs.Values.{Row, pick, val_cmp, value_at}
+use Rattle.vx_rows_values.specs.Order.{sorted}
+use Rattle.vx_rows_values.specs.Bags.{SameRows}
 use Rattle.vx_plan_nodes.specs.Plan.{Route, Part, one, any, all, routed, Claim, Plan, claim, size, by_range}
-use Rattle.vx_relations.specs.Relation.{Relation, KeysHold, Meets}
+use Rattle.vx_catalog_relations.specs.Relation.{Relation, KeysHold, Meets}
 use Rattle.vx_plan_nodes.specs.Serial.{rows, serial}
 use Rattle.vx_plan_nodes.specs.Streams.{Streams, joined, workers}
 use Rattle.vx_plan_nodes.specs.Routes.{Routing}

@@ -1,7 +1,7 @@
 -- That behaviours say what the rule table says.
 use Rattle.std.specs.Prelude.{ℕ, ◌≡◌, Bool, true, ◌||◌, List, [], ◌∷◌}
 use Rattle.std.specs.List.{list_all}
-use Rattle.vx_relations.specs.Relation.{Relation}
+use Rattle.vx_catalog_relations.specs.Relation.{Relation}
 use Rattle.vx_plan_nodes.specs.Plan.{Part, Plan, scan, unary, binary, exchange, claim, size, is_one}
 use Rattle.vx_plan_nodes.specs.Types.{width}
 use Rattle.vx_check_rules.specs.Rules.{sizes_match, not_replicated, order_given, inputs_match, unless_one, shows, orders, keys_of, within, numbers_below}

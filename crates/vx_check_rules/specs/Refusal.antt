@@ -1,6 +1,6 @@
 -- The first node in post-order at which a test fails, and the first test that fails there.
 use Rattle.std.specs.Prelude.{ℕ, Bool, cond, not, ◌||◌, List, [], ◌∷◌, Option, Some, None, option_map}
-use Rattle.vx_relations.specs.Relation.{Relation}
+use Rattle.vx_catalog_relations.specs.Relation.{Relation}
 use Rattle.vx_plan_nodes.specs.Plan.{Plan, scan, unary, binary, exchange, number, size, is_one}
 use Rattle.vx_check_rules.specs.Rules.{sizes_match, not_replicated, inputs_match, order_given, part_shown, order_shown, keys_shown, is_total_order}
 

@@ -1,8 +1,8 @@
 //! The part and the order that the claims of a node's inputs carry up to the node.
 
 ghost use Rattle.std.specs.Prelude.{◌≡◌, ℕ, option_map, IfOk};
-ghost use Rattle.vx_relations.specs.Relation.{Relation};
-ghost use Rattle.vx_relations.specs.Catalog.{relation_at};
+ghost use Rattle.vx_catalog_relations.specs.Relation.{Relation};
+ghost use Rattle.vx_catalog_relations.specs.Catalog.{relation_at};
 ghost use Rattle.vx_plan_nodes.specs.Outline.{part_of, route_of, outline_of, plan_of};
 ghost use Rattle.vx_plan_nodes.specs.Outputs.{HasOutputs};
 ghost use Rattle.vx_plan_nodes.specs.DescribeView.{copying_of};
@@ -18,8 +18,8 @@ use crate::places::{have_places, put_places};
 use crate::sortings::{Sorted, node_sortings};
 use crate::ways::{Way, node_ways};
 use std::alloc::{AllocError, Global};
+use vx_catalog_relations::Catalog;
 use vx_plan_nodes::{Copying, Part, Route, TypedNode, routed_part};
-use vx_relations::Catalog;
 
 // A part that is routed on the places of these columns, if each has one; else each row is somewhere.
 fn routed_at(

@@ -1,7 +1,7 @@
 //! The keys that the claims of a node's inputs carry up to the node.
 
 ghost use Rattle.std.specs.Prelude.{◌≡◌, ◌++◌, map, flat_map, option_map, slice_get, IfOk, OnOk};
-ghost use Rattle.vx_relations.specs.Catalog.{relation_at};
+ghost use Rattle.vx_catalog_relations.specs.Catalog.{relation_at};
 ghost use Rattle.vx_plan_nodes.specs.Outline.{outline_of, plan_of};
 ghost use Rattle.vx_plan_nodes.specs.Outputs.{HasOutputs};
 ghost use Rattle.vx_check_rules.specs.Behaviour.{front_places, kept_keys, first_pair, keys_up, node_keys};
@@ -12,8 +12,8 @@ use crate::columns::Columns;
 use crate::keyed::{CopiedKeys, Keyed, node_keyed};
 use crate::places::{have_places, put_places};
 use std::alloc::{AllocError, Global};
+use vx_catalog_relations::Catalog;
 use vx_plan_nodes::TypedNode;
-use vx_relations::Catalog;
 
 type Keys = Vec<Vec<usize>>;
 

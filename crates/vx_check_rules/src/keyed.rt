@@ -2,7 +2,7 @@
 
 ghost use Rattle.std.specs.Prelude.{◌≡◌, ◌<◌, [], ◌∷◌, length, map, slice_index_or};
 ghost use Rattle.std.specs.List.{list_any};
-ghost use Rattle.vx_relations.specs.Catalog.{relation_at};
+ghost use Rattle.vx_catalog_relations.specs.Catalog.{relation_at};
 ghost use Rattle.vx_plan_nodes.specs.Outline.{outline_of, plan_of};
 ghost use Rattle.vx_plan_nodes.specs.Outputs.{HasOutputs};
 ghost use Rattle.vx_plan_nodes.specs.Describe.{whole_rows};
@@ -15,8 +15,8 @@ ghost use Rattle.vx_check_rules.specs.Seen.{columns_seen};
 use crate::columns::Columns;
 use crate::copied::CopiedColumns;
 use crate::nodes::claimed_keys;
+use vx_catalog_relations::{Catalog, Relation};
 use vx_plan_nodes::{Copying, Described, DescribedBoth, KeysAfter, TypedNode, output_types};
-use vx_relations::{Catalog, Relation};
 
 /// Keys of one input, which are borrowed.
 #[derive(Clone, Copy)]

@@ -1,7 +1,7 @@
 //! What a node claims, and how many workers it has.
 
 ghost use Rattle.std.specs.Prelude.{◌≡◌, ℕ, map};
-ghost use Rattle.vx_relations.specs.Relation.{Relation};
+ghost use Rattle.vx_catalog_relations.specs.Relation.{Relation};
 ghost use Rattle.vx_plan_nodes.specs.Plan.{claim, size, size_eq, is_one};
 ghost use Rattle.vx_plan_nodes.specs.Outline.{part_of, outline_of, plan_of};
 ghost use Rattle.vx_plan_nodes.specs.Types.{width};

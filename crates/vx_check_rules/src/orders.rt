@@ -1,8 +1,8 @@
 //! Orders: what is needed of the inputs', and what is shown of the output's.
 
 ghost use Rattle.std.specs.Prelude.{◌≡◌, ◌||◌, ℕ};
-ghost use Rattle.vx_relations.specs.Relation.{Relation};
-ghost use Rattle.vx_relations.specs.Catalog.{relation_at};
+ghost use Rattle.vx_catalog_relations.specs.Relation.{Relation};
+ghost use Rattle.vx_catalog_relations.specs.Catalog.{relation_at};
 ghost use Rattle.vx_plan_nodes.specs.Outline.{claim_of, outline_of, plan_of};
 ghost use Rattle.vx_check_rules.specs.Rules.{covers, within, numbers_below, order_given, order_shown, is_total_order};
 ghost use Rattle.vx_plan_nodes.specs.Outputs.{HasOutputs};
@@ -11,8 +11,8 @@ use crate::columns::Columns;
 use crate::keyed::{KeysSeen, are_covered};
 use crate::nodes::{claimed_order, width_of};
 use crate::sortings::{node_sortings, show_order};
+use vx_catalog_relations::Catalog;
 use vx_plan_nodes::{Binary, Claim, TypedNode};
-use vx_relations::Catalog;
 
 /// Whether a merge join's inputs begin with the columns that it joins on, and a merging exchange's with those that it
 /// merges on: K7.

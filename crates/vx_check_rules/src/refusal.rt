@@ -1,8 +1,8 @@
 //! The first refused node of a plan.
 
 ghost use Rattle.std.specs.Prelude.{◌≡◌, ℕ, true, option_map};
-ghost use Rattle.vx_relations.specs.Relation.{Relation};
-ghost use Rattle.vx_relations.specs.Catalog.{relation_at};
+ghost use Rattle.vx_catalog_relations.specs.Relation.{Relation};
+ghost use Rattle.vx_catalog_relations.specs.Catalog.{relation_at};
 ghost use Rattle.vx_plan_nodes.specs.Plan.{number};
 ghost use Rattle.vx_plan_nodes.specs.Outline.{outline_of, plan_of};
 ghost use Rattle.vx_check_rules.specs.Refusal.{first_failure, node_tests, root_tests, refused_at, first_refused, refusal};
@@ -16,8 +16,8 @@ use crate::nodes::has_one_worker;
 use crate::orders::{is_order_given, is_order_shown, is_order_total};
 use crate::rule::Rule;
 use crate::shown::is_part_shown;
+use vx_catalog_relations::Catalog;
 use vx_plan_nodes::TypedNode;
-use vx_relations::Catalog;
 
 /// The first of a node's tests that fails, where the node is judged by what it and its inputs claim.
 pub fn failure_at(catalog: &Catalog, node: &TypedNode) -> Option<Rule>

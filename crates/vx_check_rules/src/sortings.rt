@@ -2,7 +2,7 @@
 
 ghost use Rattle.std.specs.Prelude.{◌≡◌, [], ◌∷◌};
 ghost use Rattle.std.specs.List.{list_any};
-ghost use Rattle.vx_relations.specs.Catalog.{relation_at};
+ghost use Rattle.vx_catalog_relations.specs.Catalog.{relation_at};
 ghost use Rattle.vx_plan_nodes.specs.Plan.{claim};
 ghost use Rattle.vx_plan_nodes.specs.Outline.{part_of, kind_of, plan_of};
 ghost use Rattle.vx_plan_nodes.specs.Describe.{whole_rows};
@@ -14,11 +14,11 @@ ghost use Rattle.vx_check_rules.specs.SortedView.{sorted_of, sorting_in, sorting
 use crate::columns::Columns;
 use crate::nodes::{claimed_order, claimed_part, has_one_worker};
 use crate::sources::begin_with_copies;
+use vx_catalog_relations::Catalog;
 use vx_plan_nodes::{
     Copying, Described, DescribedBoth, Exchange, ExchangeKind, OrderAfter, Part, Route, TypedNode,
     output_types,
 };
-use vx_relations::Catalog;
 
 /// An order, on the columns that are copied.
 #[derive(Clone, Copy)]

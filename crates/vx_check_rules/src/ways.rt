@@ -2,7 +2,7 @@
 
 ghost use Rattle.std.specs.Prelude.{◌≡◌, ℕ, true, cond, ◌&&◌, ◌||◌, [], ◌∷◌, option_map, option_to_list};
 ghost use Rattle.std.specs.List.{list_any};
-ghost use Rattle.vx_relations.specs.Relation.{Relation};
+ghost use Rattle.vx_catalog_relations.specs.Relation.{Relation};
 ghost use Rattle.vx_plan_nodes.specs.Plan.{any, all, routed};
 ghost use Rattle.vx_plan_nodes.specs.Parts.{kind_part};
 ghost use Rattle.vx_plan_nodes.specs.Outline.{part_of, route_of, kind_of, outline_of, plan_of};

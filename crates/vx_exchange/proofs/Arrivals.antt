@@ -8,10 +8,10 @@ use Rattle.std.proofs.lemmas.Option.{slice_get_within, get_or_from_slice_get, sl
 use Rattle.std.proofs.lemmas.List.Elements.{All-nil, All-push}
 use Rattle.std.proofs.lemmas.Bool.Decides.{nat_tests, eqb_tells}
 use Rattle.std.specs.Ordering.{is_le}
-use Rattle.vx_values.specs.Values.{Row}
-use Rattle.vx_values.specs.Order.{sorted, compare_on}
+use Rattle.vx_rows_values.specs.Values.{Row}
+use Rattle.vx_rows_values.specs.Order.{sorted, compare_on}
 use Rattle.vx_rows.specs.Lists.{IsBeginning}
-use Rattle.vx_values.specs.declared.value.ColType.{ColType}
+use Rattle.vx_rows_values.specs.declared.value.ColType.{ColType}
 use Rattle.vx_plan_nodes.specs.Streams.{Dealt, bearing}
 use Rattle.vx_ports.specs.Packets.{brings, last, fault, PacketView, content_rows, rows_of, closes, is_last, is_fault, has_last, has_fault}
 use Rattle.vx_ops.specs.Ledger.{Ledger, ConsumerEnd, receive, Makes, Begun, OwnBlame, IsFor, Came}
@@ -29,7 +29,7 @@ use Rattle.vx_ops.specs.declared.turn.Got.TheVariants as got
 use Rattle.vx_ops.specs.declared.turn.Polled.TheVariants as polled
 use Rattle.vx_rows.specs.declared.table.Table.{Table}
 use Rattle.vx_exchange.specs.Receiver.{EndStands, unmerged_end}
-use Rattle.vx_ends.proofs.Deals.{numbered_same, rows-numbered_same, range-numbered_same, bearing-same, bearing-other, bearing-append, numbers-append, ranges-append}
+use Rattle.vx_exchange_ends.proofs.Deals.{numbered_same, rows-numbered_same, range-numbered_same, bearing-same, bearing-other, bearing-append, numbers-append, ranges-append}
 
 eqb-same : (i : ℕ) → (i == i) ≡ true
 eqb-same i = grind (arith, nat_tests)

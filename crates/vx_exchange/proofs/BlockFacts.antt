@@ -3,9 +3,9 @@ use Rattle.std.proofs.Common.{◌≡◌, ℕ, ℤ, ◌+◌, ◌<◌, ◌≤◌, 
 use Rattle.std.specs.List.{slice_range}
 use Rattle.std.proofs.lemmas.List.{take_more_set, take_at, map_more, map-append, length-map}
 use Rattle.std.proofs.lemmas.Simd.{map-map}
-use Rattle.vx_values.specs.Values.{Row}
-use Rattle.vx_views.proofs.Whole.{take-range}
-use Rattle.vx_keys.specs.Columns.{number_key}
+use Rattle.vx_rows_values.specs.Values.{Row}
+use Rattle.vx_rows_views.proofs.Whole.{take-range}
+use Rattle.vx_match_keys.specs.Columns.{number_key}
 
 -- one consumer more
 pub consumers-more : (f : ℤ → ℕ) (keys : List ℤ) (consumers : List ℕ) (i : ℕ) (z : ℤ) (n : ℕ) → i < length keys → i < length consumers

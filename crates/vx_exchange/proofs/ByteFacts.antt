@@ -8,7 +8,7 @@ use Rattle.std.proofs.lemmas.Nat.{and_mask, ones_le_self, zero_from_ones}
 use Rattle.std.proofs.lemmas.List.{append-nil}
 use Rattle.std.proofs.lemmas.List.Elements.{All-tail}
 use Rattle.std.proofs.lemmas.List.Sums.{fold-append}
-use Rattle.vx_values.specs.Values.{num}
+use Rattle.vx_rows_values.specs.Values.{num}
 use Rattle.vx_plan_nodes.specs.ByteRouter.{hash_byte, key_hash, byte_route}
 
 -- from the hash of the name and 0, and then 1 for a number

@@ -7,7 +7,7 @@ use Rattle.std.proofs.lemmas.List.Concat.{flat_map-append}
 use Rattle.std.proofs.lemmas.List.Elements.{All-append}
 use Rattle.vx_rows.specs.View.{ArePositions}
 use Rattle.vx_rows.proofs.Splice.{part_after}
-use Rattle.vx_views.proofs.Facts.{map-slice}
+use Rattle.vx_rows_views.proofs.Facts.{map-slice}
 use Rattle.vx_exchange.proofs.PlaceFacts.{lists}
 
 -- the lists

@@ -5,11 +5,11 @@ use Rattle.std.specs.Prelude.{slice_range}
 use Rattle.std.proofs.lemmas.List.{map-append, take-append-drop, take-take}
 use Rattle.std.proofs.lemmas.List.Edits.{length-between}
 use Rattle.std.proofs.lemmas.Slice.{between_is}
-use Rattle.vx_values.specs.Values.{Row}
+use Rattle.vx_rows_values.specs.Values.{Row}
 use Rattle.vx_ports.specs.Packets.{PacketView}
-use Rattle.vx_ends.specs.Ship.{end_to_end}
+use Rattle.vx_exchange_ends.specs.Ship.{end_to_end}
 use Rattle.vx_exchange.specs.LaneView.{Way, parcel_at, Cuts, CutsRest}
-use Rattle.vx_ends.specs.Beginnings.{end_to_end-append}
+use Rattle.vx_exchange_ends.specs.Beginnings.{end_to_end-append}
 
 -- the first rows, and then a range of them
 pub take-range : {X : Type 0} (a b : ℕ) (xs : List X) → a ≤ b → take a xs ++ slice_range xs a b ≡ take b xs

@@ -5,15 +5,15 @@ use Rattle.std.proofs.lemmas.Bool.Decides.{eqb_tells}
 use Rattle.std.proofs.lemmas.List.{length-append, length-map}
 use Rattle.std.proofs.lemmas.List.Sums.{sum_by-cons}
 use Rattle.std.proofs.lemmas.Option.{none-some, same_Some, slice_get_within}
-use Rattle.vx_values.specs.Values.{Row, pick}
+use Rattle.vx_rows_values.specs.Values.{Row, pick}
 use Rattle.vx_plan_nodes.specs.Plan.{ExchangeKind, route_to, round, broadcast, gather, concat}
 use Rattle.vx_plan_nodes.specs.Routes.{Routing, Sends, sends_by}
 use Rattle.vx_plan_nodes.specs.Streams.{Streams, bearing}
 use Rattle.vx_ports.specs.Packets.{Content, brings, last, fault, closes, PacketView, content_rows, rows_of}
 use Rattle.vx_ops.proofs.Fewer.{filter-long}
-use Rattle.vx_ends.specs.Ship.{end_to_end}
-use Rattle.vx_ends.specs.Sending.{KindRoutesAs}
-use Rattle.vx_ends.specs.Queued.{rows_to, closings, IsTakenOut}
+use Rattle.vx_exchange_ends.specs.Ship.{end_to_end}
+use Rattle.vx_exchange_ends.specs.Sending.{KindRoutesAs}
+use Rattle.vx_exchange_ends.specs.Queued.{rows_to, closings, IsTakenOut}
 use Rattle.vx_exchange.specs.LaneView.{Way, LaneView, parcel_at, empty_outlet, Cuts, CutsRest}
 use Rattle.vx_exchange.specs.Lanes.{IsLane, closings_of, kind_of, bounds_of, SameLanes, Deals, Finishes, GivesPacket, GivesClosing}
 use Rattle.vx_exchange.specs.LaneLaws.{element_at}

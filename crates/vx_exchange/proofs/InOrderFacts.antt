@@ -1,14 +1,14 @@
 -- A consumer end that takes its producers in order.
 use Rattle.std.proofs.Common.{◌≡◌, ℕ, zero, suc, ◌+◌, ◌<◌, ◌≤◌, true, List, [], ◌++◌, sym, ap, ap₂, ◌∙◌, subst, arith, append-nil, append_assoc}
-use Rattle.vx_values.specs.Values.{Row}
+use Rattle.vx_rows_values.specs.Values.{Row}
 use Rattle.vx_rows.specs.Lists.{IsBeginning}
-use Rattle.vx_values.specs.Order.{sorted}
+use Rattle.vx_rows_values.specs.Order.{sorted}
 use Rattle.vx_ops.specs.Ledger.{Ledger, ConsumerEnd, receive, Makes}
 use Rattle.vx_plan_nodes.specs.Streams.{Streams, joined, Dealt}
 use Rattle.vx_ports.specs.Packets.{rows_of}
 use Rattle.vx_exchange.specs.InOrder.{StandsInOrder, InOrderLaw}
 use Rattle.vx_exchange.proofs.Arrivals.{sorted-on_none}
-use Rattle.vx_ends.proofs.Joined.{joined-dealt, joined-ext}
+use Rattle.vx_exchange_ends.proofs.Joined.{joined-dealt, joined-ext}
 
 -- behind k streams there is nothing
 joined-short : (d k : ℕ) (s : Streams) → ((i : ℕ) → k ≤ i → i < d + k → s i ≡ []) → joined (d + k) s ≡ joined k s

@@ -2,12 +2,12 @@
 use Rattle.std.proofs.Common.{ℕ, ◌<◌, List, [], ◌∷◌, length, map, refl, arith, All, string_bytes}
 use Rattle.std.specs.Prelude.{zip}
 use Rattle.std.specs.List.{AllByRecursion}
-use Rattle.vx_values.specs.Values.{Row, pick}
+use Rattle.vx_rows_values.specs.Values.{Row, pick}
 use Rattle.vx_rows.proofs.Below.{all_at}
 use Rattle.vx_plan_nodes.specs.Plan.{Size, route_to, round, broadcast, gather, concat, by_hash, by_range}
 use Rattle.vx_plan_nodes.specs.Routes.{Routing}
 use Rattle.vx_plan_nodes.specs.Streams.{bearing}
-use Rattle.vx_ends.specs.Sending.{KindRoutesAs}
+use Rattle.vx_exchange_ends.specs.Sending.{KindRoutesAs}
 use Rattle.vx_exchange.specs.LaneView.{LaneView}
 use Rattle.vx_exchange.specs.Routed.{key_route, key_columns, key_bounds, routed_to}
 use Rattle.vx_exchange.specs.Lanes.{in_turn, Deals, CutsEach}

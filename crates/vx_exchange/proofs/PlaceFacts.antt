@@ -6,8 +6,8 @@ use Rattle.std.proofs.lemmas.List.{same_lists, length-set, get_or-set_same, get_
 use Rattle.vx_rows.specs.Lists.{each_below}
 use Rattle.vx_rows.specs.View.{ArePositions}
 use Rattle.vx_rows.proofs.Below.{length-each_below, get_or-each_below, each_below-ext, each_below-all, all_at}
-use Rattle.vx_views.specs.Selected.{places_of}
-use Rattle.vx_views.proofs.Passing.{next-place-here, places-near}
+use Rattle.vx_rows_views.specs.Selected.{places_of}
+use Rattle.vx_rows_views.proofs.Passing.{next-place-here, places-near}
 
 -- the lists
 abbrev pub lists : List (Vec ℕ Global) → List (List ℕ)

@@ -4,9 +4,9 @@ use Rattle.std.specs.Prelude.{cond}
 use Rattle.std.specs.List.{list_all}
 use Rattle.std.proofs.lemmas.Bool.{cases_lt}
 use Rattle.std.proofs.lemmas.Cmp.{upto}
-use Rattle.vx_values.specs.Values.{Val, val_cmp}
-use Rattle.vx_values.specs.Bags.{count}
-use Rattle.vx_values.proofs.Compare.{val_cmp_total, not_gt-le, le-not_gt}
+use Rattle.vx_rows_values.specs.Values.{Val, val_cmp}
+use Rattle.vx_rows_values.specs.Bags.{count}
+use Rattle.vx_rows_values.proofs.Compare.{val_cmp_total, not_gt-le, le-not_gt}
 use Rattle.vx_plan_nodes.specs.Typed.{rises}
 
 le-trans : (a b c : Val) → is_le (val_cmp a b) ≡ true → is_le (val_cmp b c) ≡ true → is_le (val_cmp a c) ≡ true

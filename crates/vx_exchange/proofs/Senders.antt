@@ -3,7 +3,7 @@ use Rattle.std.proofs.Common.{ℕ, ◌≡◌, ◌+◌, ◌%◌, ◌<◌, inl, in
 use Rattle.std.proofs.lemmas.Bool.Decides.{eqb_tells}
 use Rattle.std.proofs.lemmas.List.{map-append, length-map}
 use Rattle.std.proofs.lemmas.Option.{same_Some, slice_get_within}
-use Rattle.vx_values.specs.Values.{Row}
+use Rattle.vx_rows_values.specs.Values.{Row}
 use Rattle.vx_plan_nodes.specs.Plan.{ExchangeKind, Size, round}
 use Rattle.vx_plan_nodes.specs.Routes.{Routing, Sends}
 use Rattle.vx_plan_nodes.specs.Streams.{Streams, bearing}
@@ -12,18 +12,18 @@ use Rattle.vx_ops.specs.Ledger.{Stream, fresh}
 use Rattle.vx_ops.specs.Turn.{with_packet}
 use Rattle.vx_ops.specs.declared.fault.Fault.{Fault}
 use Rattle.vx_ops.specs.declared.fault.StreamState.TheVariants.{Ended, Failed}
-use Rattle.vx_ends.specs.Ship.{Ship, end_to_end, packet_at, packet_of, IsPort, IsCutPort, IsShipped, IsCutShort}
+use Rattle.vx_exchange_ends.specs.Ship.{Ship, end_to_end, packet_at, packet_of, IsPort, IsCutPort, IsShipped, IsCutShort}
 use Rattle.vx_exchange.specs.LaneView.{LaneView, empty_outlet, parcel_of, Cuts, CutsRest}
 use Rattle.vx_exchange.specs.Lanes.{IsLane, ways_of, any_closed, ship_of, way_to, AreNumbered, AreFresh, SameLanes, in_turn, TakesTurns, Deals, Finishes, GivesPacket, GivesClosing}
 use Rattle.vx_exchange.specs.LaneLaws.{element_at, open_at}
-use Rattle.vx_ends.specs.Beginnings.{begins-along, begins-take, mapped-take, end_to_end-append}
+use Rattle.vx_exchange_ends.specs.Beginnings.{begins-along, begins-take, mapped-take, end_to_end-append}
 use Rattle.vx_exchange.specs.Sender.{closing_given, IsFilling, IsEnding, IsFailing, LaneAt, takes_more, SenderAt, sender_ship}
 use Rattle.vx_exchange.specs.RoundRobin.{RoundRobinLaw}
 use Rattle.vx_exchange.specs.declared.deal.Deal.{Deal}
 use Rattle.vx_exchange.specs.declared.sender.SenderState.{SenderState}
 use Rattle.vx_exchange.specs.declared.sender.SenderState.TheVariants.{Open, Ending, Failing}
 use Rattle.vx_exchange.proofs.Cuts.{all-append}
-use Rattle.vx_ends.proofs.Sendings.{sends-append, sends-none}
+use Rattle.vx_exchange_ends.proofs.Sendings.{sends-append, sends-none}
 use Rattle.vx_exchange.proofs.Turns.{turns-append, turns-none, turn-after, turn-first}
 use Rattle.vx_exchange.proofs.LaneLists.{get-set_same, get-set_other, all-lanes, lane-before, same-any, same-ship, numbered-way, gives-same, closes-ways}
 

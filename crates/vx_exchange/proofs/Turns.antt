@@ -7,13 +7,13 @@ use Rattle.std.proofs.Math.Seq.{get_or-append_seam}
 use Rattle.std.proofs.lemmas.List.{length_push}
 use Rattle.std.proofs.lemmas.Nat.{mod_below}
 use Rattle.std.proofs.lemmas.Slice.Zip.{seconds-zip}
-use Rattle.vx_values.specs.Values.{Row}
+use Rattle.vx_rows_values.specs.Values.{Row}
 use Rattle.vx_rows.specs.Lists.{each_below}
 use Rattle.vx_rows.proofs.Below.{length-each_below, each_below-more, each_below-all}
 use Rattle.vx_plan_nodes.specs.Plan.{ExchangeKind, route_to, round, broadcast, gather, concat}
 use Rattle.vx_plan_nodes.specs.Streams.{Streams, Dealt, bearing}
-use Rattle.vx_ends.proofs.Deals.{bearing-append}
-use Rattle.vx_views.specs.Selected.{places_from, places_of}
+use Rattle.vx_exchange_ends.proofs.Deals.{bearing-append}
+use Rattle.vx_rows_views.specs.Selected.{places_from, places_of}
 use Rattle.vx_exchange.specs.Lanes.{in_turn, TakesTurns}
 
 zip-append : (ks ls : List ℕ) (xs ys : List Row) → length ks ≡ length xs → zip (ks ++ ls) (xs ++ ys) ≡ zip ks xs ++ zip ls ys

@@ -1,13 +1,13 @@
 -- When the root may have accepted a stream: it kept the rows, and returned no packet.
 use Rattle.std.specs.Prelude.{ℕ, ◌≡◌, ◌≤◌, Bool, true, false, List, []}
 use Rattle.std.proofs.Common.{refl, le_refl}
-use Rattle.vx_values.specs.Values.{Val}
+use Rattle.vx_rows_values.specs.Values.{Val}
 use Rattle.vx_plan_nodes.specs.Routes.{Routing}
 use Rattle.vx_ports.specs.Packets.{PacketView}
 use Rattle.vx_ops.specs.Ledger.{Stream}
-use Rattle.vx_ends.specs.Queued.{consumers_of}
-use Rattle.vx_ends.specs.Streams.{AreStreams, no-streams}
-use Rattle.vx_ends.specs.Tasks.{Task, keep, Post, keeps, BeganSending, IsAt}
+use Rattle.vx_exchange_ends.specs.Queued.{consumers_of}
+use Rattle.vx_exchange_ends.specs.Streams.{AreStreams, no-streams}
+use Rattle.vx_exchange_ends.specs.Tasks.{Task, keep, Post, keeps, BeganSending, IsAt}
 use Rattle.vx_exchange.specs.declared.collector.Collector.{Collector}
 
 -- the rows are its task

@@ -1,6 +1,6 @@
 -- A consumer end that takes its producers in the order of their numbers: it asks one until it ended, and then the next.
 use Rattle.std.specs.Prelude.{◌≡◌, ℕ, suc, ◌<◌, List, [], ◌++◌}
-use Rattle.vx_values.specs.Values.{Row}
+use Rattle.vx_rows_values.specs.Values.{Row}
 use Rattle.vx_ops.specs.Ledger.{Ledger, ConsumerEnd, receive, Makes, Begun}
 use Rattle.vx_plan_nodes.specs.Streams.{joined}
 use Rattle.vx_ports.specs.Packets.{rows_of}

@@ -1,12 +1,12 @@
 -- What a sending end holds for one consumer, and how rows go into packets.
 use Rattle.std.specs.Prelude.{ℕ, ◌≡◌, ◌<◌, ◌≤◌, Bool, true, false, Option, Some, None, List, [], ◌++◌, length, map, All}
 use Rattle.std.specs.List.{AllByRecursion}
-use Rattle.vx_values.specs.Values.{Row}
+use Rattle.vx_rows_values.specs.Values.{Row}
 use Rattle.vx_rows.specs.View.{RowsView}
-use Rattle.vx_values.specs.declared.value.ColType.{ColType}
+use Rattle.vx_rows_values.specs.declared.value.ColType.{ColType}
 use Rattle.vx_ports.specs.Packets.{Content, brings, closes, content_rows, PacketView}
-use Rattle.vx_ends.specs.Ship.{end_to_end}
-use Rattle.vx_values.specs.Limits.{max_packet_rows}
+use Rattle.vx_exchange_ends.specs.Ship.{end_to_end}
+use Rattle.vx_rows_values.specs.Limits.{max_packet_rows}
 
 -- where packets come from and go to, and how large they are
 pub record Way : Type 0 where

@@ -1,14 +1,14 @@
 -- The lanes of a sending end, one for each consumer, and how rows are dealt to them.
 use Rattle.std.specs.Prelude.{ℕ, ◌≡◌, ◌<◌, ◌+◌, ◌%◌, ◌==◌, nat_lt, Bool, true, false, List, [], ◌∷◌, length, map, zip, Some, slice_get, slice_set}
 use Rattle.std.specs.List.{list_any, list_all}
-use Rattle.vx_values.specs.Values.{Val, Row}
+use Rattle.vx_rows_values.specs.Values.{Val, Row}
 use Rattle.vx_rows.specs.Lists.{each_below}
 use Rattle.vx_plan_nodes.specs.Outline.{size_of}
 use Rattle.vx_plan_nodes.specs.Plan.{ExchangeKind, route_to, round, broadcast, gather, concat}
 use Rattle.vx_plan_nodes.specs.Routes.{Routing, Sends}
 use Rattle.vx_plan_nodes.specs.Streams.{Streams, bearing}
 use Rattle.vx_ports.specs.Packets.{Content, closes, content_rows, is_empty, PacketView}
-use Rattle.vx_ends.specs.Ship.{Ship}
+use Rattle.vx_exchange_ends.specs.Ship.{Ship}
 use Rattle.vx_exchange.specs.LaneView.{Way, LaneView, parcel_of, empty_outlet, Cuts, CutsRest}
 use Rattle.vx_exchange.specs.Routed.{key_route, key_columns, key_bounds}
 use Rattle.vx_exchange.specs.declared.deal.Deal.{Deal}

@@ -4,7 +4,7 @@ use Rattle.std.proofs.Common.{refl, sym, ap, ◌∙◌, subst, le_of_suc-le-suc,
 use Rattle.std.proofs.lemmas.List.{length-map}
 use Rattle.std.proofs.lemmas.List.Sums.{count_by-le-length}
 use Rattle.vx_ports.specs.Packets.{rows_of}
-use Rattle.vx_ends.specs.Queued.{consumers_of}
+use Rattle.vx_exchange_ends.specs.Queued.{consumers_of}
 use Rattle.vx_exchange.specs.LaneView.{LaneView}
 use Rattle.vx_exchange.specs.Lanes.{closings_of}
 use Rattle.vx_exchange.specs.Sender.{sender_post}

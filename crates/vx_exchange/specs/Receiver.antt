@@ -1,7 +1,7 @@
 -- When the consumer end of an exchange may have received and returned what a ledger says.
 use Rattle.std.specs.Prelude.{ℕ, ◌≡◌, ◌≤◌, ◌<◌, ◌+◌, Some, true, false, slice_get, length, List, [], Bool, All}
 use Rattle.std.proofs.Common.{◌∙◌, sym, inr, subst}
-use Rattle.vx_values.specs.declared.value.ColType.{ColType}
+use Rattle.vx_rows_values.specs.declared.value.ColType.{ColType}
 use Rattle.vx_ports.specs.Packets.{has_last, is_closed}
 use Rattle.vx_ops.specs.Ledger.{Ledger, ConsumerEnd, Op, receive, Makes, Begun, OwnBlame, IsFor, TestsPackets, Abides}
 use Rattle.vx_ops.specs.Turn.{Shape, Coming, IsWithin, sum_below}
@@ -11,7 +11,7 @@ use Rattle.vx_ops.specs.declared.fault.StreamState.TheVariants.{Running, Ended, 
 use Rattle.vx_ops.specs.declared.fault.Fault.{Fault}
 use Rattle.vx_ops.specs.declared.turn.Want.{Want}
 use Rattle.vx_ops.specs.declared.turn.Want.TheVariants as want
-use Rattle.vx_ends.specs.InTurn.{IsInTurn}
+use Rattle.vx_exchange_ends.specs.InTurn.{IsInTurn}
 use Rattle.vx_exchange.specs.declared.receiver.Receiver.{Receiver}
 
 -- a consumer end that does not merge, and takes the producers as their packets come

@@ -6,7 +6,7 @@ use Rattle.vx_plan_nodes.specs.Routes.{Routing}
 use Rattle.vx_plan_nodes.specs.Streams.{bearing}
 use Rattle.vx_ports.specs.Packets.{PacketView}
 use Rattle.vx_ops.specs.Ledger.{Stream}
-use Rattle.vx_ends.specs.Ship.{IsPort}
+use Rattle.vx_exchange_ends.specs.Ship.{IsPort}
 use Rattle.vx_exchange.specs.Lanes.{in_turn}
 use Rattle.vx_exchange.specs.Sender.{SenderStands, sender_ship}
 use Rattle.vx_exchange.specs.declared.sender.Sender.{Sender}

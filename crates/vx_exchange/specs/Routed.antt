@@ -1,6 +1,6 @@
 -- The consumer of a row by its values in some columns.
 use Rattle.std.specs.Prelude.{ℕ, List, [], ◌∷◌, string_bytes}
-use Rattle.vx_values.specs.Values.{Val, Row, pick, value_at}
+use Rattle.vx_rows_values.specs.Values.{Val, Row, pick, value_at}
 use Rattle.vx_plan_nodes.specs.Plan.{Route, by_hash, by_range}
 use Rattle.vx_plan_nodes.specs.Routes.{range_consumer}
 use Rattle.vx_exchange.specs.declared.routes.KeyRoute.{KeyRoute}

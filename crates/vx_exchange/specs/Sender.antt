@@ -3,7 +3,7 @@ use Rattle.std.specs.Prelude.{ℕ, ◌≡◌, ◌<◌, ◌≤◌, ◌%◌, ◌&&
 use Rattle.std.specs.List.{AllByRecursion}
 use Rattle.std.proofs.Common.{refl, sym, ◌∙◌, subst, true≢false, append-nil}
 use Rattle.std.proofs.lemmas.List.{length-map}
-use Rattle.vx_values.specs.Values.{Val, Row}
+use Rattle.vx_rows_values.specs.Values.{Val, Row}
 use Rattle.vx_rows.specs.Lists.{IsBeginning}
 use Rattle.vx_plan_nodes.specs.Routes.{Routing, Sends}
 use Rattle.vx_plan_nodes.specs.Streams.{Streams}
@@ -12,17 +12,17 @@ use Rattle.vx_ops.specs.Ledger.{Stream}
 use Rattle.vx_ops.specs.declared.fault.Fault.{Fault}
 use Rattle.vx_ops.specs.declared.fault.StreamState.{StreamState}
 use Rattle.vx_ops.specs.declared.fault.StreamState.TheVariants.{Running, Ended, Failed}
-use Rattle.vx_ends.specs.Ship.{Ship, end_to_end, packet_of, packet_at, IsCut, IsPartShipped}
+use Rattle.vx_exchange_ends.specs.Ship.{Ship, end_to_end, packet_of, packet_at, IsCut, IsPartShipped}
 use Rattle.vx_exchange.specs.LaneView.{LaneView}
 use Rattle.vx_exchange.specs.Lanes.{IsLane, ways_of, any_closed, ship_of, bounds_of, TakesTurns}
 use Rattle.vx_exchange.specs.LaneLaws.{element_at, choose, open_at}
-use Rattle.vx_ends.specs.Tasks.{Task, send, Post, sends_by_ship, BeganSending, IsAt}
+use Rattle.vx_exchange_ends.specs.Tasks.{Task, send, Post, sends_by_ship, BeganSending, IsAt}
 use Rattle.vx_exchange.specs.declared.sender.Sender.{Sender}
 use Rattle.vx_exchange.specs.declared.sender.SenderState.{SenderState}
 use Rattle.vx_exchange.specs.declared.sender.SenderState.TheVariants.{Open, Ending, Failing}
-use Rattle.vx_ends.specs.Beginnings.{begins-along, begins-take, mapped-take}
-use Rattle.vx_ends.specs.Queued.{consumers_of}
-use Rattle.vx_ends.specs.Streams.{AreStreams, packet-stream, rows-stream, prefix-stream, are-streams}
+use Rattle.vx_exchange_ends.specs.Beginnings.{begins-along, begins-take, mapped-take}
+use Rattle.vx_exchange_ends.specs.Queued.{consumers_of}
+use Rattle.vx_exchange_ends.specs.Streams.{AreStreams, packet-stream, rows-stream, prefix-stream, are-streams}
 
 -- what it sends, and where
 abbrev pub sender_ship : Sender → Ship

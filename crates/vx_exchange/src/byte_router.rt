@@ -4,12 +4,12 @@ ghost use Rattle.std.specs.Prelude.{◌≡◌, ◌≤◌, ◌<◌, ◌+◌, ◌*
 ghost use Rattle.std.specs.List.{fold};
 ghost use Rattle.std.specs.Int.{w32, w64, to_be_bytes, cast_unsigned, IsPowerOfTwo};
 ghost use Rattle.std.proofs.lemmas.Nat.{mod_below};
-ghost use Rattle.vx_values.specs.ValueView.{val_of};
+ghost use Rattle.vx_rows_values.specs.ValueView.{val_of};
 ghost use Rattle.vx_plan_nodes.specs.ByteRouter.{hash_byte, value_bytes, key_hash, byte_route};
 
 use crate::remainder::Remainders;
 use vx_plan_nodes::Router;
-use vx_values::Value;
+use vx_rows_values::Value;
 
 /// Sends a key by a hash of the route's name and of the key, over their bytes.
 #[derive(Clone, Copy)]

@@ -1,12 +1,12 @@
 //! The end of the root's fragment: its rows are kept.
 
 use std::alloc::{AllocError, Global};
-use vx_ends::Sends;
+use vx_exchange_ends::Sends;
 use vx_ops::Polled;
 use vx_plan_nodes::Router;
 use vx_ports::Packet;
-use vx_values::ColType;
-use vx_views::Rows;
+use vx_rows_values::ColType;
+use vx_rows_views::Rows;
 
 /// The rows that the top of the root's fragment returns, in order. It returns no packet.
 #[derive(Drop)]
@@ -19,7 +19,7 @@ impl Collector {
     ghost use Rattle.std.specs.Prelude.{◌≡◌, ℕ, [], IfOk, true};
     ghost use Rattle.vx_plan_nodes.specs.Routes.{Routing};
     ghost use Rattle.vx_ops.specs.Ledger.{fresh};
-    ghost use Rattle.vx_ends.specs.Tasks.{keep, keeps};
+    ghost use Rattle.vx_exchange_ends.specs.Tasks.{keep, keeps};
     ghost use Rattle.vx_exchange.specs.Collector.{CollectorStands, collector_task, collector_post, collector_is_open, collector_held};
 
     /// No rows yet, of these types.

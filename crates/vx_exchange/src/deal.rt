@@ -5,7 +5,7 @@ ghost use Rattle.std.specs.List.{All, flat_map};
 ghost use Rattle.vx_rows.specs.View.{row, AreColumns, ArePositions};
 ghost use Rattle.vx_plan_nodes.specs.Routes.{Routing};
 ghost use Rattle.vx_plan_nodes.specs.Streams.{bearing};
-ghost use Rattle.vx_ends.specs.Sending.{KindRoutesAs};
+ghost use Rattle.vx_exchange_ends.specs.Sending.{KindRoutesAs};
 ghost use Rattle.vx_exchange.specs.Routed.{key_columns, routed_to};
 ghost use Rattle.vx_exchange.specs.Lanes.{kind_of, serves, bounds_of, columns_of, in_turn, SameLanes, Deals, CutsEach};
 
@@ -15,7 +15,7 @@ use crate::routes::{KeyRoute, consumers_of};
 use crate::scratch::Scratch;
 use std::alloc::{AllocError, Global};
 use vx_plan_nodes::{Router, Size};
-use vx_views::Rows;
+use vx_rows_views::Rows;
 
 /// How rows are dealt to the consumers: the kind of an exchange, with what a producer has to know of it.
 #[derive(Drop)]

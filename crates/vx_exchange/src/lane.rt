@@ -1,13 +1,13 @@
 //! What a sending end holds for one consumer.
 
-ghost use Rattle.vx_values.specs.Limits.{max_packet_rows};
+ghost use Rattle.vx_rows_values.specs.Limits.{max_packet_rows};
 
 use std::alloc::{AllocError, Global};
 use std::collections::VecDeque;
 use std::marker::Model;
 use vx_ports::{Packet, StreamEnd};
-use vx_values::ColType;
-use vx_views::{Chunk, Rows};
+use vx_rows_values::ColType;
+use vx_rows_views::{Chunk, Rows};
 
 /// Calls: `new (add | next_packet)* (finish next_packet* | clear) close`. After an `Err` of `add` or `finish` comes `clear`.
 ///
@@ -61,7 +61,7 @@ impl Model for Lane {
 
 impl Lane {
     ghost use Rattle.std.specs.Prelude.{◌≡◌, ◌<◌, ◌≤◌, ◌++◌, ◌∷◌, [], length, slice_range, true, false, All, IfOk, OnOk, IfSome, IfNone};
-    ghost use Rattle.vx_views.specs.Chunks.{all_rows};
+    ghost use Rattle.vx_rows_views.specs.Chunks.{all_rows};
     ghost use Rattle.vx_ports.specs.Packets.{closes, content_rows};
     ghost use Rattle.vx_ports.specs.Seen.{ending_content};
     ghost use Rattle.vx_exchange.specs.LaneView.{parcel_of, parcel_at, empty_outlet, Cuts, CutsRest};

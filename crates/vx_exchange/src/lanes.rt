@@ -4,12 +4,12 @@ ghost use Rattle.std.specs.Prelude.{◌≡◌, ◌≤◌, ◌<◌, ◌^◌, [], 
 ghost use Rattle.std.specs.List.{All};
 ghost use Rattle.vx_ports.specs.Seen.{ending_content};
 ghost use Rattle.vx_exchange.specs.Lanes.{AreFresh, SameLanes, Finishes, GivesPacket, GivesClosing};
-ghost use Rattle.vx_values.specs.Limits.{max_packet_rows};
+ghost use Rattle.vx_rows_values.specs.Limits.{max_packet_rows};
 
 use crate::lane::Lane;
 use std::alloc::{AllocError, Global};
 use vx_ports::{Packet, StreamEnd};
-use vx_values::ColType;
+use vx_rows_values::ColType;
 
 /// Makes a lane for each of the `consumers` consumers of an exchange.
 /// Its packets have up to `size` rows of `types`, where `size` is 1 to 4,096.

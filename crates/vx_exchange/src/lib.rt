@@ -22,5 +22,5 @@ pub use ranges::Ranges;
 pub use receiver::Receiver;
 pub use routes::KeyRoute;
 pub use sender::Sender;
-pub use vx_ends::Sends;
+pub use vx_exchange_ends::Sends;
 pub use vx_plan_nodes::Router;

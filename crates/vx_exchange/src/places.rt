@@ -3,7 +3,7 @@
 ghost use Rattle.std.specs.Prelude.{◌≡◌, ◌+◌, ◌%◌, ◌<◌, ◌≤◌, ◌==◌, ◌++◌, ◌∷◌, [], length, map, max, take, slice_set, slice_index_or, OnOk};
 ghost use Rattle.std.specs.List.{All};
 ghost use Rattle.vx_rows.specs.Lists.{each_below};
-ghost use Rattle.vx_views.specs.Selected.{places_of};
+ghost use Rattle.vx_rows_views.specs.Selected.{places_of};
 
 use std::alloc::{AllocError, Global};
 

@@ -2,15 +2,15 @@
 
 ghost use Rattle.std.specs.Prelude.{◌≡◌, ◌<◌, true, map};
 ghost use Rattle.std.specs.Ordering.{is_le};
-ghost use Rattle.vx_values.specs.Values.{val_cmp};
-ghost use Rattle.vx_values.specs.ValueView.{val_of, cell_val};
-ghost use Rattle.vx_values.specs.Bags.{count};
+ghost use Rattle.vx_rows_values.specs.Values.{val_cmp};
+ghost use Rattle.vx_rows_values.specs.ValueView.{val_of, cell_val};
+ghost use Rattle.vx_rows_values.specs.Bags.{count};
 ghost use Rattle.vx_plan_nodes.specs.Routes.{range_consumer};
 ghost use Rattle.vx_plan_nodes.specs.Typed.{rises};
 
 use std::cmp::Ordering;
 use std::marker::Model;
-use vx_values::{Cell, Value, compare_cells};
+use vx_rows_values::{Cell, Value, compare_cells};
 
 /// The bounds of a range route, each above those before it: a value goes to the consumer whose number is how many bounds are not above it,
 /// and to the last one where there are fewer consumers (range partitioning, as of DeWitt's Gamma).
@@ -21,8 +21,8 @@ pub struct Ranges {
 
 impl Model for Ranges {
     ghost use Rattle.std.specs.Prelude.{◌≡◌, List, map, true};
-    ghost use Rattle.vx_values.specs.Values.{Val};
-    ghost use Rattle.vx_values.specs.ValueView.{val_of};
+    ghost use Rattle.vx_rows_values.specs.Values.{Val};
+    ghost use Rattle.vx_rows_values.specs.ValueView.{val_of};
     ghost use Rattle.vx_plan_nodes.specs.Typed.{rises};
 
     ghost Value = { List Val };

@@ -1,14 +1,14 @@
 //! Consumer ends of exchanges.
 
 ghost use Rattle.std.specs.Prelude.{◌≡◌, ◌≤◌, ◌<◌, ◌+◌, Some, IfOk, true, false, vec_len, IsTrue, ◌↔◌};
-ghost use Rattle.vx_ends.specs.InTurn.{IsInTurn};
-ghost use Rattle.vx_values.specs.Limits.{max_group_workers};
+ghost use Rattle.vx_exchange_ends.specs.InTurn.{IsInTurn};
+ghost use Rattle.vx_rows_values.specs.Limits.{max_group_workers};
 
 use std::alloc::{AllocError, Global};
-use vx_ends::next_unset;
+use vx_exchange_ends::next_unset;
 use vx_ops::{Code, Fault, Got, Polled, Source, StreamState, Want};
 use vx_ports::{Body, Packet, StreamEnd};
-use vx_values::ColType;
+use vx_rows_values::ColType;
 
 /// Calls: `new (wants turn)*`.
 ///

@@ -1,19 +1,19 @@
 //! The consumers of rows by their values in some columns.
 
 ghost use Rattle.std.specs.Prelude.{◌≡◌, ◌<◌, ◌++◌, length, map, IfOk, OnOk};
-ghost use Rattle.vx_values.specs.Values.{pick, value_at};
+ghost use Rattle.vx_rows_values.specs.Values.{pick, value_at};
 ghost use Rattle.vx_plan_nodes.specs.Routes.{range_consumer};
-ghost use Rattle.vx_values.specs.ValueView.{val_of};
+ghost use Rattle.vx_rows_values.specs.ValueView.{val_of};
 ghost use Rattle.vx_rows.specs.View.{row, AreColumns};
 ghost use Rattle.vx_exchange.specs.Routed.{key_columns, routed_to};
 
 use crate::ranges::Ranges;
 use std::alloc::{AllocError, Global};
-use vx_keys::IntColumn;
+use vx_match_keys::IntColumn;
 use vx_plan_nodes::Router;
 use vx_rows::put_key;
-use vx_values::{Cell, Value};
-use vx_views::{Chunk, Rows};
+use vx_rows_values::{Cell, Value};
+use vx_rows_views::{Chunk, Rows};
 
 // How many numbers are routed at once.
 const BLOCK: usize = 64;

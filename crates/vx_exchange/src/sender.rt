@@ -3,7 +3,7 @@
 ghost use Rattle.std.specs.Prelude.{◌≡◌, ◌<◌, ◌^◌, length, true};
 ghost use Rattle.vx_rows.specs.View.{AreColumns};
 ghost use Rattle.vx_exchange.specs.Lanes.{AreNumbered, ways_of, ship_of, serves, columns_of, may_close, are_idle};
-ghost use Rattle.vx_values.specs.Limits.{max_packet_rows};
+ghost use Rattle.vx_rows_values.specs.Limits.{max_packet_rows};
 
 use crate::deal::{Deal, deal_rows};
 use crate::lane::Lane;
@@ -11,11 +11,11 @@ use crate::lanes::{clear_lanes, close_next, finish_lanes, make_lanes, next_packe
 use crate::places::turn;
 use crate::scratch::Scratch;
 use std::alloc::{AllocError, Global};
-use vx_ends::Sends;
+use vx_exchange_ends::Sends;
 use vx_ops::Polled;
 use vx_plan_nodes::Router;
 use vx_ports::{Packet, StreamEnd};
-use vx_values::ColType;
+use vx_rows_values::ColType;
 
 /// What a sending end is about.
 #[derive(Clone, Copy)]
@@ -67,8 +67,8 @@ impl Sender {
     ghost use Rattle.vx_ports.specs.Packets.{PacketView};
     ghost use Rattle.vx_ops.specs.Ledger.{fresh, Stream};
     ghost use Rattle.vx_ops.specs.Turn.{heard, GivesRows};
-    ghost use Rattle.vx_ends.specs.Tasks.{sends_by_ship};
-    ghost use Rattle.vx_ends.specs.Sending.{RoutesAs, is_open_after};
+    ghost use Rattle.vx_exchange_ends.specs.Tasks.{sends_by_ship};
+    ghost use Rattle.vx_exchange_ends.specs.Sending.{RoutesAs, is_open_after};
     ghost use Rattle.vx_ops.specs.Turn.{rows_in};
     ghost use Rattle.vx_exchange.specs.Lanes.{kind_of, bounds_of, SameLanes};
     ghost use Rattle.vx_exchange.specs.Queued.{sender_held};

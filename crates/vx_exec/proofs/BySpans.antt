@@ -6,12 +6,12 @@ use Rattle.vx_rows.specs.Lists.{each_below}
 use Rattle.vx_plan_nodes.specs.Plan.{Plan, scan, unary, binary, exchange, size, target}
 use Rattle.vx_plan_nodes.specs.Streams.{workers}
 use Rattle.vx_plan_nodes.specs.Workers.{workers_below}
-use Rattle.vx_layout.specs.Layout.{spans_of}
+use Rattle.vx_exec_layout.specs.Layout.{spans_of}
 use Rattle.vx_worker.specs.Fragment.{RunModel}
 use Rattle.vx_worker.specs.Morsels.{morsel_count}
-use Rattle.vx_steps.specs.Crews.{stations_of, sends_below, queues_below}
-use Rattle.vx_steps.specs.Queues.{open_line}
-use Rattle.vx_steps.specs.declared.station.Station.TheVariants.{Inner, Exchange}
+use Rattle.vx_exec_steps.specs.Crews.{stations_of, sends_below, queues_below}
+use Rattle.vx_exec_steps.specs.Queues.{open_line}
+use Rattle.vx_exec_steps.specs.declared.station.Station.TheVariants.{Inner, Exchange}
 use Rattle.vx_exec.specs.Links.{station_in, sends_in, queues_in}
 
 module _ (S : RunModel) where

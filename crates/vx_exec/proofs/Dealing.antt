@@ -5,23 +5,23 @@ use Rattle.std.proofs.lemmas.Bool.Decides.{Decides-ltb}
 use Rattle.std.proofs.lemmas.List.{get_or-map, length-map}
 use Rattle.std.proofs.lemmas.List.Sums.{AllPass-from_list_all}
 use Rattle.std.specs.List.{list_all}
-use Rattle.vx_values.specs.Values.{Row, Val}
-use Rattle.vx_values.specs.Ranges.{RangeForm, range_form}
-use Rattle.vx_values.specs.ValueView.{val_of}
-use Rattle.vx_values.specs.declared.range.NamedRange.{NamedRange}
-use Rattle.vx_values.specs.declared.value.ColType.{ColType}
-use Rattle.vx_values.specs.Types.{type_of, type_at, is_held}
+use Rattle.vx_rows_values.specs.Values.{Row, Val}
+use Rattle.vx_rows_values.specs.Ranges.{RangeForm, range_form}
+use Rattle.vx_rows_values.specs.ValueView.{val_of}
+use Rattle.vx_rows_values.specs.declared.range.NamedRange.{NamedRange}
+use Rattle.vx_rows_values.specs.declared.value.ColType.{ColType}
+use Rattle.vx_rows_values.specs.Types.{type_of, type_at, is_held}
 use Rattle.vx_rows.specs.View.{AreColumns}
-use Rattle.vx_relations.specs.Catalog.{all_below, are_distinct}
+use Rattle.vx_catalog_relations.specs.Catalog.{all_below, are_distinct}
 use Rattle.vx_plan_nodes.specs.Outline.{size_of}
 use Rattle.vx_plan_nodes.specs.Plan.{ExchangeKind, route_to, round, broadcast, gather, concat, by_hash, by_range, target}
 use Rattle.vx_plan_nodes.specs.Streams.{workers}
 use Rattle.vx_plan_nodes.specs.Typed.{Scope, is_kind, is_routed, is_size, are_columns, type_eq, range_type, bounds_at, is_range, rises}
 use Rattle.vx_plan_nodes.specs.TypedView.{scope}
-use Rattle.vx_values.specs.Lists.{is_some_list}
-use Rattle.vx_algebra.proofs.ColumnFacts.{columns-below}
-use Rattle.vx_laws.proofs.Bags.{and-left, and-right}
-use Rattle.vx_ends.specs.Sending.{KindRoutesAs}
+use Rattle.vx_rows_values.specs.Lists.{is_some_list}
+use Rattle.vx_ops_kernels.proofs.ColumnFacts.{columns-below}
+use Rattle.vx_exec_laws.proofs.Bags.{and-left, and-right}
+use Rattle.vx_exchange_ends.specs.Sending.{KindRoutesAs}
 use Rattle.vx_exchange.specs.Lanes.{kind_of, serves, columns_of}
 use Rattle.vx_exchange.specs.Routed.{key_route, key_columns}
 use Rattle.vx_exchange.specs.declared.deal.Deal.{Deal}

@@ -2,11 +2,11 @@
 use Rattle.std.proofs.Common.{Vec, Global, Bool, ◌≡◌, ℕ, ◌<◌, ◌≤◌, true, List, [], ◌∷◌, length, vec_len, map, Ok, Err, Result, get_or, refl, sym, ap, ◌∙◌, subst, arith, zero, suc, inl, inr}
 use Rattle.std.proofs.lemmas.Bool.{cases_lt}
 use Rattle.std.specs.List.{All, slice_index_or}
-use Rattle.vx_values.specs.Values.{Row}
-use Rattle.vx_values.specs.declared.value.ColType.{ColType}
+use Rattle.vx_rows_values.specs.Values.{Row}
+use Rattle.vx_rows_values.specs.declared.value.ColType.{ColType}
 use Rattle.vx_catalog.specs.Database.{Database, rows_at, MeetsAll}
-use Rattle.vx_relations.specs.Catalog.{relation_at}
-use Rattle.vx_relations.specs.Relation.{Relation, Meets}
+use Rattle.vx_catalog_relations.specs.Catalog.{relation_at}
+use Rattle.vx_catalog_relations.specs.Relation.{Relation, Meets}
 use Rattle.vx_plan_nodes.specs.Outline.{plan_in}
 use Rattle.vx_plan_nodes.specs.Plan.{Plan}
 use Rattle.vx_plan_nodes.specs.Names.{TypedPlanView}
@@ -16,40 +16,40 @@ use Rattle.vx_check_rules.specs.Checked.{relations, is_allowed, is_root_allowed}
 use Rattle.vx_ops.specs.declared.fault.Code.TheVariants.{Overflow, NoMemory, Unsorted, Stranger}
 use Rattle.vx_ops.specs.declared.fault.Fault.{Fault}
 use Rattle.vx_ops.specs.declared.fault.Fault.TheVariants.{Own, Passed}
-use Rattle.vx_ends.specs.Tasks.{keeps, post_types}
+use Rattle.vx_exchange_ends.specs.Tasks.{keeps, post_types}
 use Rattle.vx_worker.specs.Fragment.{RunModel}
-use Rattle.vx_operators.specs.Operator.{OperatorStands, operator_op, operator_most, operator_idle}
-use Rattle.vx_operators.specs.Destination.{DestinationStands, task_of, post_of, bounds_of, held_in, unclosed_in}
+use Rattle.vx_exec_operators.specs.Operator.{OperatorStands, operator_op, operator_most, operator_idle}
+use Rattle.vx_exec_operators.specs.Destination.{DestinationStands, task_of, post_of, bounds_of, held_in, unclosed_in}
 use Rattle.vx_worker.specs.Trace.{scan_morsels}
 use Rattle.vx_worker.specs.Worker.{role_of, sender_of}
-use Rattle.vx_operators.specs.declared.operator.Operator.{Operator}
-use Rattle.vx_operators.specs.declared.destination.Destination.{Destination}
+use Rattle.vx_exec_operators.specs.declared.operator.Operator.{Operator}
+use Rattle.vx_exec_operators.specs.declared.destination.Destination.{Destination}
 use Rattle.vx_worker.specs.declared.worker.Worker.{Worker}
 use Rattle.vx_plan_nodes.specs.Real.{IsReal}
-use Rattle.vx_laws.proofs.Layouts.{numbered-is-fit}
-use Rattle.vx_laws.proofs.TypedPlans.{typed-is-well-formed}
-use Rattle.vx_steps.specs.Crews.{Duty, duty_of, root_duty, duties_below}
-use Rattle.vx_steps.specs.LinksView.{LinksView}
+use Rattle.vx_exec_laws.proofs.Layouts.{numbered-is-fit}
+use Rattle.vx_exec_laws.proofs.TypedPlans.{typed-is-well-formed}
+use Rattle.vx_exec_steps.specs.Crews.{Duty, duty_of, root_duty, duties_below}
+use Rattle.vx_exec_steps.specs.LinksView.{LinksView}
 use Rattle.vx_plan_nodes.specs.Workers.{crew_size, IsWithin, worker_group_at}
-use Rattle.vx_steps.specs.Endings.{ReportsFirst}
-use Rattle.vx_steps.specs.Ready.{Ready, IsRested}
-use Rattle.vx_steps.specs.Headline.{IsAccepted, IsTrueFault, Answers}
-use Rattle.vx_steps.specs.declared.verdict.RunState.{RunState}
-use Rattle.vx_steps.specs.declared.verdict.RunState.TheVariants as run_state
-use Rattle.vx_steps.proofs.Build.{crew-count}
-use Rattle.vx_steps.proofs.RunSteps.{map-length}
+use Rattle.vx_exec_steps.specs.Endings.{ReportsFirst}
+use Rattle.vx_exec_steps.specs.Ready.{Ready, IsRested}
+use Rattle.vx_exec_steps.specs.Headline.{IsAccepted, IsTrueFault, Answers}
+use Rattle.vx_exec_steps.specs.declared.verdict.RunState.{RunState}
+use Rattle.vx_exec_steps.specs.declared.verdict.RunState.TheVariants as run_state
+use Rattle.vx_exec_steps.proofs.Build.{crew-count}
+use Rattle.vx_exec_steps.proofs.RunSteps.{map-length}
 use Rattle.vx_exec.specs.Crew.{IsNew}
 use Rattle.vx_exec.specs.Job.{model_of, sizes_of}
-use Rattle.vx_runs.specs.Promise.{Reports}
+use Rattle.vx_exec_runs.specs.Promise.{Reports}
 use Rattle.vx_exec.specs.Promise.{PromiseOnceSet}
 use Rattle.vx_exec.specs.Runs.{ComesTo, fault_reported}
-use Rattle.vx_runs.specs.Runs.{IsTrueOf}
+use Rattle.vx_exec_runs.specs.Runs.{IsTrueOf}
 use Rattle.vx_exec.specs.Links.{board_of}
-use Rattle.vx_setup.specs.declared.fault.RunFault.{RunFault}
+use Rattle.vx_exec_setup.specs.declared.fault.RunFault.{RunFault}
 use Rattle.vx_exec.specs.declared.crew.Crew.{Crew}
 use Rattle.vx_exec.specs.declared.job.Job.{Job}
-use Rattle.vx_runs.specs.declared.outcome.RunOutcome.{RunOutcome}
-use Rattle.vx_runs.specs.declared.outcome.RunOutcome.TheVariants as run_outcome
+use Rattle.vx_exec_runs.specs.declared.outcome.RunOutcome.{RunOutcome}
+use Rattle.vx_exec_runs.specs.declared.outcome.RunOutcome.TheVariants as run_outcome
 
 some-group : (worker_groups : List ℕ) → All (IsWithin 1 64) worker_groups → (k : ℕ) → 0 < worker_group_at worker_groups k
 some-group worker_groups h k = elim (cases_lt k (length worker_groups)) [

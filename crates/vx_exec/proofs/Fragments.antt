@@ -1,30 +1,30 @@
 -- The tree of a fragment, by the node at its top.
 use Rattle.std.proofs.Common.{Box, Global, Result, Ok, Err, ◌≡◌, ℕ, suc, ◌+◌, ◌≤◌, ◌<◌, ◌==◌, ◌&&◌, true, Bool, List, length, refl, sym, ap, ◌∙◌, arith, eqb-true}
 use Rattle.std.specs.Prelude.{IfOk}
-use Rattle.vx_values.specs.declared.value.ColType.{ColType}
+use Rattle.vx_rows_values.specs.declared.value.ColType.{ColType}
 use Rattle.vx_rows.specs.View.{AreColumns}
-use Rattle.vx_relations.specs.Catalog.{relation_at, all_below, are_distinct}
+use Rattle.vx_catalog_relations.specs.Catalog.{relation_at, all_below, are_distinct}
 use Rattle.vx_plan_nodes.specs.Plan.{Plan, Claim, Size, Unary, Binary, ExchangeKind, scan, unary, binary, exchange, size}
 use Rattle.vx_plan_nodes.specs.Numbering.{is_numbered, nodes}
 use Rattle.vx_plan_nodes.specs.Runs.{is_concat}
 use Rattle.vx_plan_nodes.specs.Streams.{workers}
 use Rattle.vx_plan_nodes.specs.Types.{types_of}
 use Rattle.vx_plan_nodes.specs.Typed.{Scope, typed, is_kind, are_columns, may_merge, is_output}
-use Rattle.vx_algebra.proofs.ColumnFacts.{columns-below}
+use Rattle.vx_ops_kernels.proofs.ColumnFacts.{columns-below}
 use Rattle.vx_check_rules.specs.Checked.{relations}
-use Rattle.vx_laws.proofs.Bags.{and-left, and-right}
+use Rattle.vx_exec_laws.proofs.Bags.{and-left, and-right}
 use Rattle.vx_ops.specs.Ledger.{Op, one_op, two_op, receive}
 use Rattle.vx_ops.specs.Starts.{StartsWithin}
 use Rattle.vx_ops.specs.Turn.{Shape, fresh_ledger}
 use Rattle.vx_ops.specs.Scan.{scan_types}
 use Rattle.vx_ops.specs.declared.scan.Scan.{Scan}
 use Rattle.vx_worker.specs.Fragment.{alone, above, both, fragment}
-use Rattle.vx_operators.specs.Operator.{OperatorStands, operator_op, operator_types, operator_most, operator_idle}
+use Rattle.vx_exec_operators.specs.Operator.{OperatorStands, operator_op, operator_types, operator_most, operator_idle}
 use Rattle.vx_worker.specs.Trees.{shape as tree_shape}
 use Rattle.vx_worker.specs.Wishes.{Numbered}
-use Rattle.vx_operators.specs.declared.operator.Operator.{Operator}
-use Rattle.vx_operators.specs.Kind.{kind_op, kind_types}
-use Rattle.vx_operators.specs.declared.kind.OperatorKind.TheVariants as of_kind
+use Rattle.vx_exec_operators.specs.declared.operator.Operator.{Operator}
+use Rattle.vx_exec_operators.specs.Kind.{kind_op, kind_types}
+use Rattle.vx_exec_operators.specs.declared.kind.OperatorKind.TheVariants as of_kind
 use Rattle.vx_worker.specs.declared.tree.Tree.{Tree, One, Two, Leaf, One', Two'}
 use Rattle.vx_plan_nodes.specs.Workers.{worker_group_at}
 use Rattle.vx_exec.specs.Crew.{IsOperatorOf, IsTreeOf}

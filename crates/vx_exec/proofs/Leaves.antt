@@ -1,13 +1,13 @@
 -- In a numbered plan the types by number are those of the leaves.
 use Rattle.std.proofs.Common.{◌≡◌, ℕ, suc, ◌+◌, ◌<◌, ◌≤◌, ◌==◌, ◌&&◌, true, cond, List, refl, sym, ap, ◌∙◌, arith, eqb-true, eq-eqb, ne_eqb}
 use Rattle.std.proofs.lemmas.Bool.{le-ltb, lt-ltb}
-use Rattle.vx_values.specs.declared.value.ColType.{ColType}
-use Rattle.vx_relations.specs.Relation.{Relation}
+use Rattle.vx_rows_values.specs.declared.value.ColType.{ColType}
+use Rattle.vx_catalog_relations.specs.Relation.{Relation}
 use Rattle.vx_plan_nodes.specs.Plan.{Plan, scan, unary, binary, exchange, number}
 use Rattle.vx_plan_nodes.specs.Types.{types_of}
 use Rattle.vx_plan_nodes.specs.Numbering.{nodes, is_numbered}
-use Rattle.vx_laws.proofs.Bags.{and-left, and-right}
-use Rattle.vx_laws.proofs.Layouts.{number-is}
+use Rattle.vx_exec_laws.proofs.Bags.{and-left, and-right}
+use Rattle.vx_exec_laws.proofs.Layouts.{number-is}
 use Rattle.vx_exec.specs.LeafTypes.{leaf_types, LeavesFit}
 
 -- types that are a plan's leaves' within its numbers fit it

@@ -3,32 +3,32 @@ use Rattle.std.proofs.Common.{◌≡◌, ◌⊎◌, ℕ, ◌<◌, List, Ok, Err,
 use Rattle.std.specs.List.{All}
 use Rattle.std.specs.Result.{IsErrAnd}
 use Rattle.vx_catalog.specs.Database.{Database}
-use Rattle.vx_values.specs.Values.{Row}
+use Rattle.vx_rows_values.specs.Values.{Row}
 use Rattle.vx_plan_nodes.specs.Plan.{Plan}
 use Rattle.vx_plan_nodes.specs.TypedView.{plan as whole_plan, resolved_of}
 use Rattle.vx_worker.specs.Fragment.{RunModel}
 use Rattle.vx_worker.specs.declared.worker.Worker.{Worker}
-use Rattle.vx_operators.specs.declared.operator.Operator.{Operator}
-use Rattle.vx_operators.specs.declared.destination.Destination.{Destination}
-use Rattle.vx_steps.specs.declared.verdict.RunState.{RunState}
-use Rattle.vx_steps.specs.declared.verdict.RunState.TheVariants as run_state
+use Rattle.vx_exec_operators.specs.declared.operator.Operator.{Operator}
+use Rattle.vx_exec_operators.specs.declared.destination.Destination.{Destination}
+use Rattle.vx_exec_steps.specs.declared.verdict.RunState.{RunState}
+use Rattle.vx_exec_steps.specs.declared.verdict.RunState.TheVariants as run_state
 use Rattle.vx_plan_nodes.specs.declared.typed_plan.TypedPlan.{TypedPlan}
 use Rattle.vx_plan_nodes.specs.Workers.{crew_size, worker_group_at}
-use Rattle.vx_runs.specs.Sizes.{Sizes}
+use Rattle.vx_exec_runs.specs.Sizes.{Sizes}
 use Rattle.vx_exec.specs.Model.{run_model}
-use Rattle.vx_runs.specs.Setup.{SetupRefusal}
-use Rattle.vx_setup.specs.Setup.{SetupView}
+use Rattle.vx_exec_runs.specs.Setup.{SetupRefusal}
+use Rattle.vx_exec_setup.specs.Setup.{SetupView}
 use Rattle.vx_exec.specs.Job.{sizes_of, model_of}
-use Rattle.vx_runs.specs.Promise.{Reports}
+use Rattle.vx_exec_runs.specs.Promise.{Reports}
 use Rattle.vx_exec.specs.Promise.{CrewPromise, PromiseOnceSet, WhereSet}
 use Rattle.vx_exec.specs.Runs.{ComesTo, NamesFirst, IsFirstReported, IsScheduled, IsInRounds, Scheduled, InRounds, IsCountedInRounds, CountedInRounds}
-use Rattle.vx_runs.specs.Runs.{IsSetUp, IsWhole, RunFails, for_fault}
-use Rattle.vx_setup.specs.declared.fault.RunFault.{RunFault}
-use Rattle.vx_setup.specs.declared.fault.RunFault.TheVariants as fault
+use Rattle.vx_exec_runs.specs.Runs.{IsSetUp, IsWhole, RunFails, for_fault}
+use Rattle.vx_exec_setup.specs.declared.fault.RunFault.{RunFault}
+use Rattle.vx_exec_setup.specs.declared.fault.RunFault.TheVariants as fault
 use Rattle.vx_exec.specs.declared.job.Job.{Job}
-use Rattle.vx_setup.specs.declared.counts.WorkerCounts.{WorkerCounts}
-use Rattle.vx_runs.specs.declared.outcome.RunOutcome.{RunOutcome}
-use Rattle.vx_runs.specs.declared.outcome.RunOutcome.TheVariants as run_outcome
+use Rattle.vx_exec_setup.specs.declared.counts.WorkerCounts.{WorkerCounts}
+use Rattle.vx_exec_runs.specs.declared.outcome.RunOutcome.{RunOutcome}
+use Rattle.vx_exec_runs.specs.declared.outcome.RunOutcome.TheVariants as run_outcome
 
 ok-is : (s t : Sizes) → ◌≡◌ {A = Result Sizes SetupRefusal} (Ok s) (Ok t) → s ≡ t
 ok-is s t e = cc

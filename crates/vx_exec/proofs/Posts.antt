@@ -1,10 +1,10 @@
 -- A sending end keeps no rows.
 use Rattle.std.proofs.Common.{◌≡◌, List, subst}
-use Rattle.vx_values.specs.declared.value.ColType.{ColType}
-use Rattle.vx_ends.specs.Tasks.{Post, sends_by_ship, keeps}
+use Rattle.vx_rows_values.specs.declared.value.ColType.{ColType}
+use Rattle.vx_exchange_ends.specs.Tasks.{Post, sends_by_ship, keeps}
 use Rattle.vx_exchange.specs.declared.sender.Sender.{Sender}
-use Rattle.vx_operators.specs.Destination.{post_of}
-use Rattle.vx_operators.specs.declared.destination.Destination.TheVariants as destination
+use Rattle.vx_exec_operators.specs.Destination.{post_of}
+use Rattle.vx_exec_operators.specs.declared.destination.Destination.TheVariants as destination
 
 Sends : Post → Type 0
 Sends (sends_by_ship s) = Unit {0}

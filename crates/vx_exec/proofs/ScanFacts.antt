@@ -2,20 +2,20 @@
 use Rattle.std.proofs.Common.{◌≡◌, ℕ, zero, suc, ◌+◌, ◌<◌, ◌==◌, ◌&&◌, ◌⊎◌, inl, inr, true, cond, List, [], ◌∷◌, ◌++◌, length, Some, slice_get, get_or, refl, sym, ap, ◌∙◌, subst, arith, ne_eqb}
 use Rattle.std.proofs.lemmas.Bool.{le-ltb, lt-ltb, ltb-true}
 use Rattle.std.proofs.lemmas.Option.{slice_get-get_or}
-use Rattle.vx_relations.specs.Relation.{Relation}
+use Rattle.vx_catalog_relations.specs.Relation.{Relation}
 use Rattle.vx_plan_nodes.specs.Plan.{Plan, scan, unary, binary, exchange, number, size}
 use Rattle.vx_plan_nodes.specs.Numbering.{nodes, is_numbered, relation_in}
 use Rattle.vx_plan_nodes.specs.Streams.{workers}
 use Rattle.vx_plan_nodes.specs.Typed.{Scope, typed}
 use Rattle.vx_plan_nodes.specs.Types.{types_of}
 use Rattle.vx_plan_nodes.specs.Workers.{workers_below}
-use Rattle.vx_laws.proofs.Bags.{and-left, and-right}
-use Rattle.vx_laws.proofs.Layouts.{number-is}
-use Rattle.vx_layout.specs.Layout.{spans_of}
-use Rattle.vx_layout.proofs.Spans.{spans-count}
-use Rattle.vx_layout.specs.declared.span.NodeSpan.{NodeSpan}
-use Rattle.vx_layout.specs.declared.span.NodeSpan.TheVariants.{Scan}
-use Rattle.vx_layout.specs.declared.span.ScanSpan.{ScanSpan}
+use Rattle.vx_exec_laws.proofs.Bags.{and-left, and-right}
+use Rattle.vx_exec_laws.proofs.Layouts.{number-is}
+use Rattle.vx_exec_layout.specs.Layout.{spans_of}
+use Rattle.vx_exec_layout.proofs.Spans.{spans-count}
+use Rattle.vx_exec_layout.specs.declared.span.NodeSpan.{NodeSpan}
+use Rattle.vx_exec_layout.specs.declared.span.NodeSpan.TheVariants.{Scan}
+use Rattle.vx_exec_layout.specs.declared.span.ScanSpan.{ScanSpan}
 use Rattle.vx_exec.specs.LeafTypes.{leaf_types}
 
 -- the scan with this number reads this relation of the catalog

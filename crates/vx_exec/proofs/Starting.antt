@@ -1,9 +1,9 @@
 -- What a worker begins with: the packets that close its ports.
 use Rattle.std.proofs.Common.{◌≡◌, ℕ, ◌+◌, List, [], ◌∷◌, ◌++◌, sym, ap, ◌∙◌}
-use Rattle.vx_values.specs.declared.value.ColType.{ColType}
+use Rattle.vx_rows_values.specs.declared.value.ColType.{ColType}
 use Rattle.vx_rows.specs.Lists.{each_below}
 use Rattle.vx_ports.specs.Packets.{PacketView, fault}
-use Rattle.vx_ends.specs.Ship.{Ship, packet_of}
+use Rattle.vx_exchange_ends.specs.Ship.{Ship, packet_of}
 use Rattle.vx_exec.proofs.Each.{each-pushed}
 
 -- one more closing packet

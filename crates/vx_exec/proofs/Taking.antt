@@ -7,7 +7,7 @@ use Rattle.vx_plan_nodes.specs.Plan.{Plan, scan, unary, binary, exchange, size}
 use Rattle.vx_plan_nodes.specs.Streams.{workers}
 use Rattle.vx_worker.specs.Fragment.{RunModel, fragment}
 use Rattle.vx_worker.specs.Trees.{TakesFrom}
-use Rattle.vx_steps.proofs.Each.{each-length, each-at}
+use Rattle.vx_exec_steps.proofs.Each.{each-length, each-at}
 use Rattle.vx_exec.specs.Inputs.{inputs_of}
 
 -- one of the producers of an exchange

@@ -3,8 +3,8 @@ use Rattle.std.proofs.Common.{◌≡◌, ℕ, Bool, true, false, not, cond, List
 use Rattle.std.specs.List.{All}
 use Rattle.std.proofs.lemmas.List.Elements.{All-nil, All-cons}
 use Rattle.vx_plan_nodes.specs.Workers.{IsWithin}
-use Rattle.vx_runs.specs.Setup.{SetupRefusal, no_name, tested}
-use Rattle.vx_setup.specs.Setup.{Entry, is_within, workers_named, worker_groups_named, first_out_of_range}
+use Rattle.vx_exec_runs.specs.Setup.{SetupRefusal, no_name, tested}
+use Rattle.vx_exec_setup.specs.Setup.{Entry, is_within, workers_named, worker_groups_named, first_out_of_range}
 
 -- where no name is refused, none was found
 pub none_found : (refusal : List ℕ → SetupRefusal) (name : Option (List ℕ)) → no_name refusal name ≡ Ok tt → name ≡ None

@@ -1,31 +1,31 @@
 -- A worker that was made of a tree and a destination is to do what the plan says, and is new.
 use Rattle.std.proofs.Common.{◌≡◌, ℕ, List, [], sym, ap, ◌∙◌, subst}
 use Rattle.std.specs.List.{Contains}
-use Rattle.vx_values.specs.Values.{Row, Val}
-use Rattle.vx_values.specs.declared.value.ColType.{ColType}
+use Rattle.vx_rows_values.specs.Values.{Row, Val}
+use Rattle.vx_rows_values.specs.declared.value.ColType.{ColType}
 use Rattle.vx_plan_nodes.specs.Plan.{Plan, ExchangeKind, target}
 use Rattle.vx_plan_nodes.specs.Streams.{workers}
 use Rattle.vx_plan_nodes.specs.Routes.{Routing}
 use Rattle.vx_plan_nodes.specs.Types.{types_of}
 use Rattle.vx_check_rules.specs.Checked.{relations}
 use Rattle.vx_ops.specs.Ledger.{fresh}
-use Rattle.vx_ends.specs.Tasks.{Post, sends_by_ship}
-use Rattle.vx_ends.specs.Sending.{RoutesAs}
+use Rattle.vx_exchange_ends.specs.Tasks.{Post, sends_by_ship}
+use Rattle.vx_exchange_ends.specs.Sending.{RoutesAs}
 use Rattle.vx_worker.specs.Fragment.{Frag, fragment, goes}
 use Rattle.vx_worker.specs.Trace.{empty_trace}
 use Rattle.vx_worker.specs.Remaining.{Starts, TreeStarts}
 use Rattle.vx_worker.specs.Trees.{shape, TakesFrom}
 use Rattle.vx_worker.specs.Wishes.{TreeTyped}
 use Rattle.vx_worker.specs.Worker.{Role, role_of, tree_of, inputs_of as sources_in, IsReady, WorkerStands}
-use Rattle.vx_operators.specs.Operator.{OperatorStands, operator_op, operator_types, operator_most, operator_idle}
-use Rattle.vx_operators.specs.Destination.{DestinationStands, task_of, post_of, bounds_of, is_open, has_closed, held_in, unclosed_in}
-use Rattle.vx_operators.specs.declared.operator.Operator.{Operator}
-use Rattle.vx_operators.specs.declared.destination.Destination.{Destination}
+use Rattle.vx_exec_operators.specs.Operator.{OperatorStands, operator_op, operator_types, operator_most, operator_idle}
+use Rattle.vx_exec_operators.specs.Destination.{DestinationStands, task_of, post_of, bounds_of, is_open, has_closed, held_in, unclosed_in}
+use Rattle.vx_exec_operators.specs.declared.operator.Operator.{Operator}
+use Rattle.vx_exec_operators.specs.declared.destination.Destination.{Destination}
 use Rattle.vx_worker.specs.declared.tree.Tree.{Tree}
 use Rattle.vx_worker.specs.declared.worker.Worker.{Worker}
-use Rattle.vx_steps.specs.Crews.{Duty}
-use Rattle.vx_laws.specs.RunOf.{ship_of}
-use Rattle.vx_steps.specs.Ready.{IsRested}
+use Rattle.vx_exec_steps.specs.Crews.{Duty}
+use Rattle.vx_exec_laws.specs.RunOf.{ship_of}
+use Rattle.vx_exec_steps.specs.Ready.{IsRested}
 use Rattle.vx_plan_nodes.specs.Workers.{worker_group_at}
 use Rattle.vx_exec.specs.Inputs.{inputs_of}
 use Rattle.vx_exec.specs.Job.{model_of, types_at}

@@ -1,6 +1,6 @@
 -- The bounds by which exchanges route, where these are the bounds of the declared ranges.
 use Rattle.std.specs.Prelude.{List, []}
-use Rattle.vx_values.specs.Values.{Val}
+use Rattle.vx_rows_values.specs.Values.{Val}
 use Rattle.vx_plan_nodes.specs.Plan.{Route, by_hash, by_range, ExchangeKind, route_to, round, broadcast, gather, concat}
 use Rattle.vx_plan_nodes.specs.Typed.{bounds_at}
 

@@ -1,13 +1,13 @@
 -- What the workers of a run counted.
 use Rattle.std.specs.Prelude.{◌≡◌, List, [], ◌∷◌, ◌++◌, map}
-use Rattle.vx_operators.specs.Operator.{node_in, counts_in as operator_counts}
-use Rattle.vx_operators.specs.declared.operator.Operator.{Operator}
-use Rattle.vx_operators.specs.declared.destination.Destination.{Destination}
+use Rattle.vx_exec_operators.specs.Operator.{node_in, counts_in as operator_counts}
+use Rattle.vx_exec_operators.specs.declared.operator.Operator.{Operator}
+use Rattle.vx_exec_operators.specs.declared.destination.Destination.{Destination}
 use Rattle.vx_worker.specs.Worker.{tree_of, counts_of as step_counts}
 use Rattle.vx_worker.specs.declared.tree.Tree.{Tree, Leaf, One', Two'}
 use Rattle.vx_worker.specs.declared.worker.Worker.{Worker}
-use Rattle.vx_setup.specs.declared.counts.NodeCounts.{NodeCounts}
-use Rattle.vx_setup.specs.declared.counts.WorkerCounts.{WorkerCounts}
+use Rattle.vx_exec_setup.specs.declared.counts.NodeCounts.{NodeCounts}
+use Rattle.vx_exec_setup.specs.declared.counts.WorkerCounts.{WorkerCounts}
 
 -- the counts of an operator, under its node's number
 abbrev pub line_of : Operator → NodeCounts

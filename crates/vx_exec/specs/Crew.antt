@@ -1,8 +1,8 @@
 -- Trees and workers of a job, before any step.
 use Rattle.std.specs.Prelude.{ℕ, ◌≡◌, ◌+◌, true, List, []}
-use Rattle.vx_relations.specs.Relation.{Relation}
-use Rattle.vx_values.specs.Values.{Row}
-use Rattle.vx_values.specs.declared.value.ColType.{ColType}
+use Rattle.vx_catalog_relations.specs.Relation.{Relation}
+use Rattle.vx_rows_values.specs.Values.{Row}
+use Rattle.vx_rows_values.specs.declared.value.ColType.{ColType}
 use Rattle.vx_plan_nodes.specs.Plan.{Plan, scan, unary, binary, exchange, size}
 use Rattle.vx_plan_nodes.specs.Streams.{workers}
 use Rattle.vx_plan_nodes.specs.Routes.{Routing}
@@ -13,21 +13,21 @@ use Rattle.vx_check_rules.specs.Checked.{relations}
 use Rattle.vx_ops.specs.Ledger.{fresh, Op, scan_op, one_op, two_op, receive}
 use Rattle.vx_ops.specs.Starts.{StartsWithin}
 use Rattle.vx_ops.specs.Turn.{Shape, fresh_ledger}
-use Rattle.vx_ends.specs.Sending.{RoutesAs}
+use Rattle.vx_exchange_ends.specs.Sending.{RoutesAs}
 use Rattle.vx_worker.specs.Fragment.{RunModel, fragment, goes}
 use Rattle.vx_worker.specs.Trace.{empty_trace}
 use Rattle.vx_worker.specs.Remaining.{TreeStarts}
 use Rattle.vx_worker.specs.Trees.{shape, TreeStands}
 use Rattle.vx_worker.specs.Wishes.{fresh_reads, tree_types, Numbered, TreeTyped}
 use Rattle.vx_worker.specs.Worker.{role_of, sender_of, IsReady, WorkerStands}
-use Rattle.vx_operators.specs.Operator.{OperatorStands, operator_op, operator_types, operator_most, operator_idle}
-use Rattle.vx_operators.specs.Destination.{DestinationStands, task_of, post_of, bounds_of, is_open, has_closed, held_in, unclosed_in}
-use Rattle.vx_operators.specs.declared.operator.Operator.{Operator}
-use Rattle.vx_operators.specs.declared.destination.Destination.{Destination}
+use Rattle.vx_exec_operators.specs.Operator.{OperatorStands, operator_op, operator_types, operator_most, operator_idle}
+use Rattle.vx_exec_operators.specs.Destination.{DestinationStands, task_of, post_of, bounds_of, is_open, has_closed, held_in, unclosed_in}
+use Rattle.vx_exec_operators.specs.declared.operator.Operator.{Operator}
+use Rattle.vx_exec_operators.specs.declared.destination.Destination.{Destination}
 use Rattle.vx_worker.specs.declared.tree.Tree.{Tree}
 use Rattle.vx_worker.specs.declared.worker.Worker.{Worker}
-use Rattle.vx_steps.specs.Crews.{Duty, duty_of}
-use Rattle.vx_steps.specs.Ready.{IsRested}
+use Rattle.vx_exec_steps.specs.Crews.{Duty, duty_of}
+use Rattle.vx_exec_steps.specs.Ready.{IsRested}
 use Rattle.vx_exec.specs.Job.{model_of, types_at}
 use Rattle.vx_exec.specs.LeafTypes.{LeavesFit}
 use Rattle.vx_exec.specs.declared.job.Job.{Job}

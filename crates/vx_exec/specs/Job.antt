@@ -1,11 +1,11 @@
 -- What a run works on, as plain data.
 use Rattle.std.specs.Prelude.{ℕ, List}
-use Rattle.vx_values.specs.Values.{Row}
-use Rattle.vx_values.specs.declared.value.ColType.{ColType}
+use Rattle.vx_rows_values.specs.Values.{Row}
+use Rattle.vx_rows_values.specs.declared.value.ColType.{ColType}
 use Rattle.vx_plan_nodes.specs.TypedView.{plan}
 use Rattle.vx_check_rules.specs.Checked.{relations}
 use Rattle.vx_worker.specs.Fragment.{RunModel}
-use Rattle.vx_runs.specs.Sizes.{Sizes}
+use Rattle.vx_exec_runs.specs.Sizes.{Sizes}
 use Rattle.vx_exec.specs.Model.{run_model}
 use Rattle.vx_exec.specs.LeafTypes.{leaf_types}
 use Rattle.vx_exec.specs.declared.job.Job.{Job}

@@ -1,7 +1,7 @@
 -- The leaves of fragments, by their numbers.
 use Rattle.std.specs.Prelude.{ℕ, ◌≡◌, ◌==◌, nat_lt, cond, List}
-use Rattle.vx_values.specs.declared.value.ColType.{ColType}
-use Rattle.vx_relations.specs.Relation.{Relation}
+use Rattle.vx_rows_values.specs.declared.value.ColType.{ColType}
+use Rattle.vx_catalog_relations.specs.Relation.{Relation}
 use Rattle.vx_plan_nodes.specs.Plan.{Plan, scan, unary, binary, exchange, number}
 use Rattle.vx_plan_nodes.specs.Types.{types_of}
 

@@ -2,15 +2,15 @@
 use Rattle.std.specs.Prelude.{ℕ, Bool, true, false, List, [], length}
 use Rattle.vx_rows.specs.Lists.{each_below}
 use Rattle.vx_catalog.specs.Database.{rows_at}
-use Rattle.vx_layout.specs.declared.span.NodeSpan.{NodeSpan}
-use Rattle.vx_layout.specs.declared.span.NodeSpan.TheVariants as span
+use Rattle.vx_exec_layout.specs.declared.span.NodeSpan.{NodeSpan}
+use Rattle.vx_exec_layout.specs.declared.span.NodeSpan.TheVariants as span
 use Rattle.vx_ports.specs.LinkView.{LinkView}
 use Rattle.vx_worker.specs.Morsels.{morsel_count}
-use Rattle.vx_steps.specs.LinksView.{LinksView}
-use Rattle.vx_steps.specs.Queues.{open_line}
-use Rattle.vx_steps.specs.Scans.{full_hand}
-use Rattle.vx_steps.specs.declared.station.Station.{Station}
-use Rattle.vx_steps.specs.declared.station.Station.TheVariants as station
+use Rattle.vx_exec_steps.specs.LinksView.{LinksView}
+use Rattle.vx_exec_steps.specs.Queues.{open_line}
+use Rattle.vx_exec_steps.specs.Scans.{full_hand}
+use Rattle.vx_exec_steps.specs.declared.station.Station.{Station}
+use Rattle.vx_exec_steps.specs.declared.station.Station.TheVariants as station
 use Rattle.vx_exec.specs.declared.crew.Crew.{Crew}
 use Rattle.vx_exec.specs.declared.job.Job.{Job}
 

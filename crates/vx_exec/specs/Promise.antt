@@ -1,6 +1,6 @@
 -- What a run of a plan by workers promises, in whatever way they take turns.
 use Rattle.std.specs.Prelude.{ℕ, ◌⊎◌, List, Result, IfOk, IfErr}
-use Rattle.vx_values.specs.Values.{Row}
+use Rattle.vx_rows_values.specs.Values.{Row}
 use Rattle.vx_catalog.specs.Database.{Database}
 use Rattle.vx_plan_nodes.specs.Plan.{Plan}
 use Rattle.vx_plan_nodes.specs.TypedView.{plan as whole_plan, resolved_of}
@@ -9,12 +9,12 @@ use Rattle.vx_plan_nodes.specs.declared.typed_plan.TypedPlan.{TypedPlan}
 use Rattle.vx_worker.specs.Fragment.{RunModel}
 use Rattle.vx_exec.specs.Model.{run_model}
 use Rattle.vx_exec.specs.Runs.{IsFirstReported}
-use Rattle.vx_runs.specs.Promise.{Reports, RunPromise}
-use Rattle.vx_runs.specs.Runs.{IsRunOf, IfDone, IsTrueOf, IsSetUp}
-use Rattle.vx_runs.specs.Sizes.{Sizes}
-use Rattle.vx_runs.specs.declared.outcome.RunOutcome.{RunOutcome}
-use Rattle.vx_setup.specs.Setup.{SetupView}
-use Rattle.vx_setup.specs.declared.fault.RunFault.{RunFault}
+use Rattle.vx_exec_runs.specs.Promise.{Reports, RunPromise}
+use Rattle.vx_exec_runs.specs.Runs.{IsRunOf, IfDone, IsTrueOf, IsSetUp}
+use Rattle.vx_exec_runs.specs.Sizes.{Sizes}
+use Rattle.vx_exec_runs.specs.declared.outcome.RunOutcome.{RunOutcome}
+use Rattle.vx_exec_setup.specs.Setup.{SetupView}
+use Rattle.vx_exec_setup.specs.declared.fault.RunFault.{RunFault}
 
 -- a fact of the setting of a run and of its plan, where the setup is right
 abbrev pub WhereSet : (hash : List ℕ → Row → ℕ → ℕ) → TypedPlan → Database → SetupView → (RunModel → Plan → Type 0) → Type 0

@@ -1,36 +1,36 @@
 -- What the workers of a run come to, and by which steps.
 use Rattle.std.specs.Prelude.{ℕ, ◌≡◌, ◌<◌, ◌⊎◌, List, Result, Ok, Err}
 use Rattle.std.specs.List.{All, slice_index_or}
-use Rattle.vx_values.specs.Values.{Row}
+use Rattle.vx_rows_values.specs.Values.{Row}
 use Rattle.vx_plan_nodes.specs.Plan.{Plan}
 use Rattle.vx_ops.specs.declared.fault.Code.TheVariants.{Overflow, NoMemory, Unsorted, Stranger}
 use Rattle.vx_ops.specs.declared.fault.Fault.{Fault}
 use Rattle.vx_ops.specs.declared.fault.Fault.TheVariants.{Own, Passed}
-use Rattle.vx_ends.specs.Tasks.{keep, keeps}
-use Rattle.vx_operators.specs.Operator.{OperatorStands, operator_op, operator_want, operator_most, operator_idle}
-use Rattle.vx_operators.specs.Destination.{DestinationStands, task_of, post_of, bounds_of, held_in, unclosed_in}
+use Rattle.vx_exchange_ends.specs.Tasks.{keep, keeps}
+use Rattle.vx_exec_operators.specs.Operator.{OperatorStands, operator_op, operator_want, operator_most, operator_idle}
+use Rattle.vx_exec_operators.specs.Destination.{DestinationStands, task_of, post_of, bounds_of, held_in, unclosed_in}
 use Rattle.vx_worker.specs.Fragment.{RunModel}
 use Rattle.vx_worker.specs.Trace.{scan_morsels}
 use Rattle.vx_worker.specs.Worker.{sender_of}
-use Rattle.vx_operators.specs.declared.operator.Operator.{Operator}
-use Rattle.vx_operators.specs.declared.destination.Destination.{Destination}
+use Rattle.vx_exec_operators.specs.declared.operator.Operator.{Operator}
+use Rattle.vx_exec_operators.specs.declared.destination.Destination.{Destination}
 use Rattle.vx_worker.specs.declared.worker.Worker.{Worker}
-use Rattle.vx_steps.specs.Endings.{FailsFirst}
-use Rattle.vx_steps.specs.Following.{Follows, FollowsRounds}
-use Rattle.vx_steps.specs.LinksView.{LinksView}
-use Rattle.vx_steps.specs.Ready.{Ready}
-use Rattle.vx_steps.specs.Verdicts.{Judged}
+use Rattle.vx_exec_steps.specs.Endings.{FailsFirst}
+use Rattle.vx_exec_steps.specs.Following.{Follows, FollowsRounds}
+use Rattle.vx_exec_steps.specs.LinksView.{LinksView}
+use Rattle.vx_exec_steps.specs.Ready.{Ready}
+use Rattle.vx_exec_steps.specs.Verdicts.{Judged}
 use Rattle.vx_plan_nodes.specs.Workers.{crew_size}
-use Rattle.vx_steps.specs.Schedules.{IsBadStep}
-use Rattle.vx_steps.specs.declared.verdict.RunState.{RunState}
-use Rattle.vx_steps.specs.declared.verdict.RunState.TheVariants as run_state
-use Rattle.vx_runs.specs.Promise.{Reports}
+use Rattle.vx_exec_steps.specs.Schedules.{IsBadStep}
+use Rattle.vx_exec_steps.specs.declared.verdict.RunState.{RunState}
+use Rattle.vx_exec_steps.specs.declared.verdict.RunState.TheVariants as run_state
+use Rattle.vx_exec_runs.specs.Promise.{Reports}
 use Rattle.vx_exec.specs.Counts.{AreCountsOf}
-use Rattle.vx_setup.specs.declared.fault.RunFault.{RunFault}
-use Rattle.vx_setup.specs.declared.fault.RunFault.TheVariants as fault
-use Rattle.vx_setup.specs.declared.counts.WorkerCounts.{WorkerCounts}
-use Rattle.vx_runs.specs.declared.outcome.RunOutcome.{RunOutcome}
-use Rattle.vx_runs.specs.declared.outcome.RunOutcome.TheVariants as run_outcome
+use Rattle.vx_exec_setup.specs.declared.fault.RunFault.{RunFault}
+use Rattle.vx_exec_setup.specs.declared.fault.RunFault.TheVariants as fault
+use Rattle.vx_exec_setup.specs.declared.counts.WorkerCounts.{WorkerCounts}
+use Rattle.vx_exec_runs.specs.declared.outcome.RunOutcome.{RunOutcome}
+use Rattle.vx_exec_runs.specs.declared.outcome.RunOutcome.TheVariants as run_outcome
 
 -- how the fault of a worker is reported. A run of an accepted plan never reports one that only came in a packet, since some worker first fails by itself, so any
 -- value will do for that

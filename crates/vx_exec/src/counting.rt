@@ -1,12 +1,12 @@
 //! What the workers of a run counted, read off them.
 
 ghost use Rattle.std.specs.Prelude.{◌≡◌, ◌++◌, IfOk, OnOk, true};
-ghost use Rattle.vx_setup.specs.Counts.{is_wanted, counts_in};
+ghost use Rattle.vx_exec_setup.specs.Counts.{is_wanted, counts_in};
 ghost use Rattle.vx_exec.specs.Counts.{line_of, lines_of, IsCountOf, AreCountsOf};
 
 use std::alloc::{AllocError, Global};
-use vx_operators::{Destination, Operator};
-use vx_setup::{NodeCounts, RunCounts, WorkerCounts};
+use vx_exec_operators::{Destination, Operator};
+use vx_exec_setup::{NodeCounts, RunCounts, WorkerCounts};
 use vx_worker::{Tree, Worker};
 
 // What an operator counted, under its node's number.

@@ -2,7 +2,7 @@
 
 ghost use Rattle.std.specs.Prelude.{◌≡◌, ◌∷◌, ◌++◌, ℕ, true, List, map, IfOk, OnOk};
 ghost use Rattle.std.specs.List.{All};
-ghost use Rattle.vx_values.specs.Values.{Row};
+ghost use Rattle.vx_rows_values.specs.Values.{Row};
 ghost use Rattle.vx_rows.specs.Lists.{each_below};
 ghost use Rattle.vx_plan_nodes.specs.Outline.{outline_of, plan_of, kind_of};
 ghost use Rattle.vx_plan_nodes.specs.Plan.{size};
@@ -11,11 +11,11 @@ ghost use Rattle.vx_plan_nodes.specs.Typed.{is_kind};
 ghost use Rattle.vx_plan_nodes.specs.TypedView.{scope, plan};
 ghost use Rattle.vx_plan_nodes.specs.Types.{types_of};
 ghost use Rattle.vx_check_rules.specs.Checked.{relations};
-ghost use Rattle.vx_operators.specs.Operator.{OperatorStands, operator_op};
-ghost use Rattle.vx_operators.specs.Destination.{DestinationStands, task_of, post_of, bounds_of};
+ghost use Rattle.vx_exec_operators.specs.Operator.{OperatorStands, operator_op};
+ghost use Rattle.vx_exec_operators.specs.Destination.{DestinationStands, task_of, post_of, bounds_of};
 ghost use Rattle.vx_worker.specs.Trace.{scan_morsels};
-ghost use Rattle.vx_steps.specs.Crews.{producer_duty, root_duty, duties_below};
-ghost use Rattle.vx_steps.specs.Ready.{Ready};
+ghost use Rattle.vx_exec_steps.specs.Crews.{producer_duty, root_duty, duties_below};
+ghost use Rattle.vx_exec_steps.specs.Ready.{Ready};
 ghost use Rattle.vx_plan_nodes.specs.Workers.{worker_group_at};
 ghost use Rattle.vx_exec.specs.Job.{model_of};
 ghost use Rattle.vx_exec.specs.Part.{IsPartOf};
@@ -25,9 +25,9 @@ use crate::job::Job;
 use crate::links::{ports_of, sends_of, stations_of};
 use crate::worker::{producer, root_worker};
 use std::alloc::{AllocError, Global};
-use vx_operators::{Destination, Operator};
+use vx_exec_operators::{Destination, Operator};
+use vx_exec_steps::{Links, Ports, Station};
 use vx_plan_nodes::{ExchangeKind, TypedNode};
-use vx_steps::{Links, Ports, Station};
 use vx_worker::Worker;
 
 /// The workers of a job in number order, the root's first, and what connects them.

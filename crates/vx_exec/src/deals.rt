@@ -12,7 +12,7 @@ use crate::job::Job;
 use std::alloc::{AllocError, Global};
 use vx_exchange::{Deal, KeyRoute, Ranges};
 use vx_plan_nodes::{ExchangeKind, Route};
-use vx_values::{ColType, copied_values};
+use vx_rows_values::{ColType, copied_values};
 
 impl Job<'_> {
     // The route of rows of these types by their values in some columns.

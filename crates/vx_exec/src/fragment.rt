@@ -8,7 +8,9 @@ ghost use Rattle.vx_exec.specs.declared.job.Job.{Job};
 
 use crate::job::Job;
 use std::alloc::{AllocError, Global};
-use vx_operators::{Operator, OperatorKind, binary_operator, consumer_operator, unary_operator};
+use vx_exec_operators::{
+    Operator, OperatorKind, binary_operator, consumer_operator, unary_operator,
+};
 use vx_ops::Scan;
 use vx_plan_nodes::{TypedNode, output_types};
 use vx_worker::Tree;

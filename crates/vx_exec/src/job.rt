@@ -10,17 +10,17 @@ ghost use Rattle.vx_plan_nodes.specs.TypedView.{scope, plan as whole_plan};
 ghost use Rattle.vx_check_rules.specs.Checked.{relations};
 ghost use Rattle.vx_worker.specs.Morsels.{morsel_of, morsel_count};
 ghost use Rattle.vx_plan_nodes.specs.Workers.{crew_size, IsWithin, worker_group_at};
-ghost use Rattle.vx_layout.specs.Layout.{spans_of};
-ghost use Rattle.vx_runs.specs.Sizes.{AreWithin};
-ghost use Rattle.vx_values.specs.Limits.{max_group_workers, max_packet_rows, max_rows, max_slack, max_workers};
+ghost use Rattle.vx_exec_layout.specs.Layout.{spans_of};
+ghost use Rattle.vx_exec_runs.specs.Sizes.{AreWithin};
+ghost use Rattle.vx_rows_values.specs.Limits.{max_group_workers, max_packet_rows, max_rows, max_slack, max_workers};
 
 use std::alloc::{AllocError, Global};
-use vx_catalog::{Catalog, Database};
-use vx_layout::{Layout, NodeSpan};
+use vx_catalog::Database;
+use vx_catalog_relations::Catalog;
+use vx_exec_layout::{Layout, NodeSpan};
 use vx_plan_nodes::{Size, TypedPlan};
-use vx_seeds::KeySeed;
-use vx_values::ColType;
-use vx_views::Rows;
+use vx_rows_values::{ColType, KeySeed};
+use vx_rows_views::Rows;
 use vx_worker::Morsels;
 
 /// A plan with a database of its catalog, and the sizes of a run, each within its limits.

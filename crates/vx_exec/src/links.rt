@@ -5,8 +5,8 @@ ghost use Rattle.vx_exec.specs.Links.{morsels_in, station_in, sends_in, queues_i
 
 use crate::job::Job;
 use std::alloc::{AllocError, Global};
-use vx_layout::{NodeSpan, ScanSpan};
-use vx_steps::{Ports, SharedScan, Station, WholeScan};
+use vx_exec_layout::{NodeSpan, ScanSpan};
+use vx_exec_steps::{Ports, SharedScan, Station, WholeScan};
 
 // What the workers of a scan share.
 fn scan_station(alloc: Global, job: &Job<'_>, scan: ScanSpan) -> Result<Station, AllocError>

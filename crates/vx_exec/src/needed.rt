@@ -1,21 +1,21 @@
 //! How many rounds a run needs at most.
 
 ghost use Rattle.std.specs.Prelude.{◌≡◌, ℕ, List, IfOk, IfErr};
-ghost use Rattle.vx_values.specs.Values.{Row};
+ghost use Rattle.vx_rows_values.specs.Values.{Row};
 ghost use Rattle.vx_catalog.specs.Database.{rows_at};
 ghost use Rattle.vx_plan_nodes.specs.TypedView.{resolved_of, plan as whole_plan};
 ghost use Rattle.vx_check_rules.specs.CheckedView.{typed_plan};
 ghost use Rattle.vx_plan_nodes.specs.Workers.{worker_group_at};
-ghost use Rattle.vx_layout.specs.Needed.{capped, rounds_needed as rounds_by_definition, AreSizesOf};
-ghost use Rattle.vx_runs.specs.Runs.{IsSetUp, RunFails};
-ghost use Rattle.vx_runs.specs.Sizes.{Sizes};
+ghost use Rattle.vx_exec_layout.specs.Needed.{capped, rounds_needed as rounds_by_definition, AreSizesOf};
+ghost use Rattle.vx_exec_runs.specs.Runs.{IsSetUp, RunFails};
+ghost use Rattle.vx_exec_runs.specs.Sizes.{Sizes};
 
 use crate::setup::job_of;
 use std::alloc::{AllocError, Global};
 use vx_catalog::Database;
 use vx_check_rules::CheckedPlan;
-use vx_layout::rounds_needed as rounds_of;
-use vx_setup::{RunFault, Setup};
+use vx_exec_layout::rounds_needed as rounds_of;
+use vx_exec_setup::{RunFault, Setup};
 
 // How many rows each relation of a database has, by its number.
 fn row_counts(alloc: Global, database: &Database) -> Result<Vec<u64>, AllocError>

@@ -2,26 +2,26 @@
 
 ghost use Rattle.std.specs.Prelude.{◌≡◌, ◌<◌, ◌≤◌, true, length, List, IfOk};
 ghost use Rattle.std.specs.List.{slice_index_or};
-ghost use Rattle.vx_values.specs.declared.value.ColType.{ColType};
+ghost use Rattle.vx_rows_values.specs.declared.value.ColType.{ColType};
 ghost use Rattle.vx_catalog.specs.Database.{rows_at};
 ghost use Rattle.vx_plan_nodes.specs.TypedView.{plan as whole_plan};
 ghost use Rattle.vx_plan_nodes.specs.Workers.{crew_size, worker_group_at};
-ghost use Rattle.vx_layout.specs.Needed.{rounds_needed};
+ghost use Rattle.vx_exec_layout.specs.Needed.{rounds_needed};
 ghost use Rattle.vx_check_rules.specs.Checked.{is_allowed, is_root_allowed};
 ghost use Rattle.vx_check_rules.specs.CheckedView.{typed_plan};
 ghost use Rattle.vx_ops.specs.declared.fault.Fault.TheVariants.{Passed};
-ghost use Rattle.vx_ends.specs.Tasks.{keep, keeps};
-ghost use Rattle.vx_operators.specs.Destination.{task_of, post_of};
+ghost use Rattle.vx_exchange_ends.specs.Tasks.{keep, keeps};
+ghost use Rattle.vx_exec_operators.specs.Destination.{task_of, post_of};
 ghost use Rattle.vx_worker.specs.Worker.{sender_of};
 ghost use Rattle.vx_worker.specs.declared.worker.Worker.{Worker as AWorker};
-ghost use Rattle.vx_operators.specs.declared.operator.Operator.{Operator as AnOperator};
-ghost use Rattle.vx_operators.specs.declared.destination.Destination.{Destination as ADestination};
+ghost use Rattle.vx_exec_operators.specs.declared.operator.Operator.{Operator as AnOperator};
+ghost use Rattle.vx_exec_operators.specs.declared.destination.Destination.{Destination as ADestination};
 ghost use Rattle.vx_exec.specs.Job.{model_of, sizes_of};
-ghost use Rattle.vx_setup.specs.Counts.{is_wanted, counts_in};
+ghost use Rattle.vx_exec_setup.specs.Counts.{is_wanted, counts_in};
 ghost use Rattle.vx_exec.specs.Runs.{CountedInRounds, fault_reported, ComesTo, IsBadStepOf, NamesFirst, Scheduled, InRounds};
-ghost use Rattle.vx_runs.specs.Promise.{NothingElse};
-ghost use Rattle.vx_runs.specs.Runs.{IsWhole};
-ghost use Rattle.vx_steps.specs.Schedules.{HoldsRounds};
+ghost use Rattle.vx_exec_runs.specs.Promise.{NothingElse};
+ghost use Rattle.vx_exec_runs.specs.Runs.{IsWhole};
+ghost use Rattle.vx_exec_steps.specs.Schedules.{HoldsRounds};
 ghost use Rattle.vx_exec.specs.Promise.{CrewPromise, PromiseOnceSet, WhereSet};
 
 use crate::counting::keep_counts;
@@ -31,13 +31,13 @@ use crate::setup::job_of;
 use std::alloc::Global;
 use vx_catalog::Database;
 use vx_check_rules::CheckedPlan;
-use vx_operators::{Destination, Operator};
+use vx_exec_operators::{Destination, Operator};
+use vx_exec_runs::RunOutcome;
+use vx_exec_setup::{RunCounts, RunFault, Setup};
+use vx_exec_steps::{RunState, judge_rounds, judge_schedule};
 use vx_ops::{Code, Fault};
 use vx_plan_nodes::Router;
-use vx_runs::RunOutcome;
-use vx_setup::{RunCounts, RunFault, Setup};
-use vx_steps::{RunState, judge_rounds, judge_schedule};
-use vx_views::Rows;
+use vx_rows_views::Rows;
 use vx_worker::Worker;
 
 // The rows that the first worker kept.
@@ -137,7 +137,7 @@ fn schedule_job<R: Router>(
 
 /// A run of a plan over a database: at most `limit` rounds, in each of which every worker makes one step, in number order. Once all
 /// workers have ended and some failed, the fault is that of the lowest-numbered one that failed by itself. As many rounds as `rounds_needed` of
-/// `vx_layout` says are enough: with that limit or a higher one the answer is not Unfinished. What each worker counted is in `counts`
+/// `vx_exec_layout` says are enough: with that limit or a higher one the answer is not Unfinished. What each worker counted is in `counts`
 /// afterwards, also where some failed; memory for it is refused only where it is wanted.
 pub fn run_rounds<R: Router>(
     alloc: Global,
@@ -160,7 +160,7 @@ pub fn run_rounds<R: Router>(
 
 /// A run of a plan over a database by a schedule: one step of the worker with each of these numbers, in this order.
 /// The root's worker is 0; then come the producers of each exchange, by place, the exchanges in preorder of their nodes.
-/// A schedule that holds as many rounds as `rounds_needed` of `vx_layout` says, with any steps between, is enough: its answer is not Unfinished.
+/// A schedule that holds as many rounds as `rounds_needed` of `vx_exec_layout` says, with any steps between, is enough: its answer is not Unfinished.
 pub fn run_scheduled<R: Router>(
     alloc: Global,
     plan: &CheckedPlan,

@@ -2,20 +2,20 @@
 
 ghost use Rattle.std.specs.Prelude.{◌≡◌, nat_le, map, string_bytes, IfOk, IfErr};
 ghost use Rattle.vx_plan_nodes.specs.TypedView.{names_in, scope, resolved_of, plan as plan_of_typed};
-ghost use Rattle.vx_runs.specs.Sizes.{Sizes};
+ghost use Rattle.vx_exec_runs.specs.Sizes.{Sizes};
 ghost use Rattle.vx_exec.specs.Job.{sizes_of};
-ghost use Rattle.vx_setup.specs.Setup.{first_missing, first_out_of_range};
-ghost use Rattle.vx_runs.specs.Setup.{tested, no_name, too_many_workers, size_missing, size_out_of_range, refusal_of, sizes_set, Gives};
-ghost use Rattle.vx_runs.specs.Runs.{IsSetUp, RunFails};
-ghost use Rattle.vx_values.specs.Limits.{max_workers};
+ghost use Rattle.vx_exec_setup.specs.Setup.{first_missing, first_out_of_range};
+ghost use Rattle.vx_exec_runs.specs.Setup.{tested, no_name, too_many_workers, size_missing, size_out_of_range, refusal_of, sizes_set, Gives};
+ghost use Rattle.vx_exec_runs.specs.Runs.{IsSetUp, RunFails};
+ghost use Rattle.vx_rows_values.specs.Limits.{max_workers};
 
 use crate::job::Job;
 use std::alloc::{AllocError, Global};
 use vx_catalog::Database;
-use vx_layout::Layout;
+use vx_exec_layout::Layout;
+use vx_exec_setup::{RunFault, Setup, is_within};
 use vx_plan_nodes::TypedPlan;
-use vx_setup::{RunFault, Setup, is_within};
-use vx_values::limits::{MAX_MORSEL_ROWS, MAX_PACKET_ROWS, MAX_SLACK, MAX_WORKERS};
+use vx_rows_values::limits::{MAX_MORSEL_ROWS, MAX_PACKET_ROWS, MAX_SLACK, MAX_WORKERS};
 
 // This fault, if a test failed.
 fn fail_unless(is_right: bool, fault: RunFault) -> Result<(), RunFault>
@@ -56,7 +56,7 @@ fn test_workers(number: u32) -> Result<(), RunFault>
 }
 
 // The job of a plan over a database of its catalog, or the first refusal of its setup.
-#[tactic(auto, unfolding(vx_runs::specs::Setup::sizes_set))]
+#[tactic(auto, unfolding(vx_exec_runs::specs::Setup::sizes_set))]
 fn job_in<'j>(
     alloc: Global,
     plan: &'j TypedPlan,

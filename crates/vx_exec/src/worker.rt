@@ -2,7 +2,7 @@
 
 ghost use Rattle.std.specs.Prelude.{◌≡◌, ◌++◌, ℕ, true, List, map, IfOk, OnOk};
 ghost use Rattle.std.specs.List.{All};
-ghost use Rattle.vx_values.specs.Values.{Row};
+ghost use Rattle.vx_rows_values.specs.Values.{Row};
 ghost use Rattle.vx_rows.specs.Lists.{each_below};
 ghost use Rattle.vx_plan_nodes.specs.Outline.{outline_of, plan_of, kind_of};
 ghost use Rattle.vx_plan_nodes.specs.Outputs.{HasOutputs};
@@ -10,14 +10,14 @@ ghost use Rattle.vx_plan_nodes.specs.Typed.{is_kind};
 ghost use Rattle.vx_plan_nodes.specs.TypedView.{scope};
 ghost use Rattle.vx_plan_nodes.specs.Types.{types_of};
 ghost use Rattle.vx_ports.specs.Packets.{fault};
-ghost use Rattle.vx_ends.specs.Ship.{Ship, packet_of};
-ghost use Rattle.vx_ends.specs.Tasks.{sends_by_ship, post_types};
-ghost use Rattle.vx_operators.specs.Destination.{post_of};
+ghost use Rattle.vx_exchange_ends.specs.Ship.{Ship, packet_of};
+ghost use Rattle.vx_exchange_ends.specs.Tasks.{sends_by_ship, post_types};
+ghost use Rattle.vx_exec_operators.specs.Destination.{post_of};
 ghost use Rattle.vx_worker.specs.Fragment.{fragment};
 ghost use Rattle.vx_worker.specs.Intake.{source_of, IsFresh};
 ghost use Rattle.vx_worker.specs.Worker.{inputs_of as sources_of, closing_of};
-ghost use Rattle.vx_laws.specs.RunOf.{ship_of};
-ghost use Rattle.vx_steps.specs.Crews.{producer_duty, root_duty};
+ghost use Rattle.vx_exec_laws.specs.RunOf.{ship_of};
+ghost use Rattle.vx_exec_steps.specs.Crews.{producer_duty, root_duty};
 ghost use Rattle.vx_check_rules.specs.Checked.{relations};
 ghost use Rattle.vx_plan_nodes.specs.Workers.{worker_group_at};
 ghost use Rattle.vx_exec.specs.Job.{model_of};
@@ -29,11 +29,11 @@ use crate::fragment::tree_of;
 use crate::job::Job;
 use std::alloc::{AllocError, Global};
 use vx_exchange::{Collector, Sender};
-use vx_operators::{Destination, Operator};
+use vx_exec_operators::{Destination, Operator};
 use vx_plan_nodes::{ExchangeKind, TypedNode, output_types};
 use vx_ports::{Packet, StreamEnd};
-use vx_values::ColType;
-use vx_views::Rows;
+use vx_rows_values::ColType;
+use vx_rows_views::Rows;
 use vx_worker::{ExchangeInput, Worker};
 
 // Adds an input for each of the `count` producers of `exchange`.

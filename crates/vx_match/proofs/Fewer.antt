@@ -4,10 +4,10 @@ use Rattle.std.proofs.lemmas.List.{map-append, length-map, length-append}
 use Rattle.std.proofs.lemmas.List.Sums.{sum_by-le}
 use Rattle.std.proofs.lemmas.List.Concat.{length-flat_map}
 use Rattle.std.specs.List.{list_all}
-use Rattle.vx_values.specs.Values.{Row, pick}
+use Rattle.vx_rows_values.specs.Values.{Row, pick}
 use Rattle.vx_plan_nodes.specs.Plan.{Aggregate}
 use Rattle.vx_plan_nodes.specs.Serial.{matches, joined_with, join_rows, firsts, group_keys, group_row, group_fits, group_rows}
-use Rattle.vx_keys.proofs.NumberFacts.{firsts-all, all-long}
+use Rattle.vx_match_keys.proofs.NumberFacts.{firsts-all, all-long}
 use Rattle.vx_ops.proofs.Fewer.{filter-long}
 
 -- a left row makes at most one with each right row

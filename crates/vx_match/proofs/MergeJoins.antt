@@ -1,17 +1,17 @@
 -- Turns of a merge join.
 use Rattle.std.proofs.Common.{◌≡◌, ℕ, ◌⊎◌, Bool, true, false, List, [], ◌∷◌, ◌++◌, length, map, flat_map, drop, refl, sym, ap, ◌∙◌, subst, inl, inr, append_assoc, append-nil, arith}
-use Rattle.vx_values.specs.Values.{Row}
-use Rattle.vx_values.specs.Order.{sorted}
+use Rattle.vx_rows_values.specs.Values.{Row}
+use Rattle.vx_rows_values.specs.Order.{sorted}
 use Rattle.vx_rows.specs.Lists.{IsBeginning}
 use Rattle.vx_ports.specs.Packets.{rows_of}
 use Rattle.vx_plan_nodes.specs.Plan.{join}
 use Rattle.vx_plan_nodes.specs.Serial.{join_rows}
-use Rattle.vx_keys.specs.Matched.{matched}
-use Rattle.vx_merging.specs.Merged.{MergeView, HasJoined, HasSameShape, HasSameInputs, MergeBlame, joined_rows, merge_need}
-use Rattle.vx_merging.specs.declared.merging.MergeFault.{MergeFault}
-use Rattle.vx_merging.specs.declared.merging.MergeFault.TheVariants.{Falls, NoMemory as Refused}
-use Rattle.vx_merging.specs.declared.merging.MergeNeed.TheVariants as need
-use Rattle.vx_merging.proofs.MergeTurns.{joined-some, joined-front, joined-all, need-end}
+use Rattle.vx_match_keys.specs.Matched.{matched}
+use Rattle.vx_match_merging.specs.Merged.{MergeView, HasJoined, HasSameShape, HasSameInputs, MergeBlame, joined_rows, merge_need}
+use Rattle.vx_match_merging.specs.declared.merging.MergeFault.{MergeFault}
+use Rattle.vx_match_merging.specs.declared.merging.MergeFault.TheVariants.{Falls, NoMemory as Refused}
+use Rattle.vx_match_merging.specs.declared.merging.MergeNeed.TheVariants as need
+use Rattle.vx_match_merging.proofs.MergeTurns.{joined-some, joined-front, joined-all, need-end}
 use Rattle.vx_ops.specs.Ledger.{Ledger, two_op, Begun, OwnBlame}
 use Rattle.vx_ops.specs.Begun.{all_of, begun_whole}
 use Rattle.vx_ops.specs.Turn.{fresh_ledger}

@@ -2,12 +2,12 @@
 use Rattle.std.proofs.Common.{◌≡◌, ℕ, ◌+◌, ◌*◌, ◌<◌, ◌≤◌, true, false, length, nat_lt, refl, ap, ◌∙◌, subst, arith}
 use Rattle.std.proofs.lemmas.Bool.Decides.{nat_tests}
 use Rattle.std.proofs.lemmas.Nat.{mul-le}
-use Rattle.vx_merging.specs.Merged.{MergeView, HasSameInputs, merge_need}
-use Rattle.vx_merging.specs.AtHand.{lefts_at_hand, rights_at_hand, rows_at_hand, pairs_at_hand}
-use Rattle.vx_merging.specs.declared.merging.MergeNeed.{MergeNeed}
-use Rattle.vx_merging.specs.declared.merging.MergeNeed.TheVariants as need
-use Rattle.vx_merging.proofs.MergeTurns.{need-left, need-right, need-end}
-use Rattle.vx_merging.proofs.GoesOn.{same-lefts, same-rights}
+use Rattle.vx_match_merging.specs.Merged.{MergeView, HasSameInputs, merge_need}
+use Rattle.vx_match_merging.specs.AtHand.{lefts_at_hand, rights_at_hand, rows_at_hand, pairs_at_hand}
+use Rattle.vx_match_merging.specs.declared.merging.MergeNeed.{MergeNeed}
+use Rattle.vx_match_merging.specs.declared.merging.MergeNeed.TheVariants as need
+use Rattle.vx_match_merging.proofs.MergeTurns.{need-left, need-right, need-end}
+use Rattle.vx_match_merging.proofs.GoesOn.{same-lefts, same-rights}
 use Rattle.vx_ops.specs.Turn.{Coming, Pays}
 use Rattle.vx_ops.specs.declared.turn.Polled.{Polled}
 use Rattle.vx_ops.specs.declared.turn.Polled.TheVariants as polled

@@ -1,10 +1,10 @@
 -- What a merge join to which nothing came has to do at most.
 use Rattle.std.proofs.Common.{◌≡◌, ℕ, true, false, List, [], ◌++◌, length, ap, arith}
 use Rattle.std.proofs.lemmas.List.{length-append}
-use Rattle.vx_values.specs.Values.{Row}
+use Rattle.vx_rows_values.specs.Values.{Row}
 use Rattle.vx_plan_nodes.specs.Plan.{join}
-use Rattle.vx_merging.specs.Merged.{MergeView, HasJoined}
-use Rattle.vx_merging.specs.AtHand.{lefts_at_hand}
+use Rattle.vx_match_merging.specs.Merged.{MergeView, HasJoined}
+use Rattle.vx_match_merging.specs.AtHand.{lefts_at_hand}
 use Rattle.vx_ops.specs.Ledger.{two_op}
 use Rattle.vx_ops.specs.Starts.{StartsWithin}
 use Rattle.vx_match.specs.MergeJoin.{may_join, may_idle}

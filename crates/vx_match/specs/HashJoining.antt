@@ -1,10 +1,10 @@
 -- What a caller sees of the kernel of a hash join, and what it has read and built.
 use Rattle.std.specs.Prelude.{◌≡◌, ℕ, ◌+◌, false, List, ◌++◌, length, map}
-use Rattle.vx_values.specs.declared.value.ColType.{ColType}
-use Rattle.vx_values.specs.Values.{Row}
+use Rattle.vx_rows_values.specs.declared.value.ColType.{ColType}
+use Rattle.vx_rows_values.specs.Values.{Row}
 use Rattle.vx_rows.specs.View.{AreColumns}
 use Rattle.vx_plan_nodes.specs.Plan.{Binary, join}
-use Rattle.vx_join.specs.Build.{Built}
+use Rattle.vx_match_join.specs.Build.{Built}
 use Rattle.vx_ops.specs.Turn.{Shape}
 
 -- the pairs of columns, the types of both inputs, the right rows that it has read, and those of its build side

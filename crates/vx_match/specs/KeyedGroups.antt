@@ -1,9 +1,9 @@
 -- What a caller sees of the kernel of a group, and what it has read.
 use Rattle.std.specs.Prelude.{ℕ, ◌<◌, List, length, Option, Some, None}
-use Rattle.vx_values.specs.Values.{Row}
+use Rattle.vx_rows_values.specs.Values.{Row}
 use Rattle.vx_plan_nodes.specs.Plan.{Unary, Phase, group}
 use Rattle.vx_plan_nodes.specs.Types.{unary_types}
-use Rattle.vx_grouping.specs.Groups.{Groups, HasTaken}
+use Rattle.vx_match_grouping.specs.Groups.{Groups, HasTaken}
 use Rattle.vx_ops.specs.Turn.{Shape}
 use Rattle.vx_ops.specs.declared.collecting_kernel.FinishFault.{FinishFault}
 use Rattle.vx_ops.specs.declared.collecting_kernel.FinishFault.TheVariants.{Overflow, NoMemory}

@@ -2,12 +2,12 @@
 use Rattle.std.specs.Prelude.{◌≡◌, ◌≤◌, ℕ, ◌+◌, ◌*◌, Bool, true, false, List, ◌++◌, length, map}
 use Rattle.std.proofs.Common.{le_refl, add-le-add, mul-le-mul}
 use Rattle.vx_plan_nodes.specs.Plan.{join}
-use Rattle.vx_merging.specs.Merged.{MergeView, HasJoined, merge_need}
-use Rattle.vx_merging.specs.AtHand.{lefts_at_hand, rows_at_hand}
-use Rattle.vx_merging.specs.declared.merging.MergeFault.{MergeFault}
-use Rattle.vx_merging.specs.declared.merging.MergeFault.TheVariants as stops
-use Rattle.vx_merging.specs.declared.merging.MergeNeed.{MergeNeed}
-use Rattle.vx_merging.specs.declared.merging.MergeNeed.TheVariants as need
+use Rattle.vx_match_merging.specs.Merged.{MergeView, HasJoined, merge_need}
+use Rattle.vx_match_merging.specs.AtHand.{lefts_at_hand, rows_at_hand}
+use Rattle.vx_match_merging.specs.declared.merging.MergeFault.{MergeFault}
+use Rattle.vx_match_merging.specs.declared.merging.MergeFault.TheVariants as stops
+use Rattle.vx_match_merging.specs.declared.merging.MergeNeed.{MergeNeed}
+use Rattle.vx_match_merging.specs.declared.merging.MergeNeed.TheVariants as need
 use Rattle.vx_ops.specs.Ledger.{Ledger, Op, two_op, Abides}
 use Rattle.vx_ops.specs.Turn.{Shape, Coming, IsWithin, if_running}
 use Rattle.vx_ops.specs.Growing.{running-grows}

@@ -2,11 +2,10 @@
 
 use std::alloc::{AllocError, Global};
 use std::marker::Model;
-use vx_keys::Seen;
+use vx_match_keys::Seen;
 use vx_ops::{StepKernel, Stepping};
-use vx_seeds::KeySeed;
-use vx_values::ColType;
-use vx_views::Rows;
+use vx_rows_values::{ColType, KeySeed};
+use vx_rows_views::Rows;
 
 /// Calls: `FirstRows::source (wants turn)*`.
 ///
@@ -46,7 +45,7 @@ impl Model for FirstRows {
 
 impl FirstRows {
     ghost use Rattle.std.specs.Prelude.{◌≡◌, length, map, IfOk};
-    ghost use Rattle.vx_values.specs.Types.{type_at};
+    ghost use Rattle.vx_rows_values.specs.Types.{type_at};
     ghost use Rattle.vx_rows.specs.View.{AreColumns};
     ghost use Rattle.vx_plan_nodes.specs.Plan.{distinct};
     ghost use Rattle.vx_ops.specs.Ledger.{one_op};

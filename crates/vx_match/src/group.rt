@@ -2,12 +2,11 @@
 
 use std::alloc::{AllocError, Global};
 use std::marker::Model;
-use vx_grouping::{GroupFault, Grouping};
+use vx_match_grouping::{GroupFault, Grouping};
 use vx_ops::{Collecting, CollectingKernel, FinishFault};
 use vx_plan_nodes::{Aggregate, Phase};
-use vx_seeds::KeySeed;
-use vx_values::ColType;
-use vx_views::Rows;
+use vx_rows_values::{ColType, KeySeed};
+use vx_rows_views::Rows;
 
 /// Calls: `KeyedGroups::source (wants turn)*`.
 ///
@@ -37,7 +36,7 @@ impl Drop for KeyedGroups {
 impl Model for KeyedGroups {
     ghost use Rattle.std.specs.Prelude.{◌≡◌, None};
     ghost use Rattle.vx_plan_nodes.specs.Outline.{phase_of};
-    ghost use Rattle.vx_grouping.specs.Groups.{HasTakenSome};
+    ghost use Rattle.vx_match_grouping.specs.Groups.{HasTakenSome};
     ghost use Rattle.vx_match.specs.KeyedGroups.{KeyedGroupsView};
 
     ghost Value = { KeyedGroupsView };

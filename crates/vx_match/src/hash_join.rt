@@ -4,12 +4,11 @@ ghost use Rattle.std.specs.Prelude.{◌≡◌, ℕ, length, map, IfOk};
 
 use std::alloc::{AllocError, Global};
 use std::marker::Model;
-use vx_algebra::{left_columns, right_columns};
-use vx_join::Build;
+use vx_match_join::Build;
 use vx_ops::{ProbeKernel, Probing};
-use vx_seeds::KeySeed;
-use vx_values::ColType;
-use vx_views::Rows;
+use vx_ops_kernels::{left_columns, right_columns};
+use vx_rows_values::{ColType, KeySeed};
+use vx_rows_views::Rows;
 
 // As many joined rows make a batch.
 const BATCH: usize = 65_536;

@@ -4,11 +4,11 @@ ghost use Rattle.std.specs.Prelude.{◌≡◌};
 ghost use Rattle.vx_match.specs.MergeJoin.{fault_of};
 
 use std::alloc::{AllocError, Global};
-use vx_algebra::{left_columns, right_columns};
-use vx_merging::{MergeFault, MergeNeed, MergeRows};
+use vx_match_merging::{MergeFault, MergeNeed, MergeRows};
 use vx_ops::{Code, Fault, Got, Polled, Source, StreamState, Want};
-use vx_values::ColType;
-use vx_views::Rows;
+use vx_ops_kernels::{left_columns, right_columns};
+use vx_rows_values::ColType;
+use vx_rows_views::Rows;
 
 // A batch of joined rows is cut once it has `MOST` rows.
 const MOST: usize = 65_536;
@@ -42,8 +42,8 @@ impl MergeJoin {
     ghost use Rattle.std.specs.Prelude.{◌≡◌, ◌++◌, length, map, true, IfOk};
     ghost use Rattle.vx_rows.specs.View.{AreColumns};
     ghost use Rattle.vx_plan_nodes.specs.Plan.{join};
-    ghost use Rattle.vx_merging.specs.Merged.{merge_need};
-    ghost use Rattle.vx_merging.specs.declared.merging.MergeNeed.TheVariants as need;
+    ghost use Rattle.vx_match_merging.specs.Merged.{merge_need};
+    ghost use Rattle.vx_match_merging.specs.declared.merging.MergeNeed.TheVariants as need;
     ghost use Rattle.vx_ops.specs.Ledger.{Ledger, two_op};
     ghost use Rattle.vx_ops.specs.Turn.{fresh_ledger, after, gives, GivesRows, GotTyped, Fits, Coming, with_rows, own_turn, Pays};
     ghost use Rattle.vx_ops.specs.declared.fault.StreamState.TheVariants.{Running};

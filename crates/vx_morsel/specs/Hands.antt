@@ -1,6 +1,6 @@
 -- Hands and decks that deal out numbers below a bound to one drawer after the other, without threads.
 use Rattle.std.specs.Prelude.{ℕ, ◌≡◌, ◌<◌, ◌≤◌, ◌+◌, Option, Some, None}
-use Rattle.vx_values.specs.Limits.{max_group_workers, max_rows}
+use Rattle.vx_rows_values.specs.Limits.{max_group_workers, max_rows}
 
 -- a hand deals place, place + size, and so on, below `morsels`; `next` is the next one
 pub record HandState : Type 0 where

@@ -1,6 +1,6 @@
 //! One deck for all workers of a scan, drawn from in turn.
 
-ghost use Rattle.vx_values.specs.Limits.{max_rows};
+ghost use Rattle.vx_rows_values.specs.Limits.{max_rows};
 
 use crate::draw::Draw;
 use std::marker::Model;

@@ -1,6 +1,6 @@
 //! Strided numbers for one worker.
 
-ghost use Rattle.vx_values.specs.Limits.{max_group_workers, max_rows};
+ghost use Rattle.vx_rows_values.specs.Limits.{max_group_workers, max_rows};
 
 use crate::draw::Draw;
 use std::marker::Model;

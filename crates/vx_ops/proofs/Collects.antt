@@ -1,6 +1,6 @@
 -- Turns of an operator that reads all of its input before it returns a row.
 use Rattle.std.proofs.Common.{◌≡◌, ℕ, List, [], ◌++◌, Some, refl, sym, ap, ◌∙◌, subst, inl, inr, Bool, true, false}
-use Rattle.vx_values.specs.Values.{Row}
+use Rattle.vx_rows_values.specs.Values.{Row}
 use Rattle.vx_plan_nodes.specs.Plan.{Unary, select, project, distinct, sort, group}
 use Rattle.vx_plan_nodes.specs.Serial.{unary_rows}
 use Rattle.vx_ops.specs.Ledger.{Ledger, one_op, Begun, OwnBlame}

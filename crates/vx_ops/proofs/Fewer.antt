@@ -2,8 +2,8 @@
 use Rattle.std.proofs.Common.{◌≡◌, ℕ, ◌+◌, ◌≤◌, Bool, true, false, cond, List, [], ◌∷◌, length, filter, refl, ap, arith}
 use Rattle.std.proofs.lemmas.List.Sums.{length-filter, count_by-le-length}
 use Rattle.std.specs.Ordering.{is_le}
-use Rattle.vx_values.specs.Values.{Row}
-use Rattle.vx_values.specs.Order.{compare_on, insert_sorted, sort_on}
+use Rattle.vx_rows_values.specs.Values.{Row}
+use Rattle.vx_rows_values.specs.Order.{compare_on, insert_sorted, sort_on}
 
 -- those that pass are no more
 pub filter-long : {X : Type 0} (p : X → Bool) (xs : List X) → length (filter p xs) ≤ length xs

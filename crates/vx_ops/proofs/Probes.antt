@@ -1,6 +1,6 @@
 -- Turns of an operator that builds a table of its right input before it reads its left one.
 use Rattle.std.proofs.Common.{◌≡◌, ℕ, List, [], ◌++◌, Option, Some, None, refl, sym, ap, ◌∙◌, subst, inl, inr, Bool, true, false, append-nil, append_assoc}
-use Rattle.vx_values.specs.Values.{Row}
+use Rattle.vx_rows_values.specs.Values.{Row}
 use Rattle.vx_rows.specs.View.{RowsView}
 use Rattle.vx_ports.specs.Packets.{rows_of}
 use Rattle.vx_plan_nodes.specs.Plan.{Binary}

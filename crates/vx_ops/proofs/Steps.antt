@@ -1,6 +1,6 @@
 -- Turns of an operator that answers each batch as it comes.
 use Rattle.std.proofs.Common.{◌≡◌, ℕ, List, ◌++◌, Some, refl, sym, ◌∙◌, inl, inr}
-use Rattle.vx_values.specs.Values.{Row}
+use Rattle.vx_rows_values.specs.Values.{Row}
 use Rattle.vx_plan_nodes.specs.Plan.{Unary}
 use Rattle.vx_plan_nodes.specs.Serial.{unary_rows}
 use Rattle.vx_ops.specs.Ledger.{Ledger, one_op}

@@ -1,6 +1,6 @@
 -- What the proofs of the turns of both machines rest on.
 use Rattle.std.proofs.Common.{◌≡◌, ℕ, List, ◌++◌, subst}
-use Rattle.vx_values.specs.Values.{Row}
+use Rattle.vx_rows_values.specs.Values.{Row}
 use Rattle.vx_plan_nodes.specs.Plan.{Unary}
 use Rattle.vx_ops.specs.Ledger.{Ledger, one_op, OwnBlame}
 use Rattle.vx_ops.specs.declared.fault.Code.TheVariants.{NoMemory}

@@ -1,6 +1,6 @@
 -- Turns of a union.
 use Rattle.std.proofs.Common.{◌≡◌, ◌⊎◌, ℕ, List, [], ◌++◌, refl, sym, ap, ◌∙◌, inl, inr, Bool, true, false, append-nil, append_assoc}
-use Rattle.vx_values.specs.Values.{Row}
+use Rattle.vx_rows_values.specs.Values.{Row}
 use Rattle.vx_rows.specs.View.{RowsView}
 use Rattle.vx_plan_nodes.specs.Plan.{union}
 use Rattle.vx_ops.specs.Ledger.{Ledger, two_op, InputFault}

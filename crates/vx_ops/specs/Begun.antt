@@ -1,6 +1,6 @@
 -- What is known of a source from simpler facts.
 use Rattle.std.proofs.Common.{◌≡◌, List, [], ◌++◌, append-nil}
-use Rattle.vx_values.specs.Values.{Row}
+use Rattle.vx_rows_values.specs.Values.{Row}
 use Rattle.vx_ports.specs.Packets.{rows_of}
 use Rattle.vx_ops.specs.Ledger.{Ledger, Op, Makes, Begins, Begun}
 use Rattle.vx_rows.specs.Lists.{IsBeginning}

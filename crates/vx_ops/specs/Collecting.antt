@@ -1,7 +1,7 @@
 -- When an operator that reads all of its input first may have received and returned what a ledger says.
 use Rattle.std.specs.Prelude.{ℕ, ◌≡◌, ◌≤◌, ◌+◌, Bool, true, false, List, [], Some}
 use Rattle.std.proofs.Common.{le_refl, add-le-add}
-use Rattle.vx_values.specs.Values.{Row}
+use Rattle.vx_rows_values.specs.Values.{Row}
 use Rattle.vx_plan_nodes.specs.Plan.{Unary}
 use Rattle.vx_plan_nodes.specs.Serial.{unary_rows}
 use Rattle.vx_ops.specs.Ledger.{Ledger, Op, one_op, Abides}

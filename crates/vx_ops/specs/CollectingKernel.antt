@@ -1,6 +1,6 @@
 -- Why a kernel that reads all of its input first makes nothing of it.
 use Rattle.std.specs.Prelude.{◌≡◌, ◌<◌, ◌⊎◌, List, length, None}
-use Rattle.vx_values.specs.Values.{Row}
+use Rattle.vx_rows_values.specs.Values.{Row}
 use Rattle.vx_plan_nodes.specs.Plan.{Unary, group}
 use Rattle.vx_plan_nodes.specs.Serial.{group_rows}
 use Rattle.vx_ops.specs.declared.collecting_kernel.FinishFault.{FinishFault}

@@ -1,8 +1,8 @@
 -- What one source received and returned so far, and what is known of a source at any moment (Volcano's iterators).
 use Rattle.std.specs.Prelude.{ℕ, ◌≡◌, ◌<◌, ◌⊎◌, true, false, List, [], ◌∷◌, ◌++◌, length, map, Some, None, Bool}
-use Rattle.vx_values.specs.Values.{Row}
-use Rattle.vx_values.specs.Order.{sorted}
-use Rattle.vx_values.specs.declared.value.ColType.{ColType}
+use Rattle.vx_rows_values.specs.Values.{Row}
+use Rattle.vx_rows_values.specs.Order.{sorted}
+use Rattle.vx_rows_values.specs.declared.value.ColType.{ColType}
 use Rattle.vx_plan_nodes.specs.Plan.{Unary, group, Binary, join}
 use Rattle.vx_plan_nodes.specs.Serial.{unary_rows, binary_rows, group_rows}
 use Rattle.vx_plan_nodes.specs.Streams.{Dealt, joined}

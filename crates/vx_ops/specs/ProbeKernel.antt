@@ -1,6 +1,6 @@
 -- What a kernel makes of the first rows of a batch of its left input.
 use Rattle.std.specs.Prelude.{◌≡◌, List, ◌++◌}
-use Rattle.vx_values.specs.Values.{Row}
+use Rattle.vx_rows_values.specs.Values.{Row}
 use Rattle.vx_plan_nodes.specs.Plan.{Binary}
 use Rattle.vx_plan_nodes.specs.Serial.{binary_rows}
 

@@ -1,8 +1,8 @@
 -- When an operator that builds a table of its right input before it reads its left one may have received and returned what a ledger says.
 use Rattle.std.specs.Prelude.{ℕ, ◌≡◌, ◌<◌, ◌≤◌, ◌+◌, ◌*◌, Bool, true, false, List, [], length, Option, Some, None}
 use Rattle.std.proofs.Common.{le_refl, add-le-add, mul-le-mul}
-use Rattle.vx_values.specs.declared.value.ColType.{ColType}
-use Rattle.vx_values.specs.Values.{Row}
+use Rattle.vx_rows_values.specs.declared.value.ColType.{ColType}
+use Rattle.vx_rows_values.specs.Values.{Row}
 use Rattle.vx_rows.specs.View.{RowsView}
 use Rattle.vx_plan_nodes.specs.Plan.{Binary}
 use Rattle.vx_ops.specs.Ledger.{Ledger, Op, two_op, Abides}

@@ -1,8 +1,8 @@
 -- What a caller sees of the kernel of a projection, and what it makes.
 use Rattle.std.specs.Prelude.{◌≡◌, ℕ, List, map}
-use Rattle.vx_values.specs.declared.value.ColType.{ColType}
-use Rattle.vx_values.specs.Values.{Row, pick}
-use Rattle.vx_values.specs.Types.{type_at}
+use Rattle.vx_rows_values.specs.declared.value.ColType.{ColType}
+use Rattle.vx_rows_values.specs.Values.{Row, pick}
+use Rattle.vx_rows_values.specs.Types.{type_at}
 use Rattle.vx_plan_nodes.specs.Plan.{Unary, project}
 use Rattle.vx_ops.specs.Turn.{Shape}
 

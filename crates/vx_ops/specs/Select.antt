@@ -1,6 +1,6 @@
 -- What the kernel of a selection makes, and when a selection may have received and returned what a ledger says.
 use Rattle.std.specs.Prelude.{◌≡◌, List, filter}
-use Rattle.vx_values.specs.Values.{Row}
+use Rattle.vx_rows_values.specs.Values.{Row}
 use Rattle.vx_plan_nodes.specs.Plan.{Unary, select}
 use Rattle.vx_plan_nodes.specs.Serial.{passes}
 use Rattle.vx_plan_nodes.specs.Conditions.{conditions_of}

@@ -1,6 +1,6 @@
 -- What a caller sees of the kernel of a sort, and what it has read.
 use Rattle.std.specs.Prelude.{◌≡◌, ℕ, List, length}
-use Rattle.vx_values.specs.Values.{Row}
+use Rattle.vx_rows_values.specs.Values.{Row}
 use Rattle.vx_rows.specs.View.{RowsView}
 use Rattle.vx_plan_nodes.specs.Plan.{Unary, sort}
 use Rattle.vx_ops.specs.Turn.{Shape}

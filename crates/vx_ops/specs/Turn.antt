@@ -1,6 +1,6 @@
 -- One turn of a source: what it gets fits what it wants, what its ledger is afterwards, and what the turn costs of what is left to the source.
 use Rattle.std.specs.Prelude.{ℕ, zero, suc, ◌≡◌, ◌<◌, ◌≤◌, ◌+◌, ◌==◌, false, List, [], ◌∷◌, ◌++◌, length, Option, Some, None, cond}
-use Rattle.vx_values.specs.declared.value.ColType.{ColType}
+use Rattle.vx_rows_values.specs.declared.value.ColType.{ColType}
 use Rattle.vx_ports.specs.Packets.{PacketView, content_rows, is_closed}
 use Rattle.vx_ops.specs.Ledger.{Stream, Ledger, fresh, Op, scan_op, one_op, two_op, receive}
 use Rattle.vx_ops.specs.declared.fault.StreamState.{StreamState}

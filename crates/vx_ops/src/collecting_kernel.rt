@@ -1,7 +1,7 @@
 //! Kernels that read all of their input before they make any row.
 
 use std::alloc::AllocError;
-use vx_views::Rows;
+use vx_rows_views::Rows;
 
 /// Why a kernel makes nothing of its whole input.
 #[derive(Clone, Copy)]
@@ -17,7 +17,7 @@ pub enum FinishFault {
 /// What an operator of one input computes of its whole input: `Collecting` makes a source of it.
 pub trait CollectingKernel: Drop {
     ghost use Rattle.std.specs.Prelude.{◌≡◌, ◌≤◌, ◌+◌, ◌++◌, ℕ, List, [], length, Some, IfOk, OnOk, IfErr};
-    ghost use Rattle.vx_values.specs.Values.{Row};
+    ghost use Rattle.vx_rows_values.specs.Values.{Row};
     ghost use Rattle.vx_plan_nodes.specs.Plan.{Unary};
     ghost use Rattle.vx_plan_nodes.specs.Serial.{unary_rows};
     ghost use Rattle.vx_ops.specs.Turn.{Shape};

@@ -1,7 +1,7 @@
 //! Kernels that join the rows of their left input with a build side, which is all of their right input.
 
 use std::alloc::AllocError;
-use vx_views::Rows;
+use vx_rows_views::Rows;
 
 /// Calls: `build* finish_build probe*`, and none after an `Err`.
 ///
@@ -9,7 +9,7 @@ use vx_views::Rows;
 /// hash join): `Probing` makes a source of it.
 pub trait ProbeKernel: Drop {
     ghost use Rattle.std.specs.Prelude.{◌≡◌, ◌<◌, ◌≤◌, ◌+◌, ◌*◌, ◌++◌, ℕ, List, [], length, IfOk, OnOk};
-    ghost use Rattle.vx_values.specs.Values.{Row};
+    ghost use Rattle.vx_rows_values.specs.Values.{Row};
     ghost use Rattle.vx_plan_nodes.specs.Plan.{Binary};
     ghost use Rattle.vx_plan_nodes.specs.Serial.{binary_rows};
     ghost use Rattle.vx_ops.specs.Turn.{Shape};

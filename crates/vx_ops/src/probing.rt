@@ -16,7 +16,7 @@ use crate::probe_kernel::ProbeKernel;
 use crate::source::Source;
 use crate::turn::{Got, Polled, Want};
 use std::marker::Model;
-use vx_views::Rows;
+use vx_rows_views::Rows;
 
 /// Calls: `with_kernel (wants turn)*`.
 ///

@@ -4,8 +4,8 @@ use crate::step_kernel::StepKernel;
 use crate::stepping::Stepping;
 use std::alloc::{AllocError, Global};
 use std::marker::Model;
-use vx_values::ColType;
-use vx_views::Rows;
+use vx_rows_values::ColType;
+use vx_rows_views::Rows;
 
 /// Calls: `new (wants turn)*`.
 ///
@@ -43,7 +43,7 @@ impl Model for Projection {
 
 impl Stepping<Projection> {
     ghost use Rattle.std.specs.Prelude.{◌≡◌, length, map, IfOk};
-    ghost use Rattle.vx_values.specs.Types.{type_at};
+    ghost use Rattle.vx_rows_values.specs.Types.{type_at};
     ghost use Rattle.vx_rows.specs.View.{AreColumns};
     ghost use Rattle.vx_plan_nodes.specs.Plan.{project};
     ghost use Rattle.vx_ops.specs.Ledger.{one_op};

@@ -3,10 +3,10 @@
 use crate::step_kernel::StepKernel;
 use crate::stepping::Stepping;
 use std::alloc::{AllocError, Global};
-use vx_algebra::chosen;
+use vx_ops_kernels::chosen;
 use vx_plan_nodes::Condition;
-use vx_values::ColType;
-use vx_views::Rows;
+use vx_rows_values::ColType;
+use vx_rows_views::Rows;
 
 /// Calls: `new (wants turn)*`.
 ///

@@ -4,9 +4,9 @@ use crate::collecting::Collecting;
 use crate::collecting_kernel::{CollectingKernel, FinishFault};
 use std::alloc::{AllocError, Global};
 use std::marker::Model;
-use vx_algebra::sorted_chunks;
-use vx_values::ColType;
-use vx_views::Rows;
+use vx_ops_kernels::sorted_chunks;
+use vx_rows_values::ColType;
+use vx_rows_views::Rows;
 
 /// Calls: `new (wants turn)*`.
 ///

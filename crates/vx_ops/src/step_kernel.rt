@@ -1,14 +1,14 @@
 //! Kernels that return rows for each batch of their input.
 
 use std::alloc::AllocError;
-use vx_views::Rows;
+use vx_rows_views::Rows;
 
 /// Calls: `step*`, and none after an `Err`.
 ///
 /// What an operator of one input computes, a batch at a time: `Stepping` makes a source of it.
 pub trait StepKernel: Drop {
     ghost use Rattle.std.specs.Prelude.{◌≡◌, ◌≤◌, ◌++◌, List, length, Some, IfOk};
-    ghost use Rattle.vx_values.specs.Values.{Row};
+    ghost use Rattle.vx_rows_values.specs.Values.{Row};
     ghost use Rattle.vx_plan_nodes.specs.Plan.{Unary};
     ghost use Rattle.vx_plan_nodes.specs.Serial.{unary_rows};
     ghost use Rattle.vx_ops.specs.Turn.{Shape};

@@ -4,7 +4,7 @@ use crate::fault::{Code, Fault, StreamState};
 use crate::source::Source;
 use crate::step_kernel::StepKernel;
 use crate::turn::{Got, Polled, Want};
-use vx_views::Rows;
+use vx_rows_views::Rows;
 
 /// Calls: `with_kernel (wants turn)*`.
 ///

@@ -2,7 +2,7 @@
 
 use crate::fault::Fault;
 use vx_ports::Packet;
-use vx_views::Rows;
+use vx_rows_views::Rows;
 
 /// What a source wants before its next turn.
 #[derive(Clone, Copy, Debug, PartialEq, Eq)]

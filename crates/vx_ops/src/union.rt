@@ -3,7 +3,7 @@
 use crate::fault::StreamState;
 use crate::source::Source;
 use crate::turn::{Got, Polled, Want};
-use vx_values::ColType;
+use vx_rows_values::ColType;
 
 /// Calls: `new (wants turn)*`.
 ///

@@ -4,13 +4,13 @@ use Rattle.std.specs.Prelude.{⊤}
 use Rattle.std.specs.List.{list_any, list_all}
 use Rattle.std.proofs.lemmas.Bool.{eqb-true, or_parts, or_from, not-true, not_from_false}
 use Rattle.std.proofs.lemmas.Slice.Eq.{bytes_eq-Decides}
-use Rattle.vx_relations.specs.Catalog.{are_distinct}
+use Rattle.vx_catalog_relations.specs.Catalog.{are_distinct}
 use Rattle.vx_plan_nodes.specs.Typed.{are_distinct_pairs}
-use Rattle.vx_values.specs.Values.{Name}
+use Rattle.vx_rows_values.specs.Values.{Name}
 use Rattle.vx_plan_json.specs.Fault.{Refusal, duplicate_column}
 use Rattle.vx_plan.specs.Lookup.{tested_onto, is_among, test_distinct, pair_eq, is_among_pairs, test_distinct_pairs}
 use Rattle.vx_plan_json.proofs.Holds.{Holds}
-use Rattle.vx_values.proofs.Booleans.{and-left, and-right, and-both}
+use Rattle.vx_rows_values.proofs.Booleans.{and-left, and-right, and-both}
 
 -- no element equals a later one
 abbrev pub apart : {A : Type 0} → (A → A → Bool) → List A → Bool

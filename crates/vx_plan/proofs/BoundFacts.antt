@@ -2,11 +2,11 @@
 use Rattle.std.proofs.Common.{◌≡◌, ℕ, suc, ◌<◌, List, [], ◌∷◌, ◌&&◌, false, refl, sym, ap, ◌∙◌, map, get_or, length, arith}
 use Rattle.std.proofs.Math.Bool.{and-false}
 use Rattle.std.proofs.lemmas.List.{get_or-map, length-map}
-use Rattle.vx_values.specs.ValueView.{val_of}
-use Rattle.vx_values.specs.declared.range.NamedRange.{NamedRange}
-use Rattle.vx_values.specs.Ranges.{RangeForm, range_form}
+use Rattle.vx_rows_values.specs.ValueView.{val_of}
+use Rattle.vx_rows_values.specs.declared.range.NamedRange.{NamedRange}
+use Rattle.vx_rows_values.specs.Ranges.{RangeForm, range_form}
 use Rattle.vx_plan_nodes.specs.Typed.{bounds_at, type_eq, types_eq}
-use Rattle.vx_values.specs.declared.value.ColType.{ColType}
+use Rattle.vx_rows_values.specs.declared.value.ColType.{ColType}
 
 pub bounds_at-form : (rs : List NamedRange) (k : ℕ) (r : NamedRange) → k < length rs → r ≡ get_or rs k r
     → bounds_at (map (λ (d : RangeForm). d.bounds) (map range_form rs)) k ≡ map val_of r.bounds.items

@@ -4,14 +4,14 @@ use Rattle.std.specs.Prelude.{⊤}
 use Rattle.std.specs.List.{list_all}
 use Rattle.std.proofs.lemmas.List.{length-map}
 use Rattle.std.proofs.lemmas.List.Quantifiers.{position-Some}
-use Rattle.vx_values.specs.declared.value.ColType.{ColType}
-use Rattle.vx_values.specs.Types.{type_at}
+use Rattle.vx_rows_values.specs.declared.value.ColType.{ColType}
+use Rattle.vx_rows_values.specs.Types.{type_at}
 use Rattle.vx_plan_nodes.specs.Plan.{one_worker, by_hash, by_range, Part, routed, Claim}
 use Rattle.vx_plan_nodes.specs.Typed.{are_columns, is_size, is_routed, is_part, is_claim, range_type, bounds_at, type_eq}
-use Rattle.vx_values.specs.Lists.{is_some_list}
-use Rattle.vx_values.specs.Values.{Name}
+use Rattle.vx_rows_values.specs.Lists.{is_some_list}
+use Rattle.vx_rows_values.specs.Values.{Name}
 use Rattle.vx_plan_json.specs.Document.{PartForm, hash_part, range_part, ClaimForm}
-use Rattle.vx_values.specs.Ranges.{RangeForm}
+use Rattle.vx_rows_values.specs.Ranges.{RangeForm}
 use Rattle.vx_plan_json.specs.Document as form
 use Rattle.vx_plan_nodes.specs.Outline.{Columns, Top}
 use Rattle.vx_plan_json.specs.Fault.{Refusal, too_wide, ◌>>=◌}
@@ -20,7 +20,7 @@ use Rattle.vx_plan_nodes.specs.Names.{Names, scope_of}
 use Rattle.vx_plan.specs.Resolve.{find_part, part_names, part_fits, claim_columns, test_claim, find_claim, with_claim}
 use Rattle.vx_plan_json.specs.Formed.{are_names, are_some_names, is_part_form, is_claim_form}
 use Rattle.vx_plan_json.proofs.Holds.{Holds, holds_then}
-use Rattle.vx_values.proofs.Booleans.{and-left, and-right, and-both}
+use Rattle.vx_rows_values.proofs.Booleans.{and-left, and-right, and-both}
 use Rattle.vx_plan.proofs.Apart.{apart, test_distinct-apart}
 use Rattle.vx_plan.proofs.FoundFacts.{AreColumns, IsColumn, AreKeys, column-found, columns-found, keys-found, test_distinct_keys-apart, test_distinct-columns, test_distinct-keys, some-columns}
 

@@ -1,7 +1,7 @@
 -- A walk that looks up each element, as a fact of the two lists.
 use Rattle.std.proofs.Common.{◌≡◌, List, [], ◌∷◌, ◌++◌, Bool, true, Result, Ok, Err, refl, sym, ap, ◌∙◌, subst, map, append_assoc, append-nil}
 use Rattle.std.specs.List.{list_all}
-use Rattle.vx_values.proofs.Booleans.{and-left, and-right}
+use Rattle.vx_rows_values.proofs.Booleans.{and-left, and-right}
 use Rattle.vx_plan_json.specs.Fault.{Refusal, ◌>>=◌}
 use Rattle.vx_plan.specs.Lookup.{walk_onto}
 

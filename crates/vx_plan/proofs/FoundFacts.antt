@@ -5,14 +5,14 @@ use Rattle.std.specs.List.{list_all}
 use Rattle.std.proofs.lemmas.List.{length_push, map_push}
 use Rattle.std.proofs.lemmas.List.Quantifiers.{position-Some}
 use Rattle.std.proofs.lemmas.Slice.Eq.{bytes_eq-Decides}
-use Rattle.vx_relations.specs.Catalog.{all_below, are_distinct}
+use Rattle.vx_catalog_relations.specs.Catalog.{all_below, are_distinct}
 use Rattle.vx_plan_nodes.specs.Typed.{are_columns}
-use Rattle.vx_values.specs.Lists.{is_some_list}
-use Rattle.vx_values.specs.Values.{Name}
+use Rattle.vx_rows_values.specs.Lists.{is_some_list}
+use Rattle.vx_rows_values.specs.Values.{Name}
 use Rattle.vx_plan_json.specs.Fault.{Refusal}
 use Rattle.vx_plan.specs.Lookup.{walk_onto, column_or, find_column, find_columns, find_keys, test_distinct, test_distinct_keys}
 use Rattle.vx_plan_json.proofs.Holds.{all_push, Holds, holds_then}
-use Rattle.vx_values.proofs.Booleans.{and-left, and-right, and-both}
+use Rattle.vx_rows_values.proofs.Booleans.{and-left, and-right, and-both}
 use Rattle.vx_plan.proofs.Apart.{apart, test_distinct-apart, distinct-columns}
 
 -- the name of a column

@@ -6,14 +6,14 @@ use Rattle.std.proofs.lemmas.List.Folds.{list_any_at}
 use Rattle.std.proofs.lemmas.List.Quantifiers.{position-Some}
 use Rattle.std.proofs.lemmas.Bool.{not-true, not_from_false, ltb-true, eq-eqb, or_parts, or_from}
 use Rattle.std.proofs.lemmas.Slice.Eq.{bytes_eq-Decides}
-use Rattle.vx_values.specs.Values.{Name}
-use Rattle.vx_values.specs.Ranges.{RangeForm}
-use Rattle.vx_values.proofs.Booleans.{and-left, and-right, and-both}
-use Rattle.vx_values.proofs.ClashFacts.{position-is}
-use Rattle.vx_relations.specs.Relation.{Relation}
-use Rattle.vx_relations.specs.Catalog.{all_below, are_distinct}
-use Rattle.vx_relations.specs.Naming.{name_at}
-use Rattle.vx_relations.proofs.NameFacts.{position-map}
+use Rattle.vx_rows_values.specs.Values.{Name}
+use Rattle.vx_rows_values.specs.Ranges.{RangeForm}
+use Rattle.vx_rows_values.proofs.Booleans.{and-left, and-right, and-both}
+use Rattle.vx_rows_values.proofs.ClashFacts.{position-is}
+use Rattle.vx_catalog_relations.specs.Relation.{Relation}
+use Rattle.vx_catalog_relations.specs.Catalog.{all_below, are_distinct}
+use Rattle.vx_catalog_relations.specs.Naming.{name_at}
+use Rattle.vx_catalog_relations.proofs.NameFacts.{position-map}
 use Rattle.vx_plan_nodes.specs.Plan.{Size, one_worker, group_of}
 use Rattle.vx_plan_nodes.specs.Names.{Names}
 use Rattle.vx_plan_nodes.specs.Typed.{are_columns, are_distinct_pairs, is_size}

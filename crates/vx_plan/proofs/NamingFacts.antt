@@ -1,6 +1,6 @@
 -- Names by their places.
 use Rattle.std.proofs.Common.{◌≡◌, ℕ, zero, suc, ◌<◌, List, [], ◌∷◌, length, get_or, map, ap, arith}
-use Rattle.vx_relations.specs.Naming.{name_at}
+use Rattle.vx_catalog_relations.specs.Naming.{name_at}
 
 -- the name of what stands at a place
 pub name-range : {X Y : Type 0} (h : X → Y) (g : Y → List ℕ) (xs : List X) (i : ℕ) (x : X) → i < length xs → x ≡ get_or xs i x → g (h x) ≡ name_at (map g (map h xs)) i

@@ -2,11 +2,11 @@
 use Rattle.std.proofs.Common.{◌≡◌, ℕ, nat_lt, nat_le, List, [], ◌∷◌, ◌++◌, Bool, true, ◌&&◌, Ok, map, length, bytes_eq, refl, sym, ap, ◌∙◌, subst}
 use Rattle.std.specs.Prelude.{⊤}
 use Rattle.std.specs.List.{list_all}
-use Rattle.vx_values.specs.Types.{type_at}
-use Rattle.vx_values.specs.Lists.{is_some_list}
-use Rattle.vx_values.specs.Values.{Name}
-use Rattle.vx_values.proofs.Booleans.{and-left, and-right, and-both}
-use Rattle.vx_relations.specs.Catalog.{all_below, are_distinct, are_distinct_names}
+use Rattle.vx_rows_values.specs.Types.{type_at}
+use Rattle.vx_rows_values.specs.Lists.{is_some_list}
+use Rattle.vx_rows_values.specs.Values.{Name}
+use Rattle.vx_rows_values.proofs.Booleans.{and-left, and-right, and-both}
+use Rattle.vx_catalog_relations.specs.Catalog.{all_below, are_distinct, are_distinct_names}
 use Rattle.vx_plan_nodes.specs.Plan.{Size, by_hash, by_range, Binary, ExchangeKind, route_to}
 use Rattle.vx_plan_nodes.specs.Plan as plan
 use Rattle.vx_plan_nodes.specs.Types.{binary_types}

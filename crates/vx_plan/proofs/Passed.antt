@@ -3,11 +3,11 @@ use Rattle.std.proofs.Common.{◌≡◌, ℕ, ◌<◌, ◌&&◌, nat_le, List, [
 use Rattle.std.specs.List.{list_any, list_all}
 use Rattle.std.proofs.lemmas.List.{map-append}
 use Rattle.std.proofs.lemmas.Bool.{or_parts, or_from, not-true, not_from_false, not_from_true, leb-true, lt-leb}
-use Rattle.vx_values.specs.Values.{Name}
-use Rattle.vx_values.specs.Ranges.{RangeForm}
-use Rattle.vx_values.proofs.Booleans.{and-left, and-right, and-both}
-use Rattle.vx_relations.specs.Catalog.{are_distinct_names}
-use Rattle.vx_relations.proofs.NameFacts.{list_any-map}
+use Rattle.vx_rows_values.specs.Values.{Name}
+use Rattle.vx_rows_values.specs.Ranges.{RangeForm}
+use Rattle.vx_rows_values.proofs.Booleans.{and-left, and-right, and-both}
+use Rattle.vx_catalog_relations.specs.Catalog.{are_distinct_names}
+use Rattle.vx_catalog_relations.proofs.NameFacts.{list_any-map}
 use Rattle.vx_plan_nodes.specs.Typed.{is_range}
 use Rattle.vx_plan_json.specs.Fault.{Refusal, duplicate_column, bad_size, bad_range}
 use Rattle.vx_plan.specs.Lookup.{tested_onto, is_among, test_distinct, pair_eq, is_among_pairs, test_distinct_pairs, test_distinct_keys}

@@ -2,11 +2,11 @@
 use Rattle.std.proofs.Common.{◌≡◌, ℕ, zero, suc, ◌+◌, ◌<◌, ◌≤◌, ◌==◌, nat_lt, true, false, not, ◌&&◌, ◌||◌, List, [], ◌∷◌, ◌++◌, map, length, Some, refl, sym, ap, ◌∙◌, subst, arith, eq-eqb, lt-ltb, append_assoc, length-append, take, get_or}
 use Rattle.std.specs.List.{list_all, list_any}
 use Rattle.std.proofs.lemmas.List.{length-map, length-take-le, map_push}
-use Rattle.vx_values.specs.declared.value.ColType.{ColType}
-use Rattle.vx_values.specs.declared.value.ColType.TheVariants.{Int}
-use Rattle.vx_values.specs.Types.{type_at}
-use Rattle.vx_values.specs.Lists.{is_some_list}
-use Rattle.vx_relations.specs.Catalog.{relation_at, all_below, are_distinct}
+use Rattle.vx_rows_values.specs.declared.value.ColType.{ColType}
+use Rattle.vx_rows_values.specs.declared.value.ColType.TheVariants.{Int}
+use Rattle.vx_rows_values.specs.Types.{type_at}
+use Rattle.vx_rows_values.specs.Lists.{is_some_list}
+use Rattle.vx_catalog_relations.specs.Catalog.{relation_at, all_below, are_distinct}
 use Rattle.vx_plan_nodes.specs.Plan.{Aggregate, least, greatest, sum, count_rows, select, project, distinct, sort, group, plain, partial, final}
 use Rattle.vx_plan_nodes.specs.Types.{types_of, aggregate_type}
 use Rattle.vx_plan_nodes.specs.Typed.{type_eq, are_columns, is_aggregate, is_unary, is_output, is_kind, may_merge, typed}
@@ -17,7 +17,7 @@ use Rattle.vx_plan_nodes.specs.Names.{Names, scope_of}
 use Rattle.vx_plan_nodes.proofs.ErasedFacts.{type-right}
 use Rattle.vx_plan.specs.Resolve.{parts_of}
 use Rattle.vx_plan.proofs.TestFacts.{taken_more}
-use Rattle.vx_values.proofs.Booleans.{and-left, and-right, and-both}
+use Rattle.vx_rows_values.proofs.Booleans.{and-left, and-right, and-both}
 
 pub some-alike : {A B : Type 0} (xs : List A) (ys : List B) → length xs ≡ length ys → is_some_list xs ≡ is_some_list ys
 some-alike [] [] e = refl

@@ -1,11 +1,11 @@
 -- A typed plan that is well named is what its document resolves to.
 use Rattle.std.proofs.Common.{◌≡◌, ℕ, suc, ◌+◌, ◌==◌, nat_lt, nat_le, List, Bool, true, false, not, ◌&&◌, Ok, length, bytes_eq, refl, sym, ap, ◌∙◌, subst, arith, true≢false, eqb-true}
 use Rattle.std.proofs.lemmas.Bool.{not-true}
-use Rattle.vx_values.specs.declared.value.ColType.{ColType}
-use Rattle.vx_values.specs.Values.{Name}
-use Rattle.vx_values.proofs.Booleans.{and-left, and-right}
-use Rattle.vx_relations.specs.Relation.{Relation}
-use Rattle.vx_relations.specs.Catalog.{relation_at, are_distinct_names}
+use Rattle.vx_rows_values.specs.declared.value.ColType.{ColType}
+use Rattle.vx_rows_values.specs.Values.{Name}
+use Rattle.vx_rows_values.proofs.Booleans.{and-left, and-right}
+use Rattle.vx_catalog_relations.specs.Relation.{Relation}
+use Rattle.vx_catalog_relations.specs.Catalog.{relation_at, are_distinct_names}
 use Rattle.vx_plan_nodes.specs.Plan.{Unary, Binary, ExchangeKind, Plan}
 use Rattle.vx_plan_nodes.specs.Plan as plan
 use Rattle.vx_plan_nodes.specs.Types.{types_of, unary_types, binary_types}

@@ -1,8 +1,8 @@
 -- A document resolves to a typed plan exactly where the plan is well named over the catalog, and said by the document.
 use Rattle.std.proofs.Common.{◌≡◌, ℕ, List, ◌∷◌, true, false, Ok, map, codes, refl, sym, ap, ◌∙◌, subst, true≢false}
-use Rattle.vx_relations.specs.Relation.{Relation}
-use Rattle.vx_relations.specs.Catalog.{IsCatalog}
-use Rattle.vx_values.specs.Ranges.{RangeForm}
+use Rattle.vx_catalog_relations.specs.Relation.{Relation}
+use Rattle.vx_catalog_relations.specs.Catalog.{IsCatalog}
+use Rattle.vx_rows_values.specs.Ranges.{RangeForm}
 use Rattle.vx_plan_nodes.specs.Outline.{Outline}
 use Rattle.vx_plan_nodes.specs.Names.{Names, TypedPlanView}
 use Rattle.vx_plan_json.specs.Document.{Document}

@@ -4,17 +4,17 @@ use Rattle.std.specs.List.{list_all, list_any}
 use Rattle.std.proofs.lemmas.List.{length-map, length_push}
 use Rattle.std.proofs.lemmas.Bool.{leb-false, le-leb, or_parts, not-false}
 use Rattle.std.proofs.lemmas.List.Quantifiers.{position-Some}
-use Rattle.vx_values.specs.declared.value.ColType.{ColType}
-use Rattle.vx_relations.specs.Relation.{Relation}
-use Rattle.vx_relations.specs.Catalog.{relation_at, IsRelation, IsCatalog}
+use Rattle.vx_rows_values.specs.declared.value.ColType.{ColType}
+use Rattle.vx_catalog_relations.specs.Relation.{Relation}
+use Rattle.vx_catalog_relations.specs.Catalog.{relation_at, IsRelation, IsCatalog}
 use Rattle.vx_plan_nodes.specs.Types.{types_of, unary_types, binary_types}
 use Rattle.vx_plan_nodes.specs.Outputs.{IsOutputOf, HasOutputs}
 use Rattle.vx_plan_nodes.specs.Typed.{is_size, is_unary, is_binary, is_kind, is_claim, is_output, is_range, are_columns, typed, may_merge, IsTyped}
 use Rattle.vx_plan_nodes.specs.Phases.{is_open, phase_fits, both_closed}
 use Rattle.vx_plan_nodes.specs.Numbering.{nodes, is_numbered}
-use Rattle.vx_values.specs.Values.{Name}
+use Rattle.vx_rows_values.specs.Values.{Name}
 use Rattle.vx_plan_json.specs.Document.{ClaimForm, ScanForm, UnaryForm, BinaryForm, KindForm, Tree}
-use Rattle.vx_values.specs.Ranges.{RangeForm}
+use Rattle.vx_rows_values.specs.Ranges.{RangeForm}
 use Rattle.vx_plan_json.specs.Document as form
 use Rattle.vx_plan_nodes.specs.Outline.{Columns, Top, Outline, scan, unary, binary, exchange, columns, plan_in}
 use Rattle.vx_plan_json.specs.Fault.{Refusal, bad_size, bad_range, ◌>>=◌}
@@ -23,7 +23,7 @@ use Rattle.vx_plan_nodes.specs.Names.{Names, scope_of}
 use Rattle.vx_plan.specs.Resolve.{scan_columns, relation_or, find_relation, scan_typed, with_claim, is_final_form, unary_shape, unary_typed, binary_shape, binary_typed, exchange_shape, exchange_typed, typed_in, is_bad_size, test_sizes, is_bad_range, test_ranges}
 use Rattle.vx_plan_json.specs.Formed.{is_claim_form, is_scan_form, is_unary_form, is_binary_form, is_kind_form, is_merge_form, is_tree_form}
 use Rattle.vx_plan_json.proofs.Holds.{Holds, holds_then, holds_at}
-use Rattle.vx_values.proofs.Booleans.{and-left, and-right, and-both}
+use Rattle.vx_rows_values.proofs.Booleans.{and-left, and-right, and-both}
 use Rattle.vx_plan.proofs.ClaimFacts.{size-holds, IsTop, top-holds}
 use Rattle.vx_plan.proofs.ShapeFacts.{IsOutput, own-output, IsShape, shape-holds, IsJoint, joint-holds, IsExchange, exchange-holds}
 

@@ -3,17 +3,17 @@ use Rattle.std.proofs.Common.{◌≡◌, ℕ, ◌+◌, nat_lt, nat_le, List, [],
 use Rattle.std.specs.Prelude.{⊤}
 use Rattle.std.specs.List.{list_all}
 use Rattle.std.proofs.lemmas.List.{length-map, length_push, map_push}
-use Rattle.vx_values.specs.declared.value.ColType.{ColType}
-use Rattle.vx_values.specs.Types.{type_at}
-use Rattle.vx_relations.specs.Catalog.{all_below, relation_at}
+use Rattle.vx_rows_values.specs.declared.value.ColType.{ColType}
+use Rattle.vx_rows_values.specs.Types.{type_at}
+use Rattle.vx_catalog_relations.specs.Catalog.{all_below, relation_at}
 use Rattle.vx_plan_nodes.specs.declared.typed.Projected.{Projected}
 use Rattle.vx_plan_nodes.specs.Plan.{Aggregate, Phase, Unary, Condition, ExchangeKind, Plan, route_to, by_hash, by_range}
 use Rattle.vx_plan_nodes.specs.Plan as plan
 use Rattle.vx_plan_nodes.specs.Types.{types_of, unary_types, binary_types, aggregate_type}
 use Rattle.vx_plan_nodes.specs.Phases.{first_columns, merged, is_partial, is_open, phase_fits}
 use Rattle.vx_plan_nodes.specs.Typed.{are_columns, is_condition, is_aggregate, is_unary, is_pair, are_distinct_pairs, is_binary, types_eq, is_kind, may_merge, is_size, is_routed, typed}
-use Rattle.vx_values.specs.Lists.{is_some_list}
-use Rattle.vx_values.specs.Values.{Name}
+use Rattle.vx_rows_values.specs.Lists.{is_some_list}
+use Rattle.vx_rows_values.specs.Values.{Name}
 use Rattle.vx_plan_json.specs.Document.{ConditionForm, OutputForm, AggregateForm, UnaryForm, BinaryForm, KindForm}
 use Rattle.vx_plan_json.specs.Document as form
 use Rattle.vx_plan_nodes.specs.Outline.{Columns, Outline, columns, plan_in}
@@ -23,7 +23,7 @@ use Rattle.vx_plan_nodes.specs.Names.{Names, scope_of}
 use Rattle.vx_plan.specs.Resolve.{find_condition, find_conditions, select_shape, Shape, output_name, find_kept, find_all_kept, kept_shape, kept_columns, project_shape, distinct_shape, sort_shape, find_function, find_aggregates, find_group, test_group, group_columns, group_shape, test_phase, partial_shape, parts_of, final_shape, is_final_form, unary_shape, find_pair, find_pairs, test_join, join_pairs, both_columns, Joint, binary_shape, find_kind, kind_names, kind_fits, exchange_columns, test_exchange, exchange_shape}
 use Rattle.vx_plan_json.specs.Formed.{are_names, are_some_names, is_condition_form, is_output_form, is_aggregate_form, is_unary_form, is_pair_form, is_binary_form, is_kind_form, is_merge_form}
 use Rattle.vx_plan_json.proofs.Holds.{all_push, Holds, holds_then}
-use Rattle.vx_values.proofs.Booleans.{and-left, and-right, and-both}
+use Rattle.vx_rows_values.proofs.Booleans.{and-left, and-right, and-both}
 use Rattle.vx_plan.proofs.Apart.{apart, apart-prefix, test_distinct-apart, test_distinct_pairs-apart, distinct-pairs}
 use Rattle.vx_plan.proofs.FoundFacts.{name_of, AreColumns, IsColumn, column-found, columns-found, walk-holds, walk-length, test_distinct-columns, some-columns}
 use Rattle.vx_plan_nodes.proofs.ErasedFacts.{final-types}

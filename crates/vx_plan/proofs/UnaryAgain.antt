@@ -4,14 +4,14 @@ use Rattle.std.specs.Prelude.{if◌then◌else◌}
 use Rattle.std.specs.List.{list_all}
 use Rattle.std.proofs.lemmas.List.{length-map, length-append, take-append-drop, length-drop}
 use Rattle.std.proofs.lemmas.Slice.Eq.{bytes_eq-Decides}
-use Rattle.vx_values.specs.declared.value.ColType.{ColType}
-use Rattle.vx_values.specs.declared.value.ColType.TheVariants.{Int}
-use Rattle.vx_values.specs.Types.{type_at}
-use Rattle.vx_values.specs.Lists.{is_some_list}
-use Rattle.vx_values.specs.Values.{Name}
-use Rattle.vx_values.proofs.Booleans.{and-left, and-right}
-use Rattle.vx_relations.specs.Catalog.{all_below, are_distinct}
-use Rattle.vx_relations.specs.Naming.{name_at}
+use Rattle.vx_rows_values.specs.declared.value.ColType.{ColType}
+use Rattle.vx_rows_values.specs.declared.value.ColType.TheVariants.{Int}
+use Rattle.vx_rows_values.specs.Types.{type_at}
+use Rattle.vx_rows_values.specs.Lists.{is_some_list}
+use Rattle.vx_rows_values.specs.Values.{Name}
+use Rattle.vx_rows_values.proofs.Booleans.{and-left, and-right}
+use Rattle.vx_catalog_relations.specs.Catalog.{all_below, are_distinct}
+use Rattle.vx_catalog_relations.specs.Naming.{name_at}
 use Rattle.vx_plan_nodes.specs.declared.typed.Projected.{Projected}
 use Rattle.vx_plan_nodes.specs.Plan.{Side, Condition, Aggregate, Phase, Unary}
 use Rattle.vx_plan_nodes.specs.Plan as plan

@@ -4,10 +4,10 @@ use Rattle.std.specs.Prelude.{⊤, if◌then◌else◌}
 use Rattle.std.specs.List.{list_all}
 use Rattle.std.proofs.lemmas.List.{length-map, take_at, drop_at}
 use Rattle.std.proofs.lemmas.Slice.Eq.{bytes_eq-Decides}
-use Rattle.vx_values.specs.Values.{Name}
-use Rattle.vx_values.proofs.Booleans.{and-both}
-use Rattle.vx_relations.specs.Catalog.{are_distinct_names}
-use Rattle.vx_relations.specs.Naming.{name_at}
+use Rattle.vx_rows_values.specs.Values.{Name}
+use Rattle.vx_rows_values.proofs.Booleans.{and-both}
+use Rattle.vx_catalog_relations.specs.Catalog.{are_distinct_names}
+use Rattle.vx_catalog_relations.specs.Naming.{name_at}
 use Rattle.vx_plan_nodes.specs.declared.typed.Projected.{Projected}
 use Rattle.vx_plan_nodes.specs.Plan.{Side, Condition, Aggregate, Phase}
 use Rattle.vx_plan_nodes.specs.Plan as plan

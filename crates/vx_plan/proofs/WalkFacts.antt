@@ -5,7 +5,7 @@ use Rattle.std.proofs.lemmas.Result.{err_from_is_err_and}
 use Rattle.vx_plan_json.specs.declared.fault.PlanFault.{PlanFault}
 use Rattle.vx_plan_json.specs.Fault.{Refusal, ◌>>=◌, Fails, Gives}
 use Rattle.vx_plan.specs.Lookup.{walk_onto, test_distinct, test_distinct_keys}
-use Rattle.vx_values.specs.Values.{Name}
+use Rattle.vx_rows_values.specs.Values.{Name}
 use Rattle.std.specs.Prelude.{⊤, IsErrAnd}
 use Rattle.vx_plan_json.proofs.NodeFacts.{fails_then}
 

@@ -1,7 +1,7 @@
 -- The document that says a typed plan: each column, relation, size and range by its name in place of its number.
 use Rattle.std.specs.Prelude.{ℕ, List, [], ◌∷◌, map, length, drop, Bool, if◌then◌else◌, Some, None, codes}
-use Rattle.vx_values.specs.Values.{Name}
-use Rattle.vx_relations.specs.Naming.{name_at}
+use Rattle.vx_rows_values.specs.Values.{Name}
+use Rattle.vx_catalog_relations.specs.Naming.{name_at}
 use Rattle.vx_plan_nodes.specs.Plan.{Size, one_worker, group_of, Route, by_hash, by_range, Part, routed, Claim, Side, Condition, Aggregate, Unary, Binary, ExchangeKind, route_to}
 use Rattle.vx_plan_nodes.specs.Plan as plan
 use Rattle.vx_plan_nodes.specs.Outline.{Top, Outline, scan, unary, binary, exchange, columns}

@@ -1,9 +1,9 @@
 -- The law of resolving: a document resolves to a typed plan exactly where the plan is well named over the catalog and the document says it.
 use Rattle.std.specs.Prelude.{◌≡◌, ◌↔◌, ℕ, List, [], ◌∷◌, ◌++◌, map, length, take, Bool, true, false, ◌&&◌, ◌||◌, Ok, bytes_eq, codes}
-use Rattle.vx_values.specs.Values.{Name}
-use Rattle.vx_relations.specs.Relation.{Relation}
-use Rattle.vx_relations.specs.Catalog.{relation_at, are_distinct_names, IsCatalog}
-use Rattle.vx_relations.specs.Naming.{name_at}
+use Rattle.vx_rows_values.specs.Values.{Name}
+use Rattle.vx_catalog_relations.specs.Relation.{Relation}
+use Rattle.vx_catalog_relations.specs.Catalog.{relation_at, are_distinct_names, IsCatalog}
+use Rattle.vx_catalog_relations.specs.Naming.{name_at}
 use Rattle.vx_plan_nodes.specs.Plan.{Unary, Binary}
 use Rattle.vx_plan_nodes.specs.Plan as plan
 use Rattle.vx_plan_nodes.specs.Outline.{Outline, scan, unary, binary, exchange, plan_in}

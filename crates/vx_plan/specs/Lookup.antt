@@ -3,9 +3,9 @@ use Rattle.std.specs.Prelude.{ℕ, List, [], ◌∷◌, ◌++◌, Bool, ◌&&◌
 use Rattle.std.specs.List.{list_any}
 use Rattle.vx_plan_nodes.specs.Plan.{Size, one_worker, group_of}
 use Rattle.vx_plan_nodes.specs.Names.{Names}
-use Rattle.vx_values.specs.Values.{Name}
+use Rattle.vx_rows_values.specs.Values.{Name}
 use Rattle.vx_plan_json.specs.Fault.{Refusal, unknown_column, duplicate_column, type_mismatch, unknown_range, bad_size, too_wide, ◌>>=◌}
-use Rattle.vx_values.specs.Limits.{max_columns}
+use Rattle.vx_rows_values.specs.Limits.{max_columns}
 
 -- what each gives in turn, after what was found before, or the first refusal
 unfoldable pub walk_onto : {A B : Type 0} → (A → Result B Refusal) → List B → List A → Result (List B) Refusal

@@ -18,7 +18,7 @@ use std::alloc::{AllocError, Global};
 use std::sync::Arc;
 use vx_plan_json::{NamedClaim, NamedPart, PlanFault};
 use vx_plan_nodes::{Claim, Columns, Head, Name, Part, Route};
-use vx_values::ColType;
+use vx_rows_values::ColType;
 
 /// A list of one column.
 pub fn single(alloc: Global, column: usize) -> Result<Vec<usize>, AllocError>

@@ -2,7 +2,7 @@
 
 ghost use Rattle.std.specs.Prelude.{◌≡◌, ◌++◌, map, string_bytes, IfOk, OnOk};
 ghost use Rattle.std.specs.Arc.{arc_value};
-ghost use Rattle.vx_values.specs.Types.{type_at};
+ghost use Rattle.vx_rows_values.specs.Types.{type_at};
 ghost use Rattle.vx_plan_json.specs.Document.{aggregate_form, output_form};
 ghost use Rattle.vx_plan_nodes.specs.Outline.{columns_of, columns, aggregate_of, outline_of};
 ghost use Rattle.vx_plan_nodes.specs.Types.{aggregate_type};
@@ -11,10 +11,10 @@ ghost use Rattle.vx_plan.specs.Resolve.{both_columns, output_name, scan_columns}
 use crate::fits::type_at;
 use std::alloc::{AllocError, Global};
 use std::sync::Arc;
+use vx_catalog_relations::Relation;
 use vx_plan_json::{NamedAggregate, NamedOutput};
 use vx_plan_nodes::{Aggregate, Columns, Name, Projected, TypedNode, share_names};
-use vx_relations::Relation;
-use vx_values::ColType;
+use vx_rows_values::ColType;
 
 /// The columns of a node's output, to be read or shared.
 pub fn columns(node: &TypedNode) -> &Arc<Columns>

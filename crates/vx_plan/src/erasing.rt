@@ -16,7 +16,7 @@ use vx_plan_nodes::{
     Binary, Claim, Head, Part, Phase, ScanNode, Size, TypedNode, TypedPlan, Unary,
     copied_conditions,
 };
-use vx_values::copied_ranges;
+use vx_rows_values::copied_ranges;
 
 fn is_final(unary: &Unary) -> bool
     ensures { result ≡ is_final (unary_of unary.now) }

@@ -16,7 +16,7 @@ use crate::lookup::{
 use std::alloc::Global;
 use vx_plan_json::{NamedKind, PlanFault};
 use vx_plan_nodes::{Columns, Exchange, ExchangeKind, Name, Route};
-use vx_values::ColType;
+use vx_rows_values::ColType;
 
 // How an exchange sends: a size comes before a range, and that before columns.
 #[tactic(auto, unfolding(crate::specs::Resolve::find_kind))]

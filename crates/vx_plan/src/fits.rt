@@ -3,18 +3,18 @@
 ghost use Rattle.std.specs.Prelude.{◌≡◌, ◌&&◌, map};
 ghost use Rattle.std.specs.List.{list_all};
 ghost use Rattle.std.specs.Ordering.{is_lt};
-ghost use Rattle.vx_values.specs.Values.{val_cmp};
-ghost use Rattle.vx_values.specs.Types.{type_of, type_at, is_held};
-ghost use Rattle.vx_values.specs.ValueView.{val_of};
+ghost use Rattle.vx_rows_values.specs.Values.{val_cmp};
+ghost use Rattle.vx_rows_values.specs.Types.{type_of, type_at, is_held};
+ghost use Rattle.vx_rows_values.specs.ValueView.{val_of};
 ghost use Rattle.vx_plan_nodes.specs.Typed.{type_eq, types_eq, rises, is_range, range_type, bounds_at, is_side, is_condition, is_aggregate, is_pair};
-ghost use Rattle.vx_values.specs.Ranges.{range_form};
+ghost use Rattle.vx_rows_values.specs.Ranges.{range_form};
 ghost use Rattle.vx_plan_nodes.specs.Outline.{side_of, condition_of, aggregate_of, route_of};
 ghost use Rattle.vx_plan.specs.Resolve.{route_fits};
 ghost use Rattle.vx_plan.specs.Named.{names_of};
 
 use crate::lookup::Declared;
 use vx_plan_nodes::{Aggregate, Condition, Route, Side};
-use vx_values::{ColType, NamedRange, Value, compare_cells};
+use vx_rows_values::{ColType, NamedRange, Value, compare_cells};
 
 /// Whether two types are one.
 pub fn is_same_type(kind: ColType, other: ColType) -> bool

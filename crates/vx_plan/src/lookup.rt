@@ -4,18 +4,18 @@ ghost use Rattle.std.specs.Prelude.{◌≡◌, map, position, bytes_eq, string_b
 ghost use Rattle.std.specs.List.{list_any};
 ghost use Rattle.vx_plan_json.specs.Fault.{Gives};
 ghost use Rattle.vx_plan_json.specs.Document.{pair_form};
-ghost use Rattle.vx_values.specs.Ranges.{range_form};
+ghost use Rattle.vx_rows_values.specs.Ranges.{range_form};
 ghost use Rattle.vx_plan_nodes.specs.Outline.{size_of};
 ghost use Rattle.vx_plan.specs.Lookup.{find_column, find_columns, find_keys, test_distinct, test_distinct_pairs, test_distinct_keys, test_match, test_width, pair_eq, find_size, find_range};
 ghost use Rattle.vx_plan.specs.Named.{names_of};
 
 use std::alloc::{AllocError, AllocFailed, Global};
 use std::collections::BTreeSet;
+use vx_catalog_relations::{Catalog, find_name};
 use vx_plan_json::PlanFault;
 use vx_plan_nodes::{Name, Size, find_output_name};
-use vx_relations::{Catalog, find_name};
-use vx_values::NamedRange;
-use vx_values::limits::MAX_COLUMNS;
+use vx_rows_values::NamedRange;
+use vx_rows_values::limits::MAX_COLUMNS;
 
 /// What the nodes of a plan may name.
 #[derive(Clone, Copy)]

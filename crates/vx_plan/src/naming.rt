@@ -1,8 +1,8 @@
 //! Claims over the columns of an output, by their names.
 
 ghost use Rattle.std.specs.Prelude.{◌≡◌, map, string_bytes, IfOk};
-ghost use Rattle.vx_values.specs.Ranges.{range_form};
-ghost use Rattle.vx_relations.specs.Naming.{name_at};
+ghost use Rattle.vx_rows_values.specs.Ranges.{range_form};
+ghost use Rattle.vx_catalog_relations.specs.Naming.{name_at};
 ghost use Rattle.vx_plan_nodes.specs.Names.{Names};
 ghost use Rattle.vx_plan_nodes.specs.Outline.{part_of, claim_of};
 ghost use Rattle.vx_plan_json.specs.Document.{part_form, claim_form};
@@ -11,7 +11,7 @@ ghost use Rattle.vx_plan.specs.ByName.{names_at, first_name, range_name, part_by
 use std::alloc::{AllocError, Global};
 use vx_plan_json::{NamedClaim, NamedPart};
 use vx_plan_nodes::{Claim, Name, Part, Route};
-use vx_values::NamedRange;
+use vx_rows_values::NamedRange;
 
 // The name with this number; past the end the empty one.
 fn name_at(alloc: Global, names: &[Name], number: usize) -> Result<String, AllocError>

@@ -2,7 +2,7 @@
 
 ghost use Rattle.std.specs.Prelude.{◌≡◌, map, string_bytes};
 ghost use Rattle.vx_plan_json.specs.Fault.{Gives};
-ghost use Rattle.vx_values.specs.Ranges.{range_form};
+ghost use Rattle.vx_rows_values.specs.Ranges.{range_form};
 ghost use Rattle.vx_plan_json.specs.PlanView.{document_of};
 ghost use Rattle.vx_plan.specs.Resolve.{is_bad_size, test_sizes, test_ranges, resolved};
 ghost use Rattle.vx_plan_nodes.specs.TypedView.{resolved_of};
@@ -14,11 +14,11 @@ use crate::lookup::{Declared, has_name};
 use crate::nodes::typed_in;
 use std::alloc::{AllocFailed, Global};
 use std::collections::BTreeSet;
+use vx_catalog_relations::Catalog;
 use vx_plan_json::{Plan, PlanFault};
 use vx_plan_nodes::TypedPlan;
-use vx_relations::Catalog;
-use vx_values::limits::MAX_SIZE_NAMES;
-use vx_values::{NamedRange, copied_ranges};
+use vx_rows_values::limits::MAX_SIZE_NAMES;
+use vx_rows_values::{NamedRange, copied_ranges};
 
 fn is_bad_size(before: &[String], name: &str) -> bool
     ensures { result ≡ is_bad_size (map string_bytes before.now) name.now }

@@ -20,7 +20,7 @@ use vx_plan_json::{
 use vx_plan_nodes::{
     Aggregate, Columns, Condition, Name, Phase, Projected, Side, TypedNode, Unary,
 };
-use vx_values::ColType;
+use vx_rows_values::ColType;
 
 /// An operator over one input, and its output.
 #[derive(Drop)]

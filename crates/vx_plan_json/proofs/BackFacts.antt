@@ -5,21 +5,21 @@ use Rattle.std.proofs.lemmas.Bool.Decides.{nat_tests}
 use Rattle.std.proofs.Math.Nat.{le-max_left, le-max_right}
 use Rattle.std.specs.List.{list_all}
 use Rattle.serde_json.specs.Data.{Data, string, object, Members, no_members, member, put}
-use Rattle.vx_values.specs.Values.{Val, num, text, Name}
-use Rattle.vx_values.specs.Types.{is_held}
-use Rattle.vx_values.specs.Test as comparison
-use Rattle.vx_json.specs.Look.{name_in, each_onto}
+use Rattle.vx_rows_values.specs.Values.{Val, num, text, Name}
+use Rattle.vx_rows_values.specs.Types.{is_held}
+use Rattle.vx_rows_values.specs.Test as comparison
+use Rattle.vx_catalog_json.specs.Look.{name_in, each_onto}
 use Rattle.vx_plan_json.specs.Look.{name_at, text_at, value_in, each_in, some_in}
-use Rattle.vx_values.specs.Lists.{is_some_list}
+use Rattle.vx_rows_values.specs.Lists.{is_some_list}
 use Rattle.vx_plan_json.specs.Document.{PartForm, one, any, all, hash_part, range_part, ClaimForm, SideForm, column, constant, ConditionForm, OutputForm, FunctionForm, least, greatest, sum, count_rows, AggregateForm, ScanForm, UnaryForm, select, project, distinct, sort, group, partial_group, final_group, BinaryForm, union, join, KindForm, hash, range, round, broadcast, gather, concat, Tree, scan, unary, binary, exchange, Document, tree_nodes, tree_levels}
-use Rattle.vx_values.specs.Ranges.{RangeForm}
+use Rattle.vx_rows_values.specs.Ranges.{RangeForm}
 use Rattle.vx_plan_json.specs.Form.{names_in, some_names_in, hash_part_in, range_part_in, part_in, keys_in, claim_in, claimed, test_named, side_in, condition_in, renamed_in, output_in, function_at, aggregate_in, pair_in}
 use Rattle.vx_plan_json.specs.Formed.{are_names, are_some_names, is_range_form, is_head_form, is_part_form, is_claim_form, is_side_form, is_condition_form, is_new_name, is_output_form, is_function_form, is_aggregate_form, is_scan_form, is_unary_form, is_pair_form, is_binary_form, is_kind_form, is_merge_form, is_tree_form}
 use Rattle.vx_plan_json.specs.Operators.{own_scan, own_unary, own_binary, own_exchange, own_in, scan_in, scan_own, select_in, outputs_in, sort_in, lists_in, group_in, partial_in, final_in, phased_in, unary_in, unary_own, join_in, union_in, hash_in, range_in, sized_in, gather_in, concat_in, kind_in, merge_in, exchange_own}
 use Rattle.vx_plan_json.specs.Reading.{node_in, declared_in, head_of, head_in, document_in}
 use Rattle.vx_plan_json.specs.Written.{list_json, names_json, value_json, with_some, with_text, range_json, part_json, with_part, claim_members, with_object, with_claim, with_side, condition_json, output_json, with_function, aggregate_json, pair_json, with_scan, with_unary, with_binary, with_kind, scan_json, unary_json, binary_json, exchange_json, node_json, with_total, document_json}
 use Rattle.vx_plan_json.proofs.Holds.{and-left, and-right}
-use Rattle.vx_json.proofs.LookFacts.{list_of-items_of}
+use Rattle.vx_catalog_json.proofs.LookFacts.{list_of-items_of}
 use Rattle.vx_plan_json.proofs.NodeFacts.{node_step}
 
 name-back : (n : Name) → is_some_list n ≡ true → name_in (string n) ≡ Some n

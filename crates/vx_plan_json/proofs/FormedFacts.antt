@@ -3,11 +3,11 @@ use Rattle.std.proofs.Common.{◌≡◌, ℕ, List, [], ◌∷◌, Bool, true, f
 use Rattle.std.specs.List.{list_all}
 use Rattle.serde_json.specs.Data.{Data}
 use Rattle.serde_json.specs.Find.{get, as_str, as_number, as_i64}
-use Rattle.vx_values.specs.Values.{Val, num, text, Name}
-use Rattle.vx_values.specs.Types.{is_held}
-use Rattle.vx_json.specs.Look.{as_list, has_only, some_entry, name_in, each_onto}
+use Rattle.vx_rows_values.specs.Values.{Val, num, text, Name}
+use Rattle.vx_rows_values.specs.Types.{is_held}
+use Rattle.vx_catalog_json.specs.Look.{as_list, has_only, some_entry, name_in, each_onto}
 use Rattle.vx_plan_json.specs.Look.{name_at, text_at, value_or, if_held, value_in, each_in, some_in, or_default}
-use Rattle.vx_values.specs.Lists.{is_some_list}
+use Rattle.vx_rows_values.specs.Lists.{is_some_list}
 use Rattle.vx_plan_json.specs.Document.{one, any, all, hash_part, range_part, column, constant, least, greatest, sum, count_rows}
 use Rattle.vx_plan_json.specs.Form.{names_in, some_names_in, part_named, hash_part_in, range_part_in, part_by, part_in, keys_in, claim_in, claimed, test_named, side_in, condition_in, renamed_in, output_by, output_in, function_named, function_at, aggregate_in, as_pair, pair_in}
 use Rattle.vx_plan_json.specs.Formed.{are_names, are_some_names, is_part_form, is_claim_form, is_side_form, is_condition_form, is_output_form, is_function_form, is_aggregate_form, is_pair_form}

@@ -3,10 +3,10 @@ use Rattle.std.proofs.Common.{◌≡◌, [], ◌∷◌, Bool, true, false, Optio
 use Rattle.std.specs.List.{list_all}
 use Rattle.serde_json.specs.Data.{Data}
 use Rattle.serde_json.specs.Find.{get, as_bool}
-use Rattle.vx_values.specs.Types.{is_held}
-use Rattle.vx_json.specs.Look.{has_only}
+use Rattle.vx_rows_values.specs.Types.{is_held}
+use Rattle.vx_catalog_json.specs.Look.{has_only}
 use Rattle.vx_plan_json.specs.Look.{name_at, value_in, each_in, or_default}
-use Rattle.vx_values.specs.Lists.{is_some_list}
+use Rattle.vx_rows_values.specs.Lists.{is_some_list}
 use Rattle.vx_plan_json.specs.Form.{names_in}
 use Rattle.vx_plan_json.specs.Formed.{are_names, is_range_form, is_head_form}
 use Rattle.vx_plan_json.specs.Reading.{Head, head_of, head_in, declared_in}

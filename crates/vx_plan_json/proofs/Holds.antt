@@ -1,11 +1,11 @@
 -- What holds of an answer, if there is one.
 use Rattle.std.proofs.Common.{◌≡◌, List, [], ◌∷◌, ◌++◌, Bool, true, false, cond, ◌&&◌, Option, Some, None, option_map, option_and_then, Result, Ok, Err, refl, subst}
 use Rattle.std.specs.List.{list_all}
-pub use Rattle.vx_values.proofs.Booleans.{and-left, and-right, and-both}
+pub use Rattle.vx_rows_values.proofs.Booleans.{and-left, and-right, and-both}
 use Rattle.serde_json.specs.Data.{Data}
 use Rattle.vx_plan_json.specs.Fault.{Refusal, ◌>>=◌}
-use Rattle.vx_json.specs.Look.{each_onto, some_entry}
-use Rattle.vx_values.specs.Lists.{is_some_list}
+use Rattle.vx_catalog_json.specs.Look.{each_onto, some_entry}
+use Rattle.vx_rows_values.specs.Lists.{is_some_list}
 
 -- a test holds of the value, if there is one
 abbrev pub Within : {A : Type 0} → (A → Bool) → Option A → Type 0

@@ -3,11 +3,11 @@ use Rattle.std.proofs.Common.{◌≡◌, ℕ, zero, suc, ◌+◌, List, [], ◌�
 use Rattle.std.specs.List.{list_all}
 use Rattle.serde_json.specs.Data.{Data}
 use Rattle.serde_json.specs.Find.{get, as_str}
-use Rattle.vx_json.specs.Look.{has_only}
+use Rattle.vx_catalog_json.specs.Look.{has_only}
 use Rattle.vx_plan_json.specs.Look.{name_at, text_at, each_in, some_in, or_default}
-use Rattle.vx_values.specs.Lists.{is_some_list}
+use Rattle.vx_rows_values.specs.Lists.{is_some_list}
 use Rattle.vx_plan_json.specs.Fault.{Refusal, too_deep, ◌>>=◌}
-use Rattle.vx_values.specs.Values.{Name}
+use Rattle.vx_rows_values.specs.Values.{Name}
 use Rattle.vx_plan_json.specs.Document.{AggregateForm, select, project, distinct, sort, group, partial_group, final_group, BinaryForm, union, join, hash, range, round, broadcast, gather, concat, KindForm, Tree, unary, binary, exchange}
 use Rattle.vx_plan_json.specs.Form.{names_in, some_names_in, claimed, condition_in, output_in, aggregate_in, pair_in}
 use Rattle.vx_plan_json.specs.Operators.{OwnForm, own_scan, own_unary, own_binary, own_exchange, mode_named, scan_in, scan_own, select_in, outputs_in, sort_in, group_or, lists_in, group_in, partial_in, final_in, phase_named, group_by, phased_in, unary_in, unary_own, method_named, join_in, union_in, binary_own, hash_in, range_in, sized_in, gather_in, concat_in, kind_in, merge_in, merge_by, exchange_own, own_named, own_in}

@@ -1,10 +1,10 @@
 -- Plans as their documents say them: relations, columns, sizes and ranges by name.
 use Rattle.std.specs.Prelude.{ℕ, suc, ◌+◌, max, List, map, Bool, true, false, Option, option_map, string_bytes, String}
 use Rattle.std.specs.declared.alloc.Global.{Global}
-use Rattle.vx_values.specs.Values.{Name, Val}
-use Rattle.vx_values.specs.ValueView.{val_of, test_of}
-use Rattle.vx_values.specs.Test as comparison
-use Rattle.vx_values.specs.Ranges.{RangeForm}
+use Rattle.vx_rows_values.specs.Values.{Name, Val}
+use Rattle.vx_rows_values.specs.ValueView.{val_of, test_of}
+use Rattle.vx_rows_values.specs.Test as comparison
+use Rattle.vx_rows_values.specs.Ranges.{RangeForm}
 use Rattle.vx_plan_json.specs.declared.plan.NamedPart.{NamedPart}
 use Rattle.vx_plan_json.specs.declared.plan.NamedPart.TheVariants as part
 use Rattle.vx_plan_json.specs.declared.plan.NamedClaim.{NamedClaim}

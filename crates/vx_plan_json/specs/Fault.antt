@@ -1,6 +1,6 @@
 -- Refusals of plans, and what it is that a call gives what a pure function gives.
 use Rattle.std.specs.Prelude.{◌≡◌, ℕ, List, Result, Ok, Err, Option, Some, None, string_bytes, ◌⊎◌}
-pub use Rattle.vx_json.specs.Look.{Reads}
+pub use Rattle.vx_catalog_json.specs.Look.{Reads}
 use Rattle.vx_plan_json.specs.declared.fault.PlanFault.{PlanFault}
 use Rattle.vx_plan_json.specs.declared.fault.PlanFault.TheVariants as fault
 

@@ -2,10 +2,10 @@
 use Rattle.std.specs.Prelude.{ℕ, List, [], ◌∷◌, Option, Some, None, option_map, option_and_then, bytes_eq, codes, if◌then◌else◌}
 use Rattle.serde_json.specs.Data.{Data}
 use Rattle.serde_json.specs.Find.{get, as_str}
-use Rattle.vx_values.specs.Test as comparison
-use Rattle.vx_json.specs.Look.{as_list, has_only, some_entry, name_in}
+use Rattle.vx_rows_values.specs.Test as comparison
+use Rattle.vx_catalog_json.specs.Look.{as_list, has_only, some_entry, name_in}
 use Rattle.vx_plan_json.specs.Look.{name_at, text_at, value_in, each_in, some_in, or_default}
-use Rattle.vx_values.specs.Values.{Name}
+use Rattle.vx_rows_values.specs.Values.{Name}
 use Rattle.vx_plan_json.specs.Document.{PartForm, one, any, all, hash_part, range_part, ClaimForm, SideForm, column, constant, ConditionForm, OutputForm, FunctionForm, least, greatest, sum, count_rows, AggregateForm}
 
 infixl 10 ◌>>=◌

@@ -2,10 +2,10 @@
 use Rattle.std.specs.Prelude.{ℕ, List, Option, Some, None, option_map, option_and_then, if◌then◌else◌}
 use Rattle.serde_json.specs.Data.{Data}
 use Rattle.serde_json.specs.Find.{get, as_str, as_number, as_i64}
-use Rattle.vx_json.specs.Look.{name_in}
-pub use Rattle.vx_json.specs.Look.{or_default, each_in, some_in}
-use Rattle.vx_values.specs.Values.{Val, num, text}
-use Rattle.vx_values.specs.Types.{is_held}
+use Rattle.vx_catalog_json.specs.Look.{name_in}
+pub use Rattle.vx_catalog_json.specs.Look.{or_default, each_in, some_in}
+use Rattle.vx_rows_values.specs.Values.{Val, num, text}
+use Rattle.vx_rows_values.specs.Types.{is_held}
 
 -- the name in a member
 unfoldable pub name_at : List ℕ → Data → Option (List ℕ)

@@ -3,9 +3,9 @@ use Rattle.std.specs.Prelude.{ℕ, List, [], ◌∷◌, Bool, true, false, Optio
 use Rattle.serde_json.specs.Data.{Data}
 use Rattle.serde_json.specs.Find.{get, as_str}
 use Rattle.serde_json.specs.View.{view}
-use Rattle.vx_json.specs.Look.{has_only}
+use Rattle.vx_catalog_json.specs.Look.{has_only}
 use Rattle.vx_plan_json.specs.Look.{name_at, text_at, each_in, some_in, or_default}
-use Rattle.vx_values.specs.Values.{Name}
+use Rattle.vx_rows_values.specs.Values.{Name}
 use Rattle.vx_plan_json.specs.Document.{ClaimForm, ScanForm, OutputForm, AggregateForm, UnaryForm, select, project, distinct, sort, group, partial_group, final_group, BinaryForm, union, join, KindForm, hash, range, round, broadcast, gather, concat, claim_form, scan_form, unary_form, binary_form, kind_form}
 use Rattle.vx_plan_json.specs.Form.{names_in, some_names_in, claimed, condition_in, output_in, aggregate_in, pair_in}
 use Rattle.vx_plan_json.specs.declared.operators.Own.{Own}

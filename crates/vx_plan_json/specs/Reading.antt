@@ -5,16 +5,16 @@ use Rattle.serde_json.specs.Data.{Data}
 use Rattle.serde_json.specs.Find.{get, as_bool}
 use Rattle.serde_json.specs.Read.{read}
 use Rattle.vx_plan_json.specs.Fault.{Refusal, not_json, bad_node, too_deep, ◌>>=◌}
-use Rattle.vx_json.specs.Look.{has_only}
+use Rattle.vx_catalog_json.specs.Look.{has_only}
 use Rattle.vx_plan_json.specs.Look.{name_at, value_in, each_in, or_default}
 use Rattle.vx_plan_json.specs.declared.reading.Header.{Header}
 use Rattle.serde_json.specs.View.{view}
-use Rattle.vx_values.specs.Values.{Name}
+use Rattle.vx_rows_values.specs.Values.{Name}
 use Rattle.vx_plan_json.specs.Document.{Tree, scan, unary, binary, exchange, Document}
-use Rattle.vx_values.specs.Ranges.{range_form, RangeForm}
+use Rattle.vx_rows_values.specs.Ranges.{range_form, RangeForm}
 use Rattle.vx_plan_json.specs.Form.{names_in}
 use Rattle.vx_plan_json.specs.Operators.{OwnForm, own_scan, own_unary, own_binary, own_exchange, own_in}
-use Rattle.vx_values.specs.Limits.{max_levels, max_nodes}
+use Rattle.vx_rows_values.specs.Limits.{max_levels, max_nodes}
 
 -- a node from what it says of itself; `below` reads an input, `seen` nodes come before it
 abbrev pub with_inputs : (ℕ → List ℕ → Data → Result (Tree × ℕ) Refusal) → ℕ → List ℕ → Option OwnForm → Result (Tree × ℕ) Refusal

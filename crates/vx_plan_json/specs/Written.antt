@@ -3,10 +3,10 @@ use Rattle.std.specs.Prelude.{ℕ, List, [], ◌∷◌, map, Bool, true, false, 
 use Rattle.serde_json.specs.Data.{Data, boolean, number, string, array, object, Members, no_members, member, put}
 use Rattle.serde_json.specs.Find.{of_integer}
 use Rattle.serde_json.specs.View.{items_of}
-use Rattle.vx_values.specs.Values.{Val, num, text, Name}
-use Rattle.vx_values.specs.Test as comparison
+use Rattle.vx_rows_values.specs.Values.{Val, num, text, Name}
+use Rattle.vx_rows_values.specs.Test as comparison
 use Rattle.vx_plan_json.specs.Document.{PartForm, one, any, all, hash_part, range_part, ClaimForm, SideForm, column, constant, ConditionForm, OutputForm, FunctionForm, least, greatest, sum, count_rows, AggregateForm, ScanForm, UnaryForm, select, project, distinct, sort, group, partial_group, final_group, BinaryForm, union, join, KindForm, hash, range, round, broadcast, gather, concat, Tree, scan, unary, binary, exchange, Document}
-use Rattle.vx_values.specs.Ranges.{RangeForm}
+use Rattle.vx_rows_values.specs.Ranges.{RangeForm}
 
 abbrev pub list_json : {X : Type 0} → (X → Data) → List X → Data
 list_json json xs = array (items_of (map json xs))

@@ -3,15 +3,15 @@
 ghost use Rattle.std.specs.Prelude.{◌≡◌, ◌≤◌, true, map, string_bytes};
 ghost use Rattle.vx_plan_json.specs.Formed.{is_tree_form, is_head_form};
 ghost use Rattle.vx_plan_json.specs.Document.{tree_of, tree_nodes, tree_levels};
-ghost use Rattle.vx_values.specs.Ranges.{range_form};
-ghost use Rattle.vx_values.specs.Limits.{max_levels, max_nodes};
+ghost use Rattle.vx_rows_values.specs.Ranges.{range_form};
+ghost use Rattle.vx_rows_values.specs.Limits.{max_levels, max_nodes};
 
 use crate::fault::PlanFault;
 use crate::plan::Node;
 use crate::reading::{read_document, read_text};
 use serde_json::Value as Json;
 use std::alloc::Global;
-use vx_values::NamedRange;
+use vx_rows_values::NamedRange;
 
 /// A plan that was read, with names in place of positions. It has at most 1,000 nodes, 64 below one another, and no name in
 /// it is empty.

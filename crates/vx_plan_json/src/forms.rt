@@ -3,10 +3,10 @@
 ghost use Rattle.std.specs.Prelude.{string_bytes, codes};
 ghost use Rattle.serde_json.specs.Find.{get};
 ghost use Rattle.serde_json.specs.View.{view};
-ghost use Rattle.vx_json.specs.Look.{Finds, Parses};
+ghost use Rattle.vx_catalog_json.specs.Look.{Finds, Parses};
 ghost use Rattle.vx_plan_json.specs.Look.{or_default};
-ghost use Rattle.vx_values.specs.Values.{Name};
-ghost use Rattle.vx_values.specs.ValueView.{test_of};
+ghost use Rattle.vx_rows_values.specs.Values.{Name};
+ghost use Rattle.vx_rows_values.specs.ValueView.{test_of};
 ghost use Rattle.vx_plan_json.specs.Document.{any, part_form, claim_form, side_form, ConditionForm, condition_form, OutputForm, output_form, function_form, AggregateForm, aggregate_form, pair_form};
 ghost use Rattle.vx_plan_json.specs.Form.{hash_part_in, range_part_in, routed_part_in, part_in, claim_in, claimed, test_named, side_in, condition_in, renamed_in, output_in, function_named, function_at, aggregate_in, pair_in};
 
@@ -16,11 +16,11 @@ use crate::plan::{
 };
 use serde_json::Value as Json;
 use std::alloc::Global;
-use vx_json::{
+use vx_catalog_json::{
     Misread, NameReader, Reader, get_items, get_member, has_only, read_list_or_empty, read_name,
     read_some, test_members,
 };
-use vx_values::Test;
+use vx_rows_values::Test;
 
 #[tactic(auto, unfolding(crate::specs::Form::hash_part_in, crate::specs::Form::some_names_in))]
 fn read_hash_part(alloc: Global, value: &Json) -> Result<NamedPart, Misread>

@@ -4,10 +4,10 @@ ghost use Rattle.std.specs.Prelude.{◌≡◌, ℕ, List, map, string_bytes, cod
 ghost use Rattle.serde_json.specs.Data.{object, string, put};
 ghost use Rattle.serde_json.specs.View.{view, members_view};
 ghost use Rattle.serde_json.specs.Written.{compact_text};
-ghost use Rattle.vx_values.specs.Values.{Name, Val};
-ghost use Rattle.vx_values.specs.ValueView.{val_of};
+ghost use Rattle.vx_rows_values.specs.Values.{Name, Val};
+ghost use Rattle.vx_rows_values.specs.ValueView.{val_of};
 ghost use Rattle.vx_plan_json.specs.Document.{hash_part, range_part, part_form, claim_form, side_form, ConditionForm, condition_form, OutputForm, output_form, function_form, AggregateForm, aggregate_form, scan_form, unary_form, pair_form, binary_form, kind_form, tree_of};
-ghost use Rattle.vx_values.specs.Ranges.{RangeForm, range_form};
+ghost use Rattle.vx_rows_values.specs.Ranges.{RangeForm, range_form};
 ghost use Rattle.vx_plan_json.specs.PlanView.{document_of};
 ghost use Rattle.vx_plan_json.specs.Reading.{document_of_text};
 ghost use Rattle.vx_plan_json.specs.Written.{names_json, list_json, value_json, with_some, with_text, range_json, part_json, with_part, claim_members, with_object, with_claim, with_side, condition_json, output_json, with_function, with_call, aggregate_json, pair_json, scan_json, unary_json, binary_json, exchange_json, node_json, with_total, document_json};
@@ -20,7 +20,7 @@ use crate::plan::{
 };
 use serde_json::{Map, Value as Json, put};
 use std::alloc::{AllocError, Global};
-use vx_values::{NamedRange, Value};
+use vx_rows_values::{NamedRange, Value};
 
 /// The members of an object.
 pub type Members = Map<String, Json>;

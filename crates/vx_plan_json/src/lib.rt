@@ -17,4 +17,3 @@ pub use plan::{
     NamedAggregate, NamedBinary, NamedClaim, NamedCondition, NamedFunction, NamedKind, NamedOutput,
     NamedPart, NamedScan, NamedSide, NamedUnary, Node,
 };
-pub use vx_values::{NamedRange, Test};

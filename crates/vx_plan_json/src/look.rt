@@ -2,16 +2,16 @@
 
 ghost use Rattle.std.specs.Prelude.{List, ℕ, map, string_bytes};
 ghost use Rattle.serde_json.specs.View.{view};
-ghost use Rattle.vx_values.specs.Values.{Val};
-ghost use Rattle.vx_values.specs.ValueView.{val_of};
-ghost use Rattle.vx_json.specs.Look.{Finds, Parses};
+ghost use Rattle.vx_rows_values.specs.Values.{Val};
+ghost use Rattle.vx_rows_values.specs.ValueView.{val_of};
+ghost use Rattle.vx_catalog_json.specs.Look.{Finds, Parses};
 ghost use Rattle.vx_plan_json.specs.Look.{name_at, text_at, value_in};
 ghost use Rattle.vx_plan_json.specs.Form.{names_in};
 
 use serde_json::Value as Json;
 use std::alloc::Global;
-use vx_json::{Misread, NameReader, Reader, get_member, get_text, read_list, read_name};
-use vx_values::{Cell, Value};
+use vx_catalog_json::{Misread, NameReader, Reader, get_member, get_text, read_list, read_name};
+use vx_rows_values::{Cell, Value};
 
 /// The name in a member.
 #[tactic(auto, unfolding(crate::specs::Look::name_at))]

@@ -3,7 +3,7 @@
 ghost use Rattle.std.specs.Prelude.{◌≡◌, [], Some, map, string_bytes, codes, OnOk};
 ghost use Rattle.serde_json.specs.Find.{get, as_str};
 ghost use Rattle.serde_json.specs.View.{view, members_view};
-ghost use Rattle.vx_json.specs.Look.{Finds, Parses};
+ghost use Rattle.vx_catalog_json.specs.Look.{Finds, Parses};
 ghost use Rattle.vx_plan_json.specs.Look.{or_default};
 ghost use Rattle.vx_plan_json.specs.Document.{output_form, aggregate_form, scan_form, unary_form, pair_form, binary_form, kind_form};
 ghost use Rattle.vx_plan_json.specs.Form.{some_names_in};
@@ -18,7 +18,9 @@ use crate::plan::{
 };
 use serde_json::Value as Json;
 use std::alloc::{AllocError, Global};
-use vx_json::{Misread, NameReader, get_member, get_text, read_list, read_some, test_members};
+use vx_catalog_json::{
+    Misread, NameReader, get_member, get_text, read_list, read_some, test_members,
+};
 
 /// What a node says of itself, and the values of its inputs.
 #[derive(Drop)]

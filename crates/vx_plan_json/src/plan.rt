@@ -1,6 +1,6 @@
 //! Plans as their documents say them: relations, columns, sizes and ranges by name.
 
-use vx_values::{Test, Value};
+use vx_rows_values::{Test, Value};
 
 /// How rows lie on workers, as a claim says it.
 #[derive(Drop)]

@@ -3,11 +3,11 @@
 ghost use Rattle.std.specs.Prelude.{◌≡◌, false, ◌+◌, ◌++◌, codes, string_bytes, IfOk};
 ghost use Rattle.serde_json.specs.Find.{get, as_bool};
 ghost use Rattle.serde_json.specs.View.{view};
-ghost use Rattle.vx_json.specs.Look.{Finds, Parses};
+ghost use Rattle.vx_catalog_json.specs.Look.{Finds, Parses};
 ghost use Rattle.vx_plan_json.specs.Fault.{Gives};
 ghost use Rattle.vx_plan_json.specs.Look.{or_default};
 ghost use Rattle.vx_plan_json.specs.Document.{tree_of};
-ghost use Rattle.vx_values.specs.Ranges.{RangeForm, range_form};
+ghost use Rattle.vx_rows_values.specs.Ranges.{RangeForm, range_form};
 ghost use Rattle.vx_plan_json.specs.Reading.{node_in, declared_in, head_in, head_form, document_in, document_of_text};
 ghost use Rattle.vx_plan_json.specs.PlanView.{document_of};
 
@@ -18,11 +18,11 @@ use crate::operators::{Own, read_own};
 use crate::plan::Node;
 use serde_json::Value as Json;
 use std::alloc::{AllocError, Global};
-use vx_json::{
+use vx_catalog_json::{
     Misread, NameReader, Reader, get_member, read_list, read_list_or_empty, test_members,
 };
-use vx_values::NamedRange;
-use vx_values::limits::{MAX_LEVELS, MAX_NODES};
+use vx_rows_values::NamedRange;
+use vx_rows_values::limits::{MAX_LEVELS, MAX_NODES};
 
 // Reads declared ranges.
 struct RangeReader;

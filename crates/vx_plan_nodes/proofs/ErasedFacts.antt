@@ -1,18 +1,18 @@
 -- The plan without exchanges is typed, and numbered in preorder.
 use Rattle.vx_plan_nodes.specs.Erased.{erased_top, erased_from}
 use Rattle.vx_plan_nodes.specs.Outline.{Outline, plan_in}
-use Rattle.vx_values.proofs.Booleans.{and-left, and-right, and-both}
+use Rattle.vx_rows_values.proofs.Booleans.{and-left, and-right, and-both}
 use Rattle.std.proofs.Common.{◌≡◌, ℕ, suc, ◌+◌, ◌==◌, nat_lt, nat_le, Bool, true, ◌&&◌, List, length, refl, sym, ap, ◌∙◌, subst, arith, eq-eqb, zero, ◌<◌, false, not, cond, [], ◌∷◌, ◌++◌, map, ap₂, true≢false, append_assoc, length-append, ◌≤◌}
-use Rattle.vx_values.specs.declared.value.ColType.{ColType}
-use Rattle.vx_relations.specs.Relation.{Relation}
-use Rattle.vx_relations.specs.Catalog.{relation_at}
+use Rattle.vx_rows_values.specs.declared.value.ColType.{ColType}
+use Rattle.vx_catalog_relations.specs.Relation.{Relation}
+use Rattle.vx_catalog_relations.specs.Catalog.{relation_at}
 use Rattle.vx_plan_nodes.specs.Plan.{Claim, Plan, scan, unary, binary, exchange, Aggregate, least, greatest, sum, count_rows, Unary, select, project, distinct, sort, group, plain, partial, final}
 use Rattle.vx_plan_nodes.specs.Types.{unary_types, binary_types, types_of, aggregate_type}
 use Rattle.vx_plan_nodes.specs.Typed.{Scope, is_claim, is_unary, is_binary, is_size, is_output, typed, IsTyped}
 use Rattle.vx_plan_nodes.specs.Numbering.{nodes, is_numbered}
 use Rattle.vx_plan_nodes.specs.Erase.{no_claim, nodes_left, erase_from, at_once, erase}
 use Rattle.vx_plan_nodes.specs.Outline as outline
-use Rattle.vx_values.specs.Types.{type_at}
+use Rattle.vx_rows_values.specs.Types.{type_at}
 use Rattle.vx_plan_nodes.specs.Phases.{columns_eq, aggregates_eq, columns_from, first_columns, merging, merged, is_partial, is_final, is_open, opens, phase_fits, both_closed}
 use Rattle.vx_plan_nodes.proofs.PhaseEqual.{columns_eq-is, aggregates_eq-is}
 

@@ -1,8 +1,8 @@
 -- The columns of a node whose plan is known, and those of a plan without its exchanges.
 use Rattle.std.proofs.Common.{◌≡◌, ℕ, ◌+◌, Bool, true, false, cond, ◌&&◌, List, sym, ap, ◌∙◌, subst}
-use Rattle.vx_values.specs.declared.value.ColType.{ColType}
-use Rattle.vx_relations.specs.Relation.{Relation}
-use Rattle.vx_relations.specs.Catalog.{relation_at}
+use Rattle.vx_rows_values.specs.declared.value.ColType.{ColType}
+use Rattle.vx_catalog_relations.specs.Relation.{Relation}
+use Rattle.vx_catalog_relations.specs.Catalog.{relation_at}
 use Rattle.vx_plan_nodes.specs.Phases.{is_final, both_closed}
 use Rattle.vx_plan_nodes.specs.Typed.{Scope, is_binary, is_output, typed}
 use Rattle.vx_plan_nodes.specs.Erase.{nodes_left, at_once}
@@ -11,7 +11,7 @@ use Rattle.vx_plan_nodes.specs.Types.{unary_types, binary_types, types_of}
 use Rattle.vx_plan_nodes.specs.Erased.{erased_top, erased_from}
 use Rattle.vx_plan_nodes.specs.Outputs.{IsOutputOf, IsOutputAt, HasOutputs}
 use Rattle.vx_plan_nodes.proofs.ErasedFacts.{typed-below, once-types, erased-types, erased-plan}
-use Rattle.vx_values.proofs.Booleans.{and-left, and-right}
+use Rattle.vx_rows_values.proofs.Booleans.{and-left, and-right}
 
 pub top-output : (catalog : ℕ → Relation) (o : Outline) → HasOutputs catalog o → IsOutputAt catalog o
 top-output catalog (scan h r m z p) k = k

@@ -2,7 +2,7 @@
 use Rattle.std.proofs.Common.{◌≡◌, ℕ, ◌==◌, true, List, [], ◌∷◌, refl, sym, ap, true≢false, eqb-true}
 use Rattle.vx_plan_nodes.specs.Plan.{Aggregate, least, greatest, sum, count_rows}
 use Rattle.vx_plan_nodes.specs.Phases.{aggregate_eq, aggregates_eq, columns_eq}
-use Rattle.vx_values.proofs.Booleans.{and-left, and-right}
+use Rattle.vx_rows_values.proofs.Booleans.{and-left, and-right}
 
 pub columns_eq-is : (xs ys : List ℕ) → columns_eq xs ys ≡ true → xs ≡ ys
 columns_eq-is [] [] e = refl

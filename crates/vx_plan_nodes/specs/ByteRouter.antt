@@ -2,7 +2,7 @@
 use Rattle.std.specs.Prelude.{ℕ, ◌+◌, ◌*◌, ◌%◌, ◌^◌, List, [], ◌∷◌, ◌++◌, flat_map}
 use Rattle.std.specs.List.{fold}
 use Rattle.std.specs.Int.{w64, to_be_bytes, cast_unsigned}
-use Rattle.vx_values.specs.Values.{Val, num, text, Row}
+use Rattle.vx_rows_values.specs.Values.{Val, num, text, Row}
 
 -- the hash after one more byte
 abbrev pub hash_byte : ℕ → ℕ → ℕ

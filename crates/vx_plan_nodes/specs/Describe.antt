@@ -1,7 +1,7 @@
 -- What an operator does with columns and rows, whatever its inputs claim.
 use Rattle.std.specs.Prelude.{ℕ, ◌+◌, ◌-◌, ◌==◌, nat_lt, nat_le, cond, List, length, position, Option, Some, None, slice_get}
 use Rattle.vx_plan_nodes.specs.Plan.{Unary, select, project, distinct, sort, group, plain, partial, final, Binary, union, join}
-use Rattle.vx_values.specs.Limits.{max_columns}
+use Rattle.vx_rows_values.specs.Limits.{max_columns}
 
 -- ---- copies of columns
 

@@ -1,8 +1,8 @@
 -- What the nodes of a plan may name, and a typed plan with these names.
 use Rattle.std.specs.Prelude.{List, map, length, Bool}
-use Rattle.vx_values.specs.Values.{Name}
-use Rattle.vx_values.specs.Ranges.{RangeForm}
-use Rattle.vx_relations.specs.Relation.{Relation}
+use Rattle.vx_rows_values.specs.Values.{Name}
+use Rattle.vx_rows_values.specs.Ranges.{RangeForm}
+use Rattle.vx_catalog_relations.specs.Relation.{Relation}
 use Rattle.vx_plan_nodes.specs.Outline.{Outline}
 use Rattle.vx_plan_nodes.specs.Typed.{Scope}
 

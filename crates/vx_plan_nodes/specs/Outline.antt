@@ -1,11 +1,11 @@
 -- Typed plans with the names that they keep, and the plan of the definitions that each stands for.
 use Rattle.std.specs.Prelude.{ℕ, List, [], map, Bool, true, false, string_bytes}
 use Rattle.std.specs.Arc.{arc_value}
-use Rattle.vx_values.specs.declared.value.ColType.{ColType}
-use Rattle.vx_values.specs.ValueView.{val_of, test_of}
+use Rattle.vx_rows_values.specs.declared.value.ColType.{ColType}
+use Rattle.vx_rows_values.specs.ValueView.{val_of, test_of}
 use Rattle.vx_plan_nodes.specs.Plan.{Size, one_worker, group_of, Route, by_hash, by_range, Part, one, any, all, routed, Claim, Side, column, constant, Condition, Aggregate, least, greatest, sum, count_rows, Unary, select, project, distinct, sort, group, Phase, plain, partial, final, Binary, union, join, ExchangeKind, route_to, round, broadcast, gather, concat, Plan}
 use Rattle.vx_plan_nodes.specs.Plan as plan
-use Rattle.vx_values.specs.Values.{Name}
+use Rattle.vx_rows_values.specs.Values.{Name}
 use Rattle.vx_plan_nodes.specs.declared.typed.Size as rust_size
 use Rattle.vx_plan_nodes.specs.declared.typed.Size.TheVariants as size
 use Rattle.vx_plan_nodes.specs.declared.typed.Route as rust_route

@@ -3,9 +3,9 @@ use Rattle.std.specs.Prelude.{ℕ, List}
 use denote.Struct.Props.{props}
 use Rattle.std.specs.Coded.{coded_list}
 use base.Stored.{Coded-set}
-use Rattle.vx_values.specs.declared.value.ColType.{ColType}
-use Rattle.vx_values.specs.contracts.value.ColType.{the_row}
-use Rattle.vx_relations.specs.Relation.{Relation}
+use Rattle.vx_rows_values.specs.declared.value.ColType.{ColType}
+use Rattle.vx_rows_values.specs.contracts.value.ColType.{the_row}
+use Rattle.vx_catalog_relations.specs.Relation.{Relation}
 use Rattle.vx_plan_nodes.specs.Outline.{Columns, Outline, scan, unary, binary, exchange}
 use Rattle.vx_plan_nodes.specs.Outputs.{IsOutputOf, HasOutputs}
 

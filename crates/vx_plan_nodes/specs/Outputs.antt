@@ -1,7 +1,7 @@
 -- What a node says of its own output: the types that the plan gives it, and a name for each column.
 use Rattle.std.specs.Prelude.{◌≡◌, ℕ, List, length}
-use Rattle.vx_values.specs.declared.value.ColType.{ColType}
-use Rattle.vx_relations.specs.Relation.{Relation}
+use Rattle.vx_rows_values.specs.declared.value.ColType.{ColType}
+use Rattle.vx_catalog_relations.specs.Relation.{Relation}
 use Rattle.vx_plan_nodes.specs.Outline.{Columns, Outline, scan, unary, binary, exchange, columns, plan_in}
 use Rattle.vx_plan_nodes.specs.Types.{types_of}
 

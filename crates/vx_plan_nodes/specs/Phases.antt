@@ -1,9 +1,9 @@
 -- Grouping in two phases (Graefe's local and global aggregation): a partial grouping on each worker, exchanges, and a final one that puts the parts together.
 use Rattle.std.specs.Prelude.{◌≡◌, ℕ, zero, suc, ◌==◌, Bool, true, false, not, ◌&&◌, List, [], ◌∷◌, ◌++◌, map, flat_map, length}
 use Rattle.std.specs.List.{list_all}
-use Rattle.vx_values.specs.Values.{Row, row_eq, pick}
-use Rattle.vx_values.specs.Order.{agree}
-use Rattle.vx_values.specs.Bags.{SameRows}
+use Rattle.vx_rows_values.specs.Values.{Row, row_eq, pick}
+use Rattle.vx_rows_values.specs.Order.{agree}
+use Rattle.vx_rows_values.specs.Bags.{SameRows}
 use Rattle.vx_plan_nodes.specs.Plan.{partial, final, Aggregate, least, greatest, sum, count_rows, Unary, group, Plan, scan, unary, binary, exchange}
 use Rattle.vx_plan_nodes.specs.Serial.{aggregate_of, group_keys}
 

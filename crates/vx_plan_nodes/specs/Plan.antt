@@ -1,7 +1,7 @@
 -- Typed plans: columns by position, nodes by their numbers in preorder. The exchange is Graefe's: producers below it, consumers above it.
 use Rattle.std.specs.Prelude.{ℕ, ◌==◌, Bool, true, false, List}
-use Rattle.vx_values.specs.Values.{Val}
-pub use Rattle.vx_values.specs.Test.{Test, equal, unequal, below, at_most, above, at_least}
+use Rattle.vx_rows_values.specs.Values.{Val}
+pub use Rattle.vx_rows_values.specs.Test.{Test, equal, unequal, below, at_most, above, at_least}
 
 -- the number of workers: one, or that of a declared size name
 pub data Size : Type 0 where

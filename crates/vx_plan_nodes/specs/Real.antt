@@ -1,6 +1,6 @@
 -- When an overflow that a run reports is one of its plan.
 use Rattle.std.specs.Prelude.{ℕ, ◌⊎◌, List}
-use Rattle.vx_values.specs.Values.{Row}
+use Rattle.vx_rows_values.specs.Values.{Row}
 use Rattle.vx_plan_nodes.specs.Plan.{Plan}
 use Rattle.vx_plan_nodes.specs.Serial.{serial, IsOverflow, HasTooLong, HasLargePart}
 use Rattle.vx_plan_nodes.specs.Erase.{erase}

@@ -1,8 +1,8 @@
 -- Where an exchange sends rows (Graefe's partitioning: hash, range, round robin, broadcast, and to one).
 use Rattle.std.specs.Prelude.{◌≡◌, ℕ, ◌<◌, ◌==◌, List, filter, ◌-◌, min}
 use Rattle.std.specs.Ordering.{is_le}
-use Rattle.vx_values.specs.Values.{Row, pick, Val, val_cmp, value_at}
-use Rattle.vx_values.specs.Bags.{count}
+use Rattle.vx_rows_values.specs.Values.{Row, pick, Val, val_cmp, value_at}
+use Rattle.vx_rows_values.specs.Bags.{count}
 use Rattle.vx_plan_nodes.specs.Plan.{Route, ExchangeKind, route_to, round, broadcast, gather, by_hash, by_range, concat}
 use Rattle.vx_plan_nodes.specs.Streams.{Streams, Dealt}
 

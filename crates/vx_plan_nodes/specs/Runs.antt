@@ -1,7 +1,7 @@
 -- The run relation: which streams a plan's workers may make together, without packets and order of events (Graefe's exchange).
 use Rattle.std.specs.Prelude.{◌≡◌, ℕ, ◌<◌, true, false, List, Some, Bool}
-use Rattle.vx_values.specs.Values.{Row}
-use Rattle.vx_values.specs.Order.{sorted}
+use Rattle.vx_rows_values.specs.Values.{Row}
+use Rattle.vx_rows_values.specs.Order.{sorted}
 use Rattle.vx_plan_nodes.specs.Plan.{ExchangeKind, target, Plan, scan, unary, binary, exchange, size, route_to, round, broadcast, gather, concat}
 use Rattle.vx_plan_nodes.specs.Serial.{unary_rows, binary_rows}
 use Rattle.vx_plan_nodes.specs.Streams.{workers, Streams, Dealt, joined}

@@ -3,10 +3,10 @@ use Rattle.std.specs.Prelude.{ℕ, ℤ, pos, negsuc, ◌-ℤ◌, suc, Bool, true
 use Rattle.std.specs.List.{list_all, list_any}
 use Rattle.std.specs.declared.cmp.Ordering.{Ordering}
 use Rattle.std.specs.Ordering.{is_eq, is_ne, is_lt, is_le, is_gt, is_ge}
-use Rattle.vx_values.specs.Values.{Val, num, text, Row, val_cmp, row_eq, value_at, pick}
-use Rattle.vx_values.specs.Order.{sort_on}
-use Rattle.vx_values.specs.Types.{fits_64}
-use Rattle.vx_values.specs.Bags.{total, count}
+use Rattle.vx_rows_values.specs.Values.{Val, num, text, Row, val_cmp, row_eq, value_at, pick}
+use Rattle.vx_rows_values.specs.Order.{sort_on}
+use Rattle.vx_rows_values.specs.Types.{fits_64}
+use Rattle.vx_rows_values.specs.Bags.{total, count}
 use Rattle.vx_plan_nodes.specs.Plan.{Side, column, constant, Test, equal, unequal, below, at_most, above, at_least, Condition, Aggregate, least, greatest, sum, count_rows, Unary, select, project, distinct, sort, group, Binary, union, join, Plan, scan, unary, binary, exchange, partial}
 
 -- the value of a condition's right side

@@ -1,7 +1,7 @@
 -- Streams: a list of rows for each worker of a node, and lists that are dealt out or shuffled.
 use Rattle.std.specs.Prelude.{◌≡◌, ℕ, zero, suc, ◌+◌, ◌<◌, ◌==◌, nat_lt, true, cond, List, [], ◌∷◌, ◌++◌, map}
 use Rattle.std.specs.List.{list_all}
-use Rattle.vx_values.specs.Values.{Row}
+use Rattle.vx_rows_values.specs.Values.{Row}
 use Rattle.vx_plan_nodes.specs.Plan.{Size, one_worker, group_of}
 
 -- how many workers a size has, where each declared size name is bound to a number

@@ -1,19 +1,19 @@
 -- Typed plans: each node names what there is, and compares, sums and routes what has the type for it.
-use Rattle.vx_values.specs.Lists.{is_some_list}
+use Rattle.vx_rows_values.specs.Lists.{is_some_list}
 use Rattle.std.specs.Prelude.{◌≡◌, ℕ, ◌==◌, nat_lt, nat_le, Bool, true, false, not, ◌&&◌, ◌||◌, List, [], ◌∷◌, length, slice_index_or}
 use Rattle.std.specs.List.{list_all, list_any}
 use Rattle.std.specs.Ordering.{is_lt}
-use Rattle.vx_values.specs.declared.value.ColType.{ColType}
-use Rattle.vx_values.specs.declared.value.ColType.TheVariants.{Int, Text}
-use Rattle.vx_values.specs.Values.{Val, val_cmp}
-use Rattle.vx_values.specs.Types.{type_of, type_at, is_held}
-use Rattle.vx_relations.specs.Relation.{Relation}
-use Rattle.vx_relations.specs.Catalog.{relation_at, all_below, are_distinct}
+use Rattle.vx_rows_values.specs.declared.value.ColType.{ColType}
+use Rattle.vx_rows_values.specs.declared.value.ColType.TheVariants.{Int, Text}
+use Rattle.vx_rows_values.specs.Values.{Val, val_cmp}
+use Rattle.vx_rows_values.specs.Types.{type_of, type_at, is_held}
+use Rattle.vx_catalog_relations.specs.Relation.{Relation}
+use Rattle.vx_catalog_relations.specs.Catalog.{relation_at, all_below, are_distinct}
 use Rattle.vx_plan_nodes.specs.Plan.{Size, one_worker, group_of, Route, by_hash, by_range, Part, routed, Claim, Side, column, constant, Condition, Aggregate, least, greatest, sum, count_rows, Unary, select, project, distinct, sort, group, Binary, union, join, ExchangeKind, route_to, round, broadcast, gather, Plan, scan, unary, binary, exchange, concat}
 use Rattle.vx_plan_nodes.specs.Types.{types_of}
 use Rattle.vx_plan_nodes.specs.Numbering.{is_numbered}
 use Rattle.vx_plan_nodes.specs.Phases.{phase_fits, both_closed, is_open}
-use Rattle.vx_values.specs.Limits.{max_columns, max_size_names}
+use Rattle.vx_rows_values.specs.Limits.{max_columns, max_size_names}
 
 -- what the nodes of a plan may name: the relations of a catalog, the plan's ranges by their bounds, and so many size names
 pub record Scope : Type 0 where

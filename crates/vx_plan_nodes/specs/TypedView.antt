@@ -3,7 +3,7 @@ use Rattle.std.specs.Prelude.{map, string_bytes}
 use Rattle.vx_plan_nodes.specs.declared.typed_plan.TypedPlan.{TypedPlan}
 use Rattle.vx_plan_nodes.specs.Plan.{Plan}
 use Rattle.vx_plan_nodes.specs.Typed.{Scope}
-use Rattle.vx_values.specs.Ranges.{range_form}
+use Rattle.vx_rows_values.specs.Ranges.{range_form}
 use Rattle.vx_plan_nodes.specs.Names.{Names, scope_of, TypedPlanView}
 use Rattle.vx_plan_nodes.specs.Outline.{outline_of, plan_of}
 

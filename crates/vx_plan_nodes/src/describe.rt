@@ -7,8 +7,8 @@ ghost use Rattle.vx_plan_nodes.specs.DescribeView.{described_of, described_both_
 ghost use Rattle.vx_plan_nodes.specs.Outline.{unary_of, binary_of};
 
 use crate::typed::{Binary, Phase, Projected, Unary};
-use vx_values::ColType;
-use vx_values::limits::MAX_COLUMNS;
+use vx_rows_values::ColType;
+use vx_rows_values::limits::MAX_COLUMNS;
 
 /// The columns of its input that an operator keeps.
 #[derive(Clone, Copy)]

@@ -5,7 +5,7 @@ ghost use Rattle.std.specs.Arc.{arc_value};
 ghost use Rattle.std.specs.Ordering.{nat_cmp};
 ghost use Rattle.std.specs.Cmp.{partial_equiv_from_equiv};
 ghost use Rattle.std.specs.Cmp.Lexicographic.{slice_cmp, nat_list_eq_equiv, nat_list_cmp_total, texts_ties, texts_po};
-ghost use Rattle.vx_relations.specs.Naming.{name_at};
+ghost use Rattle.vx_catalog_relations.specs.Naming.{name_at};
 
 use crate::halves::{compare_halves, is_text_of};
 use std::alloc::{AllocError, Global};
@@ -36,8 +36,8 @@ impl Drop for Name {
 impl Model for Name {
     ghost use Rattle.std.specs.Prelude.{◌<◌, ◌++◌, map, length, string_bytes};
     ghost use Rattle.std.specs.Arc.{arc_value};
-    ghost use Rattle.vx_values.specs.Values.{Name};
-    ghost use Rattle.vx_relations.specs.Naming.{name_at};
+    ghost use Rattle.vx_rows_values.specs.Values.{Name};
+    ghost use Rattle.vx_catalog_relations.specs.Naming.{name_at};
 
     ghost Value = { Name };
 

@@ -1,13 +1,13 @@
 //! What a node says of its output.
 
 ghost use Rattle.std.specs.Prelude.{◌≡◌, ℕ};
-ghost use Rattle.vx_relations.specs.Relation.{Relation};
+ghost use Rattle.vx_catalog_relations.specs.Relation.{Relation};
 ghost use Rattle.vx_plan_nodes.specs.Outline.{outline_of, plan_of};
 ghost use Rattle.vx_plan_nodes.specs.Types.{types_of};
 ghost use Rattle.vx_plan_nodes.specs.Outputs.{HasOutputs};
 
 use crate::typed::TypedNode;
-use vx_values::ColType;
+use vx_rows_values::ColType;
 
 /// The types of the columns of a node's output, as the node says them. In a typed plan they are those that the
 /// operators at the node and below it give.

@@ -1,12 +1,12 @@
 //! Hash routers.
 
-use vx_values::Value;
+use vx_rows_values::Value;
 
 /// Sends each key to one of n consumers: any function of the route's name, the key and n.
 pub trait Router {
     ghost use Rattle.std.specs.Prelude.{◌≡◌, ℕ, ◌<◌, ◌∷◌, [], List, length, map};
-    ghost use Rattle.vx_values.specs.Values.{Row, num};
-    ghost use Rattle.vx_values.specs.ValueView.{val_of};
+    ghost use Rattle.vx_rows_values.specs.Values.{Row, num};
+    ghost use Rattle.vx_rows_values.specs.ValueView.{val_of};
 
     // The consumer of a key among n, by the route's name.
     ghost route_of: { Self → List ℕ → Row → ℕ → ℕ };

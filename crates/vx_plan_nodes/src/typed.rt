@@ -6,7 +6,7 @@ ghost use Rattle.vx_plan_nodes.specs.Plan.{claim, number, size, target};
 
 use crate::name::Name;
 use std::sync::Arc;
-use vx_values::{ColType, Test, Value};
+use vx_rows_values::{ColType, Test, Value};
 
 /// How many workers: one, or as many as a declared size name is bound to, by the name's number.
 #[derive(Clone, Copy, PartialEq, Eq)]

@@ -2,8 +2,8 @@
 
 ghost use Rattle.std.specs.Prelude.{◌≡◌, ◌≤◌, true, false, nat_le, map, length, string_bytes};
 ghost use Rattle.std.specs.List.{list_all};
-ghost use Rattle.vx_values.specs.Ranges.{range_form};
-ghost use Rattle.vx_relations.specs.Catalog.{relation_at};
+ghost use Rattle.vx_rows_values.specs.Ranges.{range_form};
+ghost use Rattle.vx_catalog_relations.specs.Catalog.{relation_at};
 ghost use Rattle.vx_plan_nodes.specs.Names.{scope_of};
 ghost use Rattle.vx_plan_nodes.specs.Numbering.{nodes, is_numbered};
 ghost use Rattle.vx_plan_nodes.specs.Outline.{outline_of, plan_of};
@@ -11,11 +11,11 @@ ghost use Rattle.vx_plan_nodes.specs.Phases.{is_open};
 ghost use Rattle.vx_plan_nodes.specs.Typed.{is_range, typed, IsTyped};
 ghost use Rattle.vx_plan_nodes.specs.Outputs.{HasOutputs};
 ghost use Rattle.vx_plan_nodes.specs.OutputProps.{outputs-prop};
-ghost use Rattle.vx_values.specs.Limits.{max_nodes, max_size_names};
+ghost use Rattle.vx_rows_values.specs.Limits.{max_nodes, max_size_names};
 
 use crate::typed::TypedNode;
-use vx_relations::Catalog;
-use vx_values::NamedRange;
+use vx_catalog_relations::Catalog;
+use vx_rows_values::NamedRange;
 
 /// A plan with its catalog. Every node names what there is, has the types that it needs, says which types its output
 /// has, and is numbered in preorder from 0. Each grouping in two steps has both of them. There are at most 1,000 nodes.

@@ -1,9 +1,9 @@
 -- What a packet brings fits its types.
 use Rattle.std.specs.Prelude.{List}
 use Rattle.std.specs.List.{AllByRecursion}
-use Rattle.vx_values.specs.Values.{Row}
-use Rattle.vx_values.specs.Types.{Fits}
-use Rattle.vx_values.specs.declared.value.ColType.{ColType}
+use Rattle.vx_rows_values.specs.Values.{Row}
+use Rattle.vx_rows_values.specs.Types.{Fits}
+use Rattle.vx_rows_values.specs.declared.value.ColType.{ColType}
 use Rattle.vx_ports.specs.Packets.{HasFew, FitsContent}
 use Rattle.vx_ports.specs.Seen.{content_of}
 use Rattle.vx_ports.specs.declared.packet.PacketKind.{PacketKind}

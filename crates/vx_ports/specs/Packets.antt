@@ -1,10 +1,10 @@
 -- Packets, and what went through a port (Graefe's packets and end-of-stream marks).
 use Rattle.std.specs.Prelude.{◌≡◌, ℕ, Bool, true, false, List, [], ◌∷◌, ◌++◌, ◌||◌, ◌&&◌, not, ◌≤◌, length}
 use Rattle.std.specs.List.{AllByRecursion}
-use Rattle.vx_values.specs.Values.{Row}
-use Rattle.vx_values.specs.declared.value.ColType.{ColType}
-use Rattle.vx_values.specs.Types.{Fits}
-use Rattle.vx_values.specs.Limits.{max_packet_rows}
+use Rattle.vx_rows_values.specs.Values.{Row}
+use Rattle.vx_rows_values.specs.declared.value.ColType.{ColType}
+use Rattle.vx_rows_values.specs.Types.{Fits}
+use Rattle.vx_rows_values.specs.Limits.{max_packet_rows}
 
 -- what a packet brings: rows, or one of the two ends of a stream
 pub data Content : Type 0 where

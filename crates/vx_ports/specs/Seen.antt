@@ -1,6 +1,6 @@
 -- What a packet of the program brings, as plain data.
 use Rattle.std.specs.Prelude.{List}
-use Rattle.vx_values.specs.Values.{Row}
+use Rattle.vx_rows_values.specs.Values.{Row}
 use Rattle.vx_ports.specs.Packets.{Content, brings, last, fault}
 use Rattle.vx_ports.specs.declared.packet.PacketKind.{PacketKind}
 use Rattle.vx_ports.specs.declared.packet.PacketKind.TheVariants as kind

@@ -1,10 +1,10 @@
 //! Packets: the units in which an exchange passes rows on (Graefe's packets).
 
-ghost use Rattle.vx_values.specs.Limits.{max_packet_rows};
+ghost use Rattle.vx_rows_values.specs.Limits.{max_packet_rows};
 
 use std::marker::Model;
-use vx_values::ColType;
-use vx_views::Rows;
+use vx_rows_values::ColType;
+use vx_rows_views::Rows;
 
 /// What a packet is: rows, or one of the two ends of a stream.
 #[derive(Clone, Copy, PartialEq, Eq)]

@@ -6,17 +6,17 @@ use Rattle.std.specs.Prelude.{All}
 use Rattle.std.proofs.lemmas.List.{same_lists, get_or_default}
 use Rattle.std.proofs.lemmas.List.Folds.{list_all-append, list_all_more}
 use Rattle.std.proofs.lemmas.Bool.{cases_lt}
-use Rattle.vx_values.proofs.Booleans.{and-both}
+use Rattle.vx_rows_values.proofs.Booleans.{and-both}
 use Rattle.std.proofs.lemmas.List.{map-set, length-set, length-map, get_or-set_same, get_or-set_other, take_more, take_more_set, take_all}
 use Rattle.std.proofs.Math.ListN.{set}
 use Rattle.std.proofs.Common.{◌≢◌}
 use Rattle.std.proofs.lemmas.Bool.{cases_eq}
-use Rattle.vx_values.specs.declared.value.ColType.{ColType}
+use Rattle.vx_rows_values.specs.declared.value.ColType.{ColType}
 use Rattle.vx_rows.specs.declared.column.Column.{Column}
 use Rattle.vx_rows.specs.declared.column.Column.TheVariants as column
-use Rattle.vx_values.specs.Values.{Val, Row}
+use Rattle.vx_rows_values.specs.Values.{Val, Row}
 use Rattle.vx_rows.specs.Lists.{each_below}
-use Rattle.vx_values.specs.Types.{type_of, is_held, Fits}
+use Rattle.vx_rows_values.specs.Types.{type_of, is_held, Fits}
 use Rattle.vx_rows.specs.Columns.{column_type, size, entry, row_of, rows_of, AreLong, KeepsFront, KeepRows, Fills, AreRows, AreHeld}
 use Rattle.vx_rows.specs.View.{RowsView}
 use Rattle.vx_rows.proofs.Below.{length-each_below, get_or-each_below, each_below-ext, each_below-more}

@@ -3,11 +3,11 @@ use Rattle.std.proofs.Common.{◌≡◌, ℕ, true, ◌+◌, ◌-◌, ◌<◌, �
 use Rattle.std.specs.Prelude.{slice_range}
 use Rattle.std.specs.List.{list_all, AllByRecursion}
 use Rattle.std.proofs.lemmas.List.{length-map}
-use Rattle.vx_values.specs.declared.value.ColType.{ColType}
+use Rattle.vx_rows_values.specs.declared.value.ColType.{ColType}
 use Rattle.vx_rows.specs.declared.column.Column.{Column}
-use Rattle.vx_values.specs.Values.{Val, Row}
+use Rattle.vx_rows_values.specs.Values.{Val, Row}
 use Rattle.vx_rows.specs.Lists.{each_below}
-use Rattle.vx_values.specs.Types.{type_of, is_held, Fits}
+use Rattle.vx_rows_values.specs.Types.{type_of, is_held, Fits}
 use Rattle.vx_rows.specs.Columns.{size, row_of, rows_of, KeepRows, Fills, AreRows}
 use Rattle.vx_rows.specs.View.{RowsView, row, ArePositions}
 use Rattle.vx_rows.proofs.Below.{each_below-one, slice_range-each_below}

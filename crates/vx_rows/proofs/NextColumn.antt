@@ -3,9 +3,9 @@ use Rattle.std.proofs.Common.{◌≡◌, ℕ, true, ◌+◌, ◌<◌, ◌≤◌,
 use Rattle.std.specs.List.{list_all}
 use Rattle.std.proofs.lemmas.List.{length-map, take_all}
 use Rattle.vx_rows.specs.declared.column.Column.{Column}
-use Rattle.vx_values.specs.declared.value.ColType.TheVariants as kind
-use Rattle.vx_values.specs.Values.{Val}
-use Rattle.vx_values.specs.Types.{type_of, type_at, is_held}
+use Rattle.vx_rows_values.specs.declared.value.ColType.TheVariants as kind
+use Rattle.vx_rows_values.specs.Values.{Val}
+use Rattle.vx_rows_values.specs.Types.{type_of, type_at, is_held}
 use Rattle.vx_rows.specs.Columns.{size, entry, row_of, AreLong, Fills}
 use Rattle.vx_rows.proofs.Fill.{map_at, fill_next, fill_as, held_more}
 

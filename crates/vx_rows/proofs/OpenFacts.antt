@@ -3,14 +3,14 @@ use Rattle.std.proofs.Common.{◌≡◌, ℕ, true, ◌+◌, ◌<◌, ◌≤◌,
 use Rattle.std.specs.List.{list_all}
 use Rattle.std.proofs.lemmas.Bool.{cases_lt}
 use Rattle.std.proofs.lemmas.List.{length-map, length-take-le, take-map, take_all, get_or-take}
-use Rattle.vx_values.specs.declared.value.ColType.{ColType}
+use Rattle.vx_rows_values.specs.declared.value.ColType.{ColType}
 use Rattle.vx_rows.specs.declared.column.Column.{Column}
-use Rattle.vx_values.specs.Values.{Val}
-use Rattle.vx_values.specs.Types.{is_held}
+use Rattle.vx_rows_values.specs.Values.{Val}
+use Rattle.vx_rows_values.specs.Types.{is_held}
 use Rattle.vx_rows.specs.Columns.{size, entry, row_of, rows_of, LongTo, KeepRows, Fills}
 use Rattle.vx_rows.specs.Open.{Opened, front_of, AreOpen}
 use Rattle.vx_rows.proofs.Below.{each_below-next}
-use Rattle.vx_values.proofs.Booleans.{and-both}
+use Rattle.vx_rows_values.proofs.Booleans.{and-both}
 use Rattle.vx_rows.proofs.Fill.{held_append, same_kinds_length, still_rows, width_is}
 
 abbrev pub viewed_open : List ColType → ℕ → ℕ → List Column → Opened

@@ -3,18 +3,18 @@ use Rattle.std.proofs.Common.{◌≡◌, ℕ, zero, suc, ◌+◌, ◌-◌, ◌<�
 use Rattle.std.specs.List.{AllByRecursion}
 use Rattle.std.proofs.lemmas.Bool.{cases_lt}
 use Rattle.std.proofs.lemmas.List.Elements.{filter-append}
-use Rattle.vx_values.specs.Values.{Row, row_cmp, pick}
+use Rattle.vx_rows_values.specs.Values.{Row, row_cmp, pick}
 use Rattle.std.proofs.lemmas.Bool.{ltb-true, ltb-false}
-use Rattle.vx_values.specs.Keys.{first_clash, earlier_clash}
+use Rattle.vx_rows_values.specs.Keys.{first_clash, earlier_clash}
 use Rattle.vx_rows.specs.Lists.{each_below}
 use Rattle.vx_rows.specs.Sorting.{order_on}
 use Rattle.vx_rows.specs.View.{ArePositions}
-use Rattle.vx_values.proofs.Compare.{row_cmp_total, row_le-trans, row_eq-refl, agree-both}
-use Rattle.vx_values.proofs.Booleans.{and-left, and-right}
+use Rattle.vx_rows_values.proofs.Compare.{row_cmp_total, row_le-trans, row_eq-refl, agree-both}
+use Rattle.vx_rows_values.proofs.Booleans.{and-left, and-right}
 use Rattle.vx_rows.proofs.Below.{all_push}
 use Rattle.vx_rows.proofs.SortFacts.{ordered, same_rank, alike, low, eq-le, both-le, sort-is-sorted, sort-alike}
 use Rattle.vx_rows.proofs.PlaceFacts.{order-there}
-use Rattle.vx_values.proofs.ClashFacts.{meet, Apart, IsFirst, clash-none, clash-some}
+use Rattle.vx_rows_values.proofs.ClashFacts.{meet, Apart, IsFirst, clash-none, clash-some}
 
 -- each number is above those before it
 abbrev Rising : List ℕ → Type 0

@@ -4,9 +4,9 @@ use Rattle.std.specs.List.{list_all, AllByRecursion}
 use Rattle.std.proofs.lemmas.List.{same_lists, length-map, drop_all, take_more, take_all, length-append, get_or_append_left, get_or-append_right, append-nil, get_or_default}
 use Rattle.std.proofs.lemmas.Grind.{flat_map-append}
 use Rattle.std.proofs.lemmas.Bool.{cases_lt}
-use Rattle.vx_values.specs.declared.value.ColType.{ColType}
-use Rattle.vx_values.specs.Values.{Row, num, value_at}
-use Rattle.vx_values.specs.Types.{type_of, is_held, Fits}
+use Rattle.vx_rows_values.specs.declared.value.ColType.{ColType}
+use Rattle.vx_rows_values.specs.Values.{Row, num, value_at}
+use Rattle.vx_rows_values.specs.Types.{type_of, is_held, Fits}
 use Rattle.vx_rows.specs.declared.column.Column.{Column}
 use Rattle.vx_rows.specs.Columns.{column_type, size, entry, row_of, rows_of, LongTo, AreLong, KeepsFront, KeepRows, Fills}
 use Rattle.vx_rows.specs.View.{RowsView, row}

@@ -2,13 +2,13 @@
 use Rattle.std.proofs.Common.{◌≡◌, ℕ, zero, suc, ◌<◌, List, [], ◌∷◌, map, length, get_or, refl, sym, ap, ◌∙◌, Ordering, Less, Equal, Greater}
 use Rattle.std.specs.Ordering.{ordering_then, int_cmp}
 use Rattle.std.specs.List.{AllByRecursion}
-use Rattle.vx_values.specs.declared.value.ColType.{ColType}
-use Rattle.vx_values.specs.declared.value.ColType.TheVariants as kind
+use Rattle.vx_rows_values.specs.declared.value.ColType.{ColType}
+use Rattle.vx_rows_values.specs.declared.value.ColType.TheVariants as kind
 use Rattle.vx_rows.specs.declared.sorting.SortEntry.{SortEntry}
-use Rattle.vx_values.specs.Values.{Val, num, text, Row, row_cmp, val_cmp, value_at, pick}
-use Rattle.vx_values.specs.Order.{sort_on}
+use Rattle.vx_rows_values.specs.Values.{Val, num, text, Row, row_cmp, val_cmp, value_at, pick}
+use Rattle.vx_rows_values.specs.Order.{sort_on}
 use Rattle.vx_rows.specs.Lists.{each_below}
-use Rattle.vx_values.specs.Types.{type_of, type_at, Fits}
+use Rattle.vx_rows_values.specs.Types.{type_of, type_at, Fits}
 use Rattle.vx_rows.specs.View.{ArePositions}
 use Rattle.vx_rows.specs.Sorting.{sort_by, order_on, number_of, first_number, place_of, place_rank}
 use Rattle.vx_rows.proofs.Below.{each_below-all, all_at, all_here, map-each_below, each_below-is}

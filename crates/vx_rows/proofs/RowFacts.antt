@@ -1,10 +1,10 @@
 -- Rows value by value.
 use Rattle.std.proofs.Common.{◌≡◌, ℕ, Bool, true, false, List, map, length, drop, refl, sym, ap, ◌∙◌}
 use Rattle.std.proofs.lemmas.List.{length-map}
-use Rattle.vx_values.specs.declared.value.Value.{Value}
-use Rattle.vx_values.specs.ValueView.{val_of}
-use Rattle.vx_values.specs.Values.{Row, row_eq}
-use Rattle.vx_values.proofs.Compare.{row_eq-same}
+use Rattle.vx_rows_values.specs.declared.value.Value.{Value}
+use Rattle.vx_rows_values.specs.ValueView.{val_of}
+use Rattle.vx_rows_values.specs.Values.{Row, row_eq}
+use Rattle.vx_rows_values.proofs.Compare.{row_eq-same}
 
 abbrev pub rest : List Value → ℕ → Row
 rest xs k = map val_of (drop k xs)

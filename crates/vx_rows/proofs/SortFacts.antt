@@ -5,11 +5,11 @@ use Rattle.std.specs.List.{list_all, AllByRecursion}
 use Rattle.std.specs.Cmp.{IsStrictWeakOrder}
 use Rattle.std.proofs.lemmas.List.Sorted.{ranks_by}
 use Rattle.std.specs.List.Sorted.{IsSortedBy, IsStableBy, ties}
-use Rattle.vx_values.specs.Values.{Row, row_cmp, row_eq, pick}
-use Rattle.vx_values.specs.Order.{compare_on, insert_sorted, sort_on}
+use Rattle.vx_rows_values.specs.Values.{Row, row_cmp, row_eq, pick}
+use Rattle.vx_rows_values.specs.Order.{compare_on, insert_sorted, sort_on}
 use Rattle.vx_rows.specs.Sorting.{insert_by, sort_by}
-use Rattle.vx_values.proofs.Compare.{row_eq-same, row_eq-refl, row_cmp_total, row_le-trans, row_le-other}
-use Rattle.vx_values.proofs.Booleans.{and-left, and-right, and-both}
+use Rattle.vx_rows_values.proofs.Compare.{row_eq-same, row_eq-refl, row_cmp_total, row_le-trans, row_le-other}
+use Rattle.vx_rows_values.proofs.Booleans.{and-left, and-right, and-both}
 
 -- rows that tie are those that agree
 tie-is : (o p : Ordering) → o ≡ ordering_reverse p → (not (is_lt o) && not (is_lt p)) ≡ is_eq o

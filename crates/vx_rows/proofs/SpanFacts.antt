@@ -3,10 +3,10 @@ use Rattle.std.proofs.Common.{◌≡◌, ◌≢◌, ℕ, ℤ, pos, ◌+ℤ◌, �
 use Rattle.std.proofs.lemmas.Bool.{cases_lt, cases_eq}
 use Rattle.std.proofs.lemmas.List.{get_or-set_same, get_or-set_other}
 use Rattle.std.proofs.lemmas.Int.{ints}
-use Rattle.vx_values.specs.Values.{Row}
-use Rattle.vx_values.specs.Keys.{first_clash}
+use Rattle.vx_rows_values.specs.Values.{Row}
+use Rattle.vx_rows_values.specs.Keys.{first_clash}
 use Rattle.vx_rows.specs.Numbers.{number_at, Differ, IsFirstRepeat, AreFirstEqual, AreKeyNumbers}
-use Rattle.vx_values.proofs.ClashFacts.{meet, clash-none, clash-some}
+use Rattle.vx_rows_values.proofs.ClashFacts.{meet, clash-none, clash-some}
 
 -- the marks after the first n numbers: those that were seen have one, and no others, and they differ
 pub record Marks (numbers : List ℤ) (low : ℤ) (n : ℕ) (seen : List Bool) : Type 0 where

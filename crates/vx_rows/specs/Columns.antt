@@ -1,12 +1,12 @@
 -- A column's values by their numbers. A column may have more values than there are rows: those past the last row are never seen.
 use Rattle.std.specs.Prelude.{◌≡◌, ℕ, ◌+◌, ◌++◌, take, ◌<◌, ◌≤◌, pos, true, List, [], map, length, slice_index, slice_index_or}
-use Rattle.vx_values.specs.declared.value.ColType.{ColType}
-use Rattle.vx_values.specs.declared.value.ColType.TheVariants as kind
+use Rattle.vx_rows_values.specs.declared.value.ColType.{ColType}
+use Rattle.vx_rows_values.specs.declared.value.ColType.TheVariants as kind
 use Rattle.vx_rows.specs.declared.column.Column.{Column}
 use Rattle.vx_rows.specs.declared.column.Column.TheVariants as column
 use Rattle.std.specs.List.{list_all}
-use Rattle.vx_values.specs.Types.{is_held}
-use Rattle.vx_values.specs.Values.{Val, num, text, Row}
+use Rattle.vx_rows_values.specs.Types.{is_held}
+use Rattle.vx_rows_values.specs.Values.{Val, num, text, Row}
 use Rattle.vx_rows.specs.Lists.{each_below}
 
 -- the type of its values

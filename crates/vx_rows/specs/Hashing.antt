@@ -1,7 +1,7 @@
 -- What a hasher is fed of rows.
 use Rattle.std.specs.Prelude.{ℕ, List, flat_map}
 use Rattle.std.specs.Hash as fed
-use Rattle.vx_values.specs.Values.{Val, num, text, Row}
+use Rattle.vx_rows_values.specs.Values.{Val, num, text, Row}
 
 -- of a value: what std feeds of a number or a text
 abbrev pub val_feed : Val → List (List ℕ)

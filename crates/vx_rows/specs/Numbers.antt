@@ -1,7 +1,7 @@
 -- Numbers that are kept in 32 bits or in 64.
 use Rattle.std.specs.Prelude.{◌≡◌, ◌≢◌, ◌↔◌, ℕ, ◌<◌, ◌≤◌, ℤ, pos, ◌+ℤ◌, ◌≤ℤ◌, ◌<ℤ◌, true, List, [], map, length, slice_index_or, Option, Some, None}
-use Rattle.vx_values.specs.Values.{Row}
-use Rattle.vx_values.specs.Order.{agree}
+use Rattle.vx_rows_values.specs.Values.{Row}
+use Rattle.vx_rows_values.specs.Order.{agree}
 use Rattle.vx_rows.specs.declared.numbers.NumberWidth.{NumberWidth}
 use Rattle.vx_rows.specs.declared.numbers.NumberWidth.TheVariants as number_width
 use Rattle.vx_rows.specs.declared.numbers.NumbersRef.{NumbersRef}

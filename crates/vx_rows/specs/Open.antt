@@ -1,10 +1,10 @@
 -- Rows, and the first values of one more row, which is being filled.
 use Rattle.std.specs.Prelude.{◌≡◌, ℕ, ◌+◌, ◌≤◌, true, List, length, take}
 use Rattle.std.specs.List.{list_all}
-use Rattle.vx_values.specs.declared.value.ColType.{ColType}
+use Rattle.vx_rows_values.specs.declared.value.ColType.{ColType}
 use Rattle.vx_rows.specs.declared.column.Column.{Column}
-use Rattle.vx_values.specs.Types.{is_held}
-use Rattle.vx_values.specs.Values.{Row}
+use Rattle.vx_rows_values.specs.Types.{is_held}
+use Rattle.vx_rows_values.specs.Values.{Row}
 use Rattle.vx_rows.specs.Columns.{row_of, LongTo, AreRows}
 
 -- what a caller sees: the types, the whole rows, and the values of the next row so far

@@ -2,7 +2,7 @@
 use Rattle.std.specs.Prelude.{ℕ, ℤ, pos, cond, List, [], ◌∷◌, length, slice_index_or}
 use Rattle.std.specs.Ordering.{is_le}
 use Rattle.vx_rows.specs.declared.sorting.SortEntry.{SortEntry}
-use Rattle.vx_values.specs.Values.{Val, num, text, Row, row_cmp, value_at, pick}
+use Rattle.vx_rows_values.specs.Values.{Val, num, text, Row, row_cmp, value_at, pick}
 use Rattle.vx_rows.specs.Lists.{each_below}
 
 -- an element goes before the first whose rank is not smaller

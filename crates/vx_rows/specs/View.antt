@@ -1,8 +1,8 @@
 -- What a caller sees of rows.
 use Rattle.std.specs.Prelude.{◌≡◌, ℕ, ◌<◌, List, [], map, slice_index_or, All}
-use Rattle.vx_values.specs.declared.value.ColType.{ColType}
-use Rattle.vx_values.specs.Values.{Row}
-use Rattle.vx_values.specs.Types.{type_of}
+use Rattle.vx_rows_values.specs.declared.value.ColType.{ColType}
+use Rattle.vx_rows_values.specs.Values.{Row}
+use Rattle.vx_rows_values.specs.Types.{type_of}
 
 -- a row has one value of each of these types, in order: of values that a program holds this is all of `Fits`
 abbrev pub HasTypes : List ColType → Row → Type 0

@@ -1,8 +1,8 @@
 //! The first clash of rows on the columns of a key.
 
 ghost use Rattle.std.specs.Prelude.{◌≡◌, ◌<◌, length, None, true, IfOk, IfSome, IsOk, IsTrue, if◌then◌else◌};
-ghost use Rattle.vx_values.specs.Order.{agree, sorted};
-ghost use Rattle.vx_values.specs.Keys.{first_clash, earlier_clash};
+ghost use Rattle.vx_rows_values.specs.Order.{agree, sorted};
+ghost use Rattle.vx_rows_values.specs.Keys.{first_clash, earlier_clash};
 ghost use Rattle.vx_rows.specs.Numbers.{AreKeyNumbers};
 ghost use Rattle.vx_rows.specs.Sorting.{order_on};
 ghost use Rattle.vx_rows.specs.View.{row, AreColumns};

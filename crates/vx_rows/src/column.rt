@@ -1,18 +1,18 @@
 //! The values of one column.
 
 ghost use Rattle.std.specs.Prelude.{◌≡◌, ℕ, ◌+◌, ◌-◌, ◌<◌, ◌≤◌, [], length, pos, slice_index, slice_index_or, true, OnOk, IfOk};
-ghost use Rattle.vx_values.specs.ValueView.{cell_val};
+ghost use Rattle.vx_rows_values.specs.ValueView.{cell_val};
 ghost use Rattle.vx_rows.specs.View.{ArePositions};
-ghost use Rattle.vx_values.specs.Types.{type_of, is_held};
+ghost use Rattle.vx_rows_values.specs.Types.{type_of, is_held};
 ghost use Rattle.vx_rows.specs.Columns.{column_type, size, entry, KeepsFront};
 ghost use Rattle.std.specs.Prelude.{IfSome, IfNone};
-ghost use Rattle.vx_values.specs.declared.value.ColType.TheVariants as kind;
-ghost use Rattle.vx_values.specs.Values.{num, text};
+ghost use Rattle.vx_rows_values.specs.declared.value.ColType.TheVariants as kind;
+ghost use Rattle.vx_rows_values.specs.Values.{num, text};
 
 use crate::numbers::Numbers;
 use crate::texts::Texts;
 use std::alloc::{AllocError, Global};
-use vx_values::{Cell, ColType};
+use vx_rows_values::{Cell, ColType};
 
 /// The values of a column, all of one type.
 #[derive(Drop)]

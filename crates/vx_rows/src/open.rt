@@ -2,15 +2,15 @@
 
 ghost use Rattle.std.specs.Prelude.{◌≡◌, ◌<◌, ◌++◌, ◌∷◌, [], length, OnOk, OnErr, IfOk};
 ghost use Rattle.std.specs.List.{AllByRecursion};
-ghost use Rattle.vx_values.specs.ValueView.{cell_val};
-ghost use Rattle.vx_values.specs.Types.{type_of, type_at, Fits};
+ghost use Rattle.vx_rows_values.specs.ValueView.{cell_val};
+ghost use Rattle.vx_rows_values.specs.Types.{type_of, type_at, Fits};
 
 use crate::column::Column;
 use crate::table::Table;
 use crate::writes::{empty_columns, put_cell};
 use std::alloc::{AllocError, Global};
 use std::marker::Model;
-use vx_values::{Cell, ColType};
+use vx_rows_values::{Cell, ColType};
 
 /// Calls: `new (push_cell* end_row)* push_cell* into_rows`, with as many `push_cell` before each `end_row` as there are columns.
 ///

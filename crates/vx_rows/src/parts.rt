@@ -2,8 +2,8 @@
 
 ghost use Rattle.std.specs.Prelude.{◌≡◌, ℕ, List, ◌+◌, ◌<◌, ◌≤◌, ◌++◌, length, map, true, slice_index_or, All, IfSome, OnOk, OnErr};
 ghost use Rattle.std.specs.List.{AllByRecursion};
-ghost use Rattle.vx_values.specs.Types.{type_at, Fits};
-ghost use Rattle.vx_values.specs.declared.value.ColType.{ColType};
+ghost use Rattle.vx_rows_values.specs.Types.{type_at, Fits};
+ghost use Rattle.vx_rows_values.specs.declared.value.ColType.{ColType};
 ghost use Rattle.vx_rows.specs.declared.column.Column.{Column as ColumnView};
 ghost use Rattle.vx_rows.specs.Columns.{column_type, size, AreLong, KeepsFront};
 ghost use Rattle.vx_rows.specs.Parts.{rows_of_all, HaveTypes, HasParts};

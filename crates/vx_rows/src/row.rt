@@ -4,17 +4,17 @@ ghost use Rattle.std.specs.Prelude.{◌≡◌, ◌<◌, ◌++◌, ◌∷◌, [],
 ghost use Rattle.std.proofs.Common.{ap};
 ghost use Rattle.std.specs.Ordering.{is_eq};
 ghost use Rattle.std.specs.Cmp.{partial_equiv_from_equiv};
-ghost use Rattle.vx_values.specs.Values.{val_cmp, row_eq, value_at, pick};
-ghost use Rattle.vx_values.specs.ValueView.{val_of, cell_val};
+ghost use Rattle.vx_rows_values.specs.Values.{val_cmp, row_eq, value_at, pick};
+ghost use Rattle.vx_rows_values.specs.ValueView.{val_of, cell_val};
 ghost use Rattle.vx_rows.specs.View.{row, AreColumns};
 ghost use Rattle.vx_rows.specs.Hashing.{val_feed, row_feed};
-ghost use Rattle.vx_values.specs.Equality.{row_eq-laws, row_eq-same};
+ghost use Rattle.vx_rows_values.specs.Equality.{row_eq-laws, row_eq-same};
 
 use crate::table::Table;
 use std::alloc::{AllocError, Global};
 use std::hash::{Hash, Hasher};
 use std::marker::Model;
-use vx_values::{Cell, Value};
+use vx_rows_values::{Cell, Value};
 
 /// The values of one row, owned: for constants and for the keys of maps, never for data that is sent on.
 ///
@@ -28,8 +28,8 @@ pub struct Row {
 
 impl Model for Row {
     ghost use Rattle.std.specs.Prelude.{List, map};
-    ghost use Rattle.vx_values.specs.Values.{Val};
-    ghost use Rattle.vx_values.specs.ValueView.{val_of};
+    ghost use Rattle.vx_rows_values.specs.Values.{Val};
+    ghost use Rattle.vx_rows_values.specs.ValueView.{val_of};
 
     ghost Value = { List Val };
 

@@ -2,17 +2,17 @@
 
 ghost use Rattle.std.specs.Prelude.{◌≡◌, ◌-◌, ◌<◌, length, map, IfOk};
 ghost use Rattle.std.specs.Ordering.{is_lt};
-ghost use Rattle.vx_values.specs.Values.{row_cmp, value_at};
-ghost use Rattle.vx_values.specs.Order.{compare_on, sorted, sort_on};
+ghost use Rattle.vx_rows_values.specs.Values.{row_cmp, value_at};
+ghost use Rattle.vx_rows_values.specs.Order.{compare_on, sorted, sort_on};
 ghost use Rattle.vx_rows.specs.Sorting.{sort_by, order_on, first_number, place_of, place_rank};
 ghost use Rattle.vx_rows.specs.Lists.{each_below};
-ghost use Rattle.vx_values.specs.ValueView.{cell_val};
+ghost use Rattle.vx_rows_values.specs.ValueView.{cell_val};
 ghost use Rattle.vx_rows.specs.View.{row, AreColumns, ArePositions};
 
 use crate::table::Table;
 use std::alloc::{AllocError, Global};
 use std::cmp::Ordering;
-use vx_values::{Cell, compare_cells};
+use vx_rows_values::{Cell, compare_cells};
 
 /// Compares two rows column by column: numbers by size, texts by their bytes.
 pub fn compare_on(cols: &[usize], a: &Table, i: usize, b: &Table, j: usize) -> Ordering

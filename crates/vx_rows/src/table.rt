@@ -2,10 +2,10 @@
 
 ghost use Rattle.std.specs.Prelude.{◌≡◌, ◌↔◌, ℕ, ◌+◌, ◌-◌, ◌<◌, ◌≤◌, ◌++◌, ◌∷◌, [], length, max, map, take, slice_range, OnOk, OnErr, IfOk, IsTrue};
 ghost use Rattle.std.specs.List.{AllByRecursion};
-ghost use Rattle.vx_values.specs.Values.{pick, value_at};
-ghost use Rattle.vx_values.specs.ValueView.{val_of, cell_val};
+ghost use Rattle.vx_rows_values.specs.Values.{pick, value_at};
+ghost use Rattle.vx_rows_values.specs.ValueView.{val_of, cell_val};
 ghost use Rattle.vx_rows.specs.View.{HasTypes, row, AreColumns, ArePositions};
-ghost use Rattle.vx_values.specs.Types.{type_at, Fits};
+ghost use Rattle.vx_rows_values.specs.Types.{type_at, Fits};
 ghost use Rattle.vx_rows.specs.Columns.{column_type, size, entry, rows_of, AreRows};
 
 use crate::column::Column;
@@ -15,7 +15,7 @@ use crate::writes::{empty_columns, put_cells, put_rows, put_rows_at, put_values,
 use std::alloc::{AllocError, Global};
 use std::marker::Model;
 use std::mem;
-use vx_values::{Cell, ColType, Value};
+use vx_rows_values::{Cell, ColType, Value};
 
 /// Makes value j of a key that of a cell, or adds it behind all others. A text of the key keeps its capacity. After an `Err` the key is arbitrary.
 pub fn put_key(
@@ -279,8 +279,8 @@ impl Table {
 // The values of a column where they lie, for loops over one column.
 impl Table {
     ghost use Rattle.std.specs.Prelude.{ℕ, pos, slice_index_or, IfSome, IfNone};
-    ghost use Rattle.vx_values.specs.declared.value.ColType.TheVariants as kind;
-    ghost use Rattle.vx_values.specs.Values.{num, text};
+    ghost use Rattle.vx_rows_values.specs.declared.value.ColType.TheVariants as kind;
+    ghost use Rattle.vx_rows_values.specs.Values.{num, text};
 
     /// The numbers of a column, that of row i at position i, where it has numbers. More may follow the last row's.
     pub fn numbers(&self, column: usize) -> Option<&Numbers>

@@ -3,14 +3,14 @@
 
 ghost use Rattle.std.specs.Prelude.{◌≡◌, ℕ, ◌+◌, ◌-◌, ◌<◌, ◌≤◌, ◌∷◌, [], length, map, take, true, slice_index, OnOk, IfOk};
 ghost use Rattle.std.specs.List.{list_all};
-ghost use Rattle.vx_values.specs.ValueView.{val_of, cell_val};
+ghost use Rattle.vx_rows_values.specs.ValueView.{val_of, cell_val};
 ghost use Rattle.vx_rows.specs.View.{ArePositions};
-ghost use Rattle.vx_values.specs.Types.{type_of, type_at, is_held};
+ghost use Rattle.vx_rows_values.specs.Types.{type_of, type_at, is_held};
 ghost use Rattle.vx_rows.specs.Columns.{column_type, size, entry, row_of, AreLong, KeepRows, Fills};
 
 use crate::column::Column;
 use std::alloc::{AllocError, Global};
-use vx_values::{Cell, ColType, Value};
+use vx_rows_values::{Cell, ColType, Value};
 
 /// Puts a value into a column, past the first `at` rows.
 pub fn put_cell(

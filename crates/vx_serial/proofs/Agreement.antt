@@ -1,6 +1,6 @@
 -- What is evaluated is the serial meaning, but where a grouping is too long.
 use Rattle.std.proofs.Common.{◌≡◌, ℕ, ◌<◌, nat_lt, Bool, true, false, cond, List, length, None, refl, ap, subst, ltb-true, ◌⊎◌, inl, inr}
-use Rattle.vx_values.specs.Values.{Row}
+use Rattle.vx_rows_values.specs.Values.{Row}
 use Rattle.vx_plan_nodes.specs.Plan.{Aggregate, Unary, select, project, distinct, sort, group, Binary, Plan, scan, unary, binary, exchange}
 use Rattle.vx_plan_nodes.specs.Serial.{group_rows, unary_rows, binary_rows, SerialResult, rows, overflow, or_overflow, after, serial, IsTooLong, HasTooLong}
 use Rattle.vx_serial.specs.Evaluated.{evaluated_rows, evaluated}

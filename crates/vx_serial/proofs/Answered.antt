@@ -2,7 +2,7 @@
 use Rattle.std.proofs.Common.{◌≡◌, ◌∙◌, Result, Ok, Err, sym, ap}
 use Rattle.std.specs.Prelude.{IfOk, IfErr}
 use Rattle.vx_rows.specs.View.{RowsView}
-use Rattle.vx_relations.specs.Catalog.{relation_at}
+use Rattle.vx_catalog_relations.specs.Catalog.{relation_at}
 use Rattle.vx_catalog.specs.Database.{Database, rows_at}
 use Rattle.vx_plan_nodes.specs.Outline.{plan_in}
 use Rattle.vx_plan_nodes.specs.Plan.{Plan}
@@ -11,8 +11,8 @@ use Rattle.vx_plan_nodes.specs.Serial.{rows}
 use Rattle.vx_plan_nodes.specs.Types.{types_of}
 use Rattle.vx_serial.specs.Evaluated.{evaluated}
 use Rattle.vx_serial.specs.Results.{IsFaultOf, IsPlain, IsSerialOf, EvalFails}
-use Rattle.vx_setup.specs.declared.eval_fault.EvalFault.{EvalFault}
-use Rattle.vx_setup.specs.declared.eval_fault.EvalFault.TheVariants as fault
+use Rattle.vx_exec_setup.specs.declared.eval_fault.EvalFault.{EvalFault}
+use Rattle.vx_exec_setup.specs.declared.eval_fault.EvalFault.TheVariants as fault
 use Rattle.vx_serial.proofs.Agreement.{rows-are-serial, overflow-is-real}
 
 pub serial-rows : (p : TypedPlanView) (db : Database) (q : Plan) (r : Result RowsView EvalFault) → IsPlain p db → q ≡ plan_in p.root

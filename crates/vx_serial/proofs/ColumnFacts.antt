@@ -1,8 +1,8 @@
 -- Every node of a typed plan fits the types of its inputs.
 use Rattle.std.proofs.Common.{◌≡◌, nat_lt, Bool, true, ◌&&◌, List, length, ltb-true}
-use Rattle.vx_values.specs.declared.value.ColType.{ColType}
-use Rattle.vx_relations.specs.Catalog.{relation_at}
-use Rattle.vx_values.proofs.Booleans.{and-left, and-right}
+use Rattle.vx_rows_values.specs.declared.value.ColType.{ColType}
+use Rattle.vx_catalog_relations.specs.Catalog.{relation_at}
+use Rattle.vx_rows_values.proofs.Booleans.{and-left, and-right}
 use Rattle.vx_plan_nodes.specs.Plan.{Plan, scan, unary, binary, exchange}
 use Rattle.vx_plan_nodes.specs.Typed.{Scope, are_columns, is_unary, is_binary, is_kind, is_size, is_output, may_merge, typed}
 use Rattle.vx_plan_nodes.specs.Phases.{phase_fits, both_closed}

@@ -1,8 +1,8 @@
 -- What evaluation makes of a plan: the serial meaning, where a grouping of more than 2^62 rows overflows too.
 use Rattle.std.specs.Prelude.{ℕ, ◌≡◌, ◌<◌, nat_lt, Bool, true, false, List, length, Option, Some, None, if◌then◌else◌}
-use Rattle.vx_values.specs.Values.{Row}
-use Rattle.vx_relations.specs.Relation.{Relation}
-use Rattle.vx_relations.specs.Catalog.{relation_at}
+use Rattle.vx_rows_values.specs.Values.{Row}
+use Rattle.vx_catalog_relations.specs.Relation.{Relation}
+use Rattle.vx_catalog_relations.specs.Catalog.{relation_at}
 use Rattle.vx_plan_nodes.specs.Plan.{Unary, group, Plan, scan, unary, binary, exchange}
 use Rattle.vx_plan_nodes.specs.Serial.{unary_rows, binary_rows, SerialResult, rows, or_overflow, after}
 use Rattle.vx_plan_nodes.specs.Typed.{is_unary, is_binary}

@@ -1,8 +1,8 @@
 -- What the evaluation of a plan over a database gives.
 use Rattle.std.specs.Prelude.{ℕ, ◌≡◌, ◌≢◌, ◌⊎◌, List, Option, Some, None}
-use Rattle.vx_values.specs.Values.{Row}
+use Rattle.vx_rows_values.specs.Values.{Row}
 use Rattle.vx_rows.specs.View.{RowsView}
-use Rattle.vx_relations.specs.Catalog.{relation_at}
+use Rattle.vx_catalog_relations.specs.Catalog.{relation_at}
 use Rattle.vx_catalog.specs.Database.{Database, rows_at}
 use Rattle.vx_plan_nodes.specs.Outline.{plan_in}
 use Rattle.vx_plan_nodes.specs.Plan.{Plan}
@@ -10,8 +10,8 @@ use Rattle.vx_plan_nodes.specs.Names.{TypedPlanView}
 use Rattle.vx_plan_nodes.specs.Serial.{SerialResult, rows, overflow, serial, HasTooLong}
 use Rattle.vx_plan_nodes.specs.Types.{types_of}
 use Rattle.vx_serial.specs.Evaluated.{first_exchange, evaluated}
-use Rattle.vx_setup.specs.declared.eval_fault.EvalFault.{EvalFault}
-use Rattle.vx_setup.specs.declared.eval_fault.EvalFault.TheVariants as fault
+use Rattle.vx_exec_setup.specs.declared.eval_fault.EvalFault.{EvalFault}
+use Rattle.vx_exec_setup.specs.declared.eval_fault.EvalFault.TheVariants as fault
 
 -- a fault is the overflow of an outcome; want of memory excuses
 abbrev pub IsFaultOf : SerialResult → EvalFault → Type 0

@@ -1,7 +1,7 @@
 //! The rows of a plan over a database.
 
 ghost use Rattle.std.specs.Prelude.{◌≡◌, IfOk, IfErr};
-ghost use Rattle.vx_relations.specs.Catalog.{relation_at};
+ghost use Rattle.vx_catalog_relations.specs.Catalog.{relation_at};
 ghost use Rattle.vx_catalog.specs.Database.{rows_at};
 ghost use Rattle.vx_plan_nodes.specs.Outline.{plan_of};
 ghost use Rattle.vx_plan_nodes.specs.Serial.{rows};
@@ -14,9 +14,9 @@ use crate::exchanges::first_exchange;
 use crate::operators::{binary_rows, unary_rows};
 use std::alloc::Global;
 use vx_catalog::Database;
+use vx_exec_setup::EvalFault;
 use vx_plan_nodes::{TypedNode, TypedPlan};
-use vx_setup::EvalFault;
-use vx_views::Rows;
+use vx_rows_views::Rows;
 
 // The rows of a node. Each input is read to its end, also where no further row can come of it. An exchange returns its
 // input. A scan shares the rows of its relation.

@@ -2,8 +2,8 @@
 
 ghost use Rattle.std.specs.Prelude.{◌≡◌, ◌++◌, true, Some, length, map, IfOk, IfErr};
 ghost use Rattle.std.specs.List.{list_all};
-ghost use Rattle.vx_values.specs.Types.{type_at};
-ghost use Rattle.vx_values.specs.Values.{pick};
+ghost use Rattle.vx_rows_values.specs.Types.{type_at};
+ghost use Rattle.vx_rows_values.specs.Values.{pick};
 ghost use Rattle.vx_rows.specs.View.{AreColumns};
 ghost use Rattle.vx_plan_nodes.specs.Outline.{aggregate_of, unary_of, binary_of};
 ghost use Rattle.vx_plan_nodes.specs.Plan.{group, plain};
@@ -14,14 +14,14 @@ ghost use Rattle.vx_serial.specs.Evaluated.{evaluated_rows};
 ghost use Rattle.vx_serial.specs.Results.{IsFaultAt};
 
 use std::alloc::{AllocError, Global};
-use vx_algebra::{chosen, kept_columns, left_columns, right_columns, sorted_chunks};
-use vx_grouping::{GroupFault, grouped};
-use vx_join::hash_join;
-use vx_keys::Seen;
+use vx_exec_setup::EvalFault;
+use vx_match_grouping::{GroupFault, grouped};
+use vx_match_join::hash_join;
+use vx_match_keys::Seen;
+use vx_ops_kernels::{chosen, kept_columns, left_columns, right_columns, sorted_chunks};
 use vx_plan_nodes::{Aggregate, Binary, Unary};
-use vx_seeds::KeySeed;
-use vx_setup::EvalFault;
-use vx_views::Rows;
+use vx_rows_values::KeySeed;
+use vx_rows_views::Rows;
 
 // The most rows of one grouping.
 const MAX_GROUPED: usize = 1 << 62;

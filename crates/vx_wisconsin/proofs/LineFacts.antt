@@ -5,10 +5,10 @@ use Rattle.std.specs.Prelude.{pos}
 use Rattle.std.specs.List.{AllByRecursion}
 use Rattle.std.specs.Fmt.{decimal}
 use Rattle.csv.specs.Writing.{default_writer, fields_text, row_body, is_blank}
-use Rattle.vx_values.specs.Values.{num}
+use Rattle.vx_rows_values.specs.Values.{num}
 use Rattle.vx_catalog.specs.Csv.{field_text, line_text}
 use Rattle.vx_wisconsin.specs.Wisconsin.{unique1, numbers, text_of, string4, row_of}
-use Rattle.vx_values.specs.Limits.{max_generated_rows}
+use Rattle.vx_rows_values.specs.Limits.{max_generated_rows}
 use Rattle.vx_wisconsin.specs.Line.{number_text}
 use Rattle.vx_wisconsin.proofs.Unique.{unique1-below}
 use Rattle.vx_wisconsin.proofs.Plain.{Plain, number-plain, text-plain, string4-plain, plain-field}

@@ -11,9 +11,9 @@ use Rattle.csv.specs.Records.{field_at}
 use Rattle.csv.specs.Writing.{default_writer, row_text, read_back}
 use Rattle.csv.specs.declared.parser.State.TheVariants as st
 use Rattle.csv.proofs.RoundTrip.{rows_text, read-write}
-use Rattle.vx_values.specs.declared.value.ColType.{ColType}
-use Rattle.vx_values.specs.declared.value.ColType.TheVariants.{Int, Text}
-use Rattle.vx_values.specs.Values.{num, text, Row}
+use Rattle.vx_rows_values.specs.declared.value.ColType.{ColType}
+use Rattle.vx_rows_values.specs.declared.value.ColType.TheVariants.{Int, Text}
+use Rattle.vx_rows_values.specs.Values.{num, text, Row}
 use Rattle.vx_catalog.specs.Csv.{field_text, line_text, csv_text}
 use Rattle.vx_catalog.specs.Number.{number_of}
 use Rattle.vx_catalog.specs.Loading.{records_of, is_header, names_from, load_of}
@@ -21,7 +21,7 @@ use Rattle.vx_catalog.specs.Meaning.{IsRowOf}
 use Rattle.vx_catalog.proofs.NumberFacts.{with_none}
 use Rattle.vx_catalog.proofs.Meant.{texts_load_exactly}
 use Rattle.vx_wisconsin.specs.Wisconsin.{unique1, numbers, seven_letters, text_of, string4, row_of, wisconsin, column_names, relation_named, WisconsinLaw}
-use Rattle.vx_values.specs.Limits.{max_generated_rows}
+use Rattle.vx_rows_values.specs.Limits.{max_generated_rows}
 use Rattle.vx_wisconsin.specs.Line.{number_text}
 use Rattle.vx_wisconsin.proofs.Unique.{unique1-below}
 use Rattle.vx_wisconsin.proofs.LineFacts.{number_fields, line-is}

@@ -8,16 +8,16 @@ use Rattle.std.proofs.lemmas.Str.{IsUtf8-from_ascii, is_utf8-from_IsUtf8}
 use Rattle.std.proofs.lemmas.Bool.{le-leb}
 use Rattle.std.proofs.lemmas.Bool.Decides.{nat_tests}
 use Rattle.std.proofs.lemmas.List.FromFn.{length-map-range_with_len, get_or-map-range_with_len}
-use Rattle.vx_values.specs.Values.{num, text, Row, row_cmp}
-use Rattle.vx_values.specs.Types.{is_held, Fits}
-use Rattle.vx_values.proofs.Booleans.{and-both}
-use Rattle.vx_values.specs.Order.{compare_on, agree}
-use Rattle.vx_values.proofs.Order.{NoFall, sorted_from}
-use Rattle.vx_values.proofs.ClashFacts.{Apart}
-use Rattle.vx_values.proofs.KeyFacts.{to-key, apart-key}
-use Rattle.vx_relations.specs.Relation.{Meets}
+use Rattle.vx_rows_values.specs.Values.{num, text, Row, row_cmp}
+use Rattle.vx_rows_values.specs.Types.{is_held, Fits}
+use Rattle.vx_rows_values.proofs.Booleans.{and-both}
+use Rattle.vx_rows_values.specs.Order.{compare_on, agree}
+use Rattle.vx_rows_values.proofs.Order.{NoFall, sorted_from}
+use Rattle.vx_rows_values.proofs.ClashFacts.{Apart}
+use Rattle.vx_rows_values.proofs.KeyFacts.{to-key, apart-key}
+use Rattle.vx_catalog_relations.specs.Relation.{Meets}
 use Rattle.vx_wisconsin.specs.Wisconsin.{unique1, numbers, letter, seven_letters, filler, text_of, string4, row_of, wisconsin, relation_named}
-use Rattle.vx_values.specs.Limits.{max_generated_rows}
+use Rattle.vx_rows_values.specs.Limits.{max_generated_rows}
 use Rattle.vx_wisconsin.proofs.Unique.{unique1-below, unique1-apart}
 
 -- ---- the rows by their numbers

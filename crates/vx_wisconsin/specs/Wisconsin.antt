@@ -1,12 +1,12 @@
 -- A relation for measuring: each value of a row is a formula on the row's number and the number of rows.
 use Rattle.std.specs.Prelude.{◌≡◌, ℕ, pos, ◌+◌, ◌*◌, ◌/◌, ◌%◌, ◌^◌, ◌≤◌, ◌==◌, if◌then◌else◌, List, [], ◌∷◌, ◌++◌, length, map, replicate, codes, slice_index, Ok}
 use Rattle.std.specs.List.{range_with_len}
-use Rattle.vx_values.specs.Values.{num, text, Row}
-use Rattle.vx_values.specs.declared.value.ColType.TheVariants.{Int, Text}
+use Rattle.vx_rows_values.specs.Values.{num, text, Row}
+use Rattle.vx_rows_values.specs.declared.value.ColType.TheVariants.{Int, Text}
 use Rattle.vx_catalog.specs.Csv.{csv_text}
 use Rattle.vx_catalog.specs.Loading.{load_of}
-use Rattle.vx_relations.specs.Relation.{Relation, Meets}
-use Rattle.vx_values.specs.Limits.{max_generated_rows}
+use Rattle.vx_catalog_relations.specs.Relation.{Relation, Meets}
+use Rattle.vx_rows_values.specs.Limits.{max_generated_rows}
 
 -- the first column of row i of n: the numbers below n, the small ones in the even rows and the others in the odd ones
 unfoldable pub unique1 : ℕ → ℕ → ℕ

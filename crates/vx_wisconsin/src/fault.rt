@@ -2,7 +2,7 @@
 
 use std::alloc::AllocError;
 use thiserror::Error;
-use vx_bytes::Broken;
+use vx_catalog_bytes::Broken;
 
 /// Why the text of a relation was not written. It has no code of its own: the program prints one.
 #[derive(Clone, Copy, Debug, PartialEq, Eq, Error)]

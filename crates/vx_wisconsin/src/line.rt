@@ -4,7 +4,7 @@
 ghost use Rattle.std.specs.Prelude.{◌≡◌, ◌+◌, ◌*◌, ◌<◌, ◌≤◌, ◌∷◌, ◌++◌, length, drop, flat_map};
 ghost use Rattle.vx_catalog.specs.Csv.{line_text};
 ghost use Rattle.vx_wisconsin.specs.Wisconsin.{unique1, numbers, letter, seven_letters, text_of, string4, row_of};
-ghost use Rattle.vx_values.specs.Limits.{max_generated_rows};
+ghost use Rattle.vx_rows_values.specs.Limits.{max_generated_rows};
 ghost use Rattle.vx_wisconsin.specs.Line.{number_text};
 
 use itoa::write_digits;

@@ -5,15 +5,15 @@ ghost use Rattle.std.specs.List.{range_with_len};
 ghost use Rattle.std.specs.Io.KnownBytes.{Appends};
 ghost use Rattle.csv.specs.Writing.{row_text, default_writer};
 ghost use Rattle.vx_catalog.specs.Csv.{line_text, csv_text};
-ghost use Rattle.vx_relations.specs.Relation.{Meets};
+ghost use Rattle.vx_catalog_relations.specs.Relation.{Meets};
 ghost use Rattle.vx_wisconsin.specs.Wisconsin.{row_of, wisconsin, column_names, relation_named, WisconsinLaw};
-ghost use Rattle.vx_values.specs.Limits.{max_generated_rows};
+ghost use Rattle.vx_rows_values.specs.Limits.{max_generated_rows};
 
 use crate::fault::GenerateFault;
 use crate::line::{LINE_BYTES, put_line};
 use std::alloc::Global;
-use vx_bytes::{Broken, ByteOut, write_all};
-use vx_values::limits::MAX_GENERATED_ROWS;
+use vx_catalog_bytes::{Broken, ByteOut, write_all};
+use vx_rows_values::limits::MAX_GENERATED_ROWS;
 
 // How many rows go to the writer at a time.
 const BLOCK_ROWS: u64 = 150;

@@ -1,19 +1,19 @@
 -- What is said of a worker does not depend on what it counted.
 use Rattle.std.proofs.Common.{ℕ, ◌≡◌, List, Bool, refl}
-use Rattle.vx_values.specs.Values.{Row}
-use Rattle.vx_values.specs.declared.value.ColType.{ColType}
+use Rattle.vx_rows_values.specs.Values.{Row}
+use Rattle.vx_rows_values.specs.declared.value.ColType.{ColType}
 use Rattle.vx_plan_nodes.specs.Routes.{Routing}
 use Rattle.vx_ports.specs.Packets.{PacketView}
 use Rattle.vx_ops.specs.Ledger.{Stream, Ledger, Op}
 use Rattle.vx_ops.specs.Turn.{Shape}
 use Rattle.vx_ops.specs.declared.turn.Want.{Want}
-use Rattle.vx_ends.specs.Tasks.{Task, Post}
+use Rattle.vx_exchange_ends.specs.Tasks.{Task, Post}
 use Rattle.vx_worker.specs.Trace.{Event, idle, drew_one, took_one, put_one, Trace}
 use Rattle.vx_worker.specs.Answering.{Waits, none_came, none_drains, is_full, no_memory}
 use Rattle.vx_worker.specs.Counts.{with_event}
 use Rattle.vx_worker.specs.Intake.{IsRead, IsTake}
 use Rattle.vx_worker.specs.Worker.{IsReady, IsReadyIn, StandsIn, WorkerStands}
-use Rattle.vx_setup.specs.declared.counts.StepCounts.{StepCounts}
+use Rattle.vx_exec_setup.specs.declared.counts.StepCounts.{StepCounts}
 use Rattle.vx_worker.specs.declared.intake.Intake.{Intake}
 use Rattle.vx_worker.specs.declared.tree.Tree.{Tree}
 use Rattle.vx_worker.specs.declared.worker.Worker.{Worker}

@@ -4,9 +4,9 @@ use Rattle.std.proofs.Math.ListN.{set}
 use Rattle.std.proofs.lemmas.Bool.Decides.{eqb_tells}
 use Rattle.std.proofs.lemmas.List.Elements.{All-map}
 use Rattle.std.specs.List.{All, list_any}
-use Rattle.vx_values.specs.declared.value.ColType.{ColType}
+use Rattle.vx_rows_values.specs.declared.value.ColType.{ColType}
 use Rattle.vx_ports.specs.Packets.{Content, brings, last, fault, PacketView, closes, content_rows, is_closed, FitsContent}
-use Rattle.vx_ends.specs.Queued.{closings}
+use Rattle.vx_exchange_ends.specs.Queued.{closings}
 use Rattle.vx_worker.specs.Trace.{Event, idle, drew_one, took_one, put_one, Trace, added, empty_trace}
 use Rattle.vx_worker.specs.Intake.{source_of, has_met_end, IsFresh, marked, MarksStand, IntakeStands, IsDrained}
 use Rattle.vx_worker.specs.declared.intake.ExchangeInput.{ExchangeInput}

@@ -4,14 +4,14 @@ use Rattle.std.proofs.Math.Nat.{mul-le-mul_left}
 use Rattle.std.proofs.lemmas.Bool.{cases_lt}
 use Rattle.std.proofs.lemmas.Bool.Decides.{eqb_tells}
 use Rattle.std.proofs.lemmas.List.{length-map, get_or-map}
-use Rattle.vx_values.specs.Values.{Row}
+use Rattle.vx_rows_values.specs.Values.{Row}
 use Rattle.vx_rows.proofs.Below.{length-each_below}
 use Rattle.vx_ports.specs.Packets.{Content, brings, last, fault, PacketView, content_rows, closes, is_closed}
 use Rattle.vx_ops.specs.Turn.{Coming, Pays, idle_turn, rows_in, sum_below}
 use Rattle.vx_ops.specs.declared.fault.Fault.{Fault}
 use Rattle.vx_ops.specs.declared.turn.Polled.{Polled}
-use Rattle.vx_ends.specs.Tasks.{Post, sends_by_ship, keeps}
-use Rattle.vx_ends.specs.Queued.{consumers_of, rows_to, closings, IsTakenOut, IsNoMore}
+use Rattle.vx_exchange_ends.specs.Tasks.{Post, sends_by_ship, keeps}
+use Rattle.vx_exchange_ends.specs.Queued.{consumers_of, rows_to, closings, IsTakenOut, IsNoMore}
 use Rattle.vx_worker.specs.Fragment.{Frag}
 use Rattle.vx_worker.specs.Trace.{Event, idle, drew_one, took_one, put_one, Trace}
 use Rattle.vx_worker.specs.Trees.{LeavesComing, tree_most, tree_idle}
@@ -19,7 +19,7 @@ use Rattle.vx_worker.specs.Intake.{fresh_input, source_of, sources_of, BringsSom
 use Rattle.vx_worker.specs.Answering.{IsOpenInput, DrainFinds}
 use Rattle.vx_worker.specs.Worker.{closing_of, outcome_in, outcome_of}
 use Rattle.vx_worker.specs.Remaining.{before_event, arrivals, rows_put, progress, EventFits, pending_count, pending_rows, rows_left_in, rows_left, rows_held_in, rows_held, steps_left_in, steps_left, Spends}
-use Rattle.vx_setup.specs.declared.counts.StepCounts.{StepCounts}
+use Rattle.vx_exec_setup.specs.declared.counts.StepCounts.{StepCounts}
 use Rattle.vx_worker.specs.declared.intake.Intake.{Intake}
 use Rattle.vx_worker.specs.declared.intake.Drained.{Drained}
 use Rattle.vx_worker.specs.declared.intake.Drained.TheVariants as drained

@@ -3,8 +3,8 @@ use Rattle.std.proofs.Common.{ℕ, zero, suc, ◌≡◌, ◌+◌, ◌≤◌, con
 use Rattle.std.proofs.Math.Nat.{mul-le-mul_left}
 use Rattle.vx_ops.specs.Ledger.{Op}
 use Rattle.vx_ops.specs.Turn.{Coming, IsWithin, sum_below}
-use Rattle.vx_ends.specs.Tasks.{Post}
-use Rattle.vx_ends.specs.Queued.{consumers_of}
+use Rattle.vx_exchange_ends.specs.Tasks.{Post}
+use Rattle.vx_exchange_ends.specs.Queued.{consumers_of}
 use Rattle.vx_worker.specs.Trees.{shape, LeavesComing, leaf_coming, tree_coming, tree_most, tree_idle}
 use Rattle.vx_worker.specs.Remaining.{frag_most, frag_idle, TreeStarts, pending_count, pending_rows, steps_left_in, rows_left_in, rows_held_in, Starts}
 use Rattle.vx_worker.specs.declared.tree.Tree.{Tree, Leaf, One', Two'}

@@ -6,10 +6,10 @@ use Rattle.std.specs.List.{All}
 use Rattle.vx_rows.specs.Lists.{each_below}
 use Rattle.vx_ports.specs.Packets.{fault, PacketView, closes}
 use Rattle.vx_ops.specs.Turn.{with_packet}
-use Rattle.vx_ends.specs.Ship.{Ship, packet_of}
-use Rattle.vx_ends.specs.Tasks.{Task, send, keep, Post, sends_by_ship, keeps, IsAt}
-use Rattle.vx_ends.specs.Parts.{faulted}
-use Rattle.vx_ends.specs.Closing.{closed_by}
+use Rattle.vx_exchange_ends.specs.Ship.{Ship, packet_of}
+use Rattle.vx_exchange_ends.specs.Tasks.{Task, send, keep, Post, sends_by_ship, keeps, IsAt}
+use Rattle.vx_exchange_ends.specs.Parts.{faulted}
+use Rattle.vx_exchange_ends.specs.Closing.{closed_by}
 use Rattle.vx_worker.specs.Worker.{with_all, closing_of}
 
 -- the last of the list goes first

@@ -2,7 +2,7 @@
 use Rattle.std.proofs.Common.{◌≡◌, ℕ, ◌+◌, ◌≤◌, ◌==◌, true, inl, inr, refl, subst, arith, le_refl, add-le-add, List, Option}
 use Rattle.vx_ports.specs.Packets.{PacketView}
 use Rattle.std.proofs.lemmas.Bool.Decides.{nat_tests, eqb_tells}
-use Rattle.vx_values.specs.declared.value.ColType.{ColType}
+use Rattle.vx_rows_values.specs.declared.value.ColType.{ColType}
 use Rattle.vx_ops.specs.Turn.{Coming, IsWithin, GivesRows, Pays, own_turn, idle_turn, rows_in, packet_rows, with_more, with_rows}
 use Rattle.vx_ops.specs.declared.turn.Want.{Want}
 use Rattle.vx_ops.specs.declared.turn.Want.TheVariants as want

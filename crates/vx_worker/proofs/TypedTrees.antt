@@ -1,6 +1,6 @@
 -- The types of the rows in a tree stay as its operators turn.
 use Rattle.std.proofs.Common.{ℕ, ◌≡◌, List, ap, sym, ◌∙◌}
-use Rattle.vx_values.specs.declared.value.ColType.{ColType}
+use Rattle.vx_rows_values.specs.declared.value.ColType.{ColType}
 use Rattle.vx_ops.specs.Turn.{Shape}
 use Rattle.vx_worker.specs.Wishes.{tree_types, TreeTyped}
 use Rattle.vx_worker.specs.declared.tree.Tree.{Tree}

@@ -1,7 +1,7 @@
 -- What was drawn or taken as a tree wished, and what a turn with it costs.
 use Rattle.std.proofs.Common.{ℕ, ◌≡◌, ◌+◌, ◌≤◌, ◌==◌, cond, inl, inr, refl, sym, ap, ◌∙◌, subst, arith, le_refl, List, length, Option, Some, None}
 use Rattle.std.proofs.lemmas.Bool.Decides.{eqb_tells}
-use Rattle.vx_values.specs.Values.{Row}
+use Rattle.vx_rows_values.specs.Values.{Row}
 use Rattle.vx_plan_nodes.specs.Routes.{Routing}
 use Rattle.vx_ports.specs.Packets.{PacketView, is_closed}
 use Rattle.vx_ops.specs.Ledger.{Stream, Ledger, Op}
@@ -12,7 +12,7 @@ use Rattle.vx_ops.specs.declared.turn.Got.TheVariants as got
 use Rattle.vx_ops.specs.declared.turn.Polled.{Polled}
 use Rattle.vx_ops.specs.declared.turn.Polled.TheVariants as polled
 use Rattle.vx_ops.proofs.Costs.{pays-within}
-use Rattle.vx_ends.specs.Tasks.{Task}
+use Rattle.vx_exchange_ends.specs.Tasks.{Task}
 use Rattle.vx_worker.specs.Fragment.{Frag, Reads}
 use Rattle.vx_worker.specs.Trace.{Event, idle, drew_one, took_one, Trace, ReadsAreOf}
 use Rattle.vx_worker.specs.Trees.{shape, TreeStands, IsFormed, ScansAt, TakesFrom, LeavesComing, IsWithinLeaves, tree_most, tree_idle}

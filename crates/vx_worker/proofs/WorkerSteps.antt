@@ -2,8 +2,8 @@
 use Rattle.std.proofs.Common.{ℕ, ◌≡◌, ◌⊎◌, inl, inr, refl, sym, ap, ◌∙◌, subst, List, [], Option, Some, None, Bool, true, false, Ok}
 use Rattle.std.specs.List.{All}
 use Rattle.std.specs.Prelude.{IfSome}
-use Rattle.vx_values.specs.Values.{Row}
-use Rattle.vx_values.specs.declared.value.ColType.{ColType}
+use Rattle.vx_rows_values.specs.Values.{Row}
+use Rattle.vx_rows_values.specs.declared.value.ColType.{ColType}
 use Rattle.vx_plan_nodes.specs.Routes.{Routing}
 use Rattle.vx_ports.specs.Packets.{PacketView, closes}
 use Rattle.vx_ops.specs.Ledger.{Stream, Ledger, Op, Abides, fresh}
@@ -14,8 +14,8 @@ use Rattle.vx_ops.specs.declared.turn.Want.{Want}
 use Rattle.vx_ops.specs.declared.turn.Got.{Got}
 use Rattle.vx_ops.specs.declared.turn.Polled.{Polled}
 use Rattle.vx_ops.specs.declared.turn.Polled.TheVariants as polled
-use Rattle.vx_ends.specs.Tasks.{Task, Post, post_types, Finished, BeganSending, IsAt}
-use Rattle.vx_ends.proofs.Parts.{begun-without-last, fault-stops}
+use Rattle.vx_exchange_ends.specs.Tasks.{Task, Post, post_types, Finished, BeganSending, IsAt}
+use Rattle.vx_exchange_ends.proofs.Parts.{begun-without-last, fault-stops}
 use Rattle.vx_worker.specs.Fragment.{Frag, Reads, FragAbides}
 use Rattle.vx_worker.specs.Trace.{Event, idle, drew_one, took_one, put_one, Trace, added, empty_trace, ReadsBeginOf, IsNoMemory, HasFailedBy}
 use Rattle.vx_worker.specs.Trees.{shape, TreeStands}
@@ -56,7 +56,7 @@ failed-later m goes f task x t e is h = record {
   out = h.out;
   abides = h.abides;
   why = h.why;
-  stopped = subst (λ put. Rattle.vx_ends.specs.Tasks.Stopped goes task h.out.rows put) (sym (take-same t e is)) h.stopped;
+  stopped = subst (λ put. Rattle.vx_exchange_ends.specs.Tasks.Stopped goes task h.out.rows put) (sym (take-same t e is)) h.stopped;
 }
 
 -- and its operators stand as they did

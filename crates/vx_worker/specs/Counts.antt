@@ -1,6 +1,6 @@
 -- What a worker counts of its steps.
-use Rattle.vx_setup.specs.Counts.{with_put, with_wait}
-use Rattle.vx_setup.specs.declared.counts.StepCounts.{StepCounts}
+use Rattle.vx_exec_setup.specs.Counts.{with_put, with_wait}
+use Rattle.vx_exec_setup.specs.declared.counts.StepCounts.{StepCounts}
 use Rattle.vx_worker.specs.Trace.{Event, put_one}
 use Rattle.vx_worker.specs.declared.worker.StepOutcome.{StepOutcome}
 use Rattle.vx_worker.specs.declared.worker.StepOutcome.TheVariants as step_outcome

@@ -1,7 +1,7 @@
 -- Fragments: the operators of a plan from a node down to its scans and the consumer ends of exchanges.
 use Rattle.std.specs.Prelude.{ℕ, ◌≡◌, ◌<◌, List}
-use Rattle.vx_values.specs.Values.{Val, Row}
-use Rattle.vx_relations.specs.Relation.{Relation, Meets}
+use Rattle.vx_rows_values.specs.Values.{Val, Row}
+use Rattle.vx_catalog_relations.specs.Relation.{Relation, Meets}
 use Rattle.vx_plan_nodes.specs.Plan.{Plan, scan, unary, binary, exchange, size}
 use Rattle.vx_plan_nodes.specs.Routes.{Routing, sends_by}
 use Rattle.vx_plan_nodes.specs.Streams.{workers}

@@ -1,9 +1,9 @@
 -- What a worker reads: the producers from which it takes, and which of them, and which of its scans, have ended.
 use Rattle.std.specs.Prelude.{ℕ, ◌≡◌, ◌<◌, ◌+◌, ◌==◌, ◌||◌, ◌&&◌, List, [], Bool, true, false, length, map, Option, Some, None, Result, IfOk, IfSome}
 use Rattle.std.specs.List.{All, list_any}
-use Rattle.vx_values.specs.Values.{Row}
+use Rattle.vx_rows_values.specs.Values.{Row}
 use Rattle.vx_ports.specs.Packets.{PacketView, content_rows, is_closed}
-use Rattle.vx_ends.specs.Queued.{closings}
+use Rattle.vx_exchange_ends.specs.Queued.{closings}
 use Rattle.vx_ops.specs.declared.turn.Got.{Got}
 use Rattle.vx_ops.specs.declared.turn.Got.TheVariants as got
 use Rattle.vx_ops.specs.declared.turn.Polled.TheVariants as polled

@@ -1,6 +1,6 @@
 -- Morsels: the parts into which a scan cuts its relation, and how the workers of a scan got them.
 use Rattle.std.specs.Prelude.{◌≡◌, ℕ, ◌+◌, ◌-◌, ◌*◌, ◌/◌, ◌<◌, ◌≤◌, true, List, [], ◌∷◌, ◌++◌, take, drop}
-use Rattle.vx_values.specs.Values.{Row}
+use Rattle.vx_rows_values.specs.Values.{Row}
 use Rattle.vx_plan_nodes.specs.Streams.{across}
 use Rattle.vx_morsel.specs.Draws.{Draws, times, once_below, Rises}
 

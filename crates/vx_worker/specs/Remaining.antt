@@ -1,12 +1,12 @@
 -- What a worker has still to do: a number that every step which goes on makes smaller, whatever the other workers do.
 use Rattle.std.specs.Prelude.{ℕ, ◌≡◌, ◌≤◌, ◌+◌, ◌*◌, ◌==◌, ◌⊎◌, cond, false, List, length, Option, Some, None, Contains}
-use Rattle.vx_values.specs.Values.{Row}
+use Rattle.vx_rows_values.specs.Values.{Row}
 use Rattle.vx_ports.specs.Packets.{PacketView, is_closed}
 use Rattle.vx_ops.specs.Ledger.{Op}
 use Rattle.vx_ops.specs.Turn.{Coming, packet_rows, with_more, sum_below}
 use Rattle.vx_ops.specs.Starts.{op_most, op_idle, StartsWithin}
-use Rattle.vx_ends.specs.Tasks.{Post}
-use Rattle.vx_ends.specs.Queued.{consumers_of, rows_to}
+use Rattle.vx_exchange_ends.specs.Tasks.{Post}
+use Rattle.vx_exchange_ends.specs.Queued.{consumers_of, rows_to}
 use Rattle.vx_worker.specs.Fragment.{Frag, alone, above, both}
 use Rattle.vx_worker.specs.Trace.{Event, idle, drew_one, took_one, put_one, Trace}
 use Rattle.vx_worker.specs.Trees.{TakesFrom, ScansAt, LeavesComing, leaf_coming, tree_coming, tree_most, tree_idle}

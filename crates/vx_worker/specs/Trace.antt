@@ -1,6 +1,6 @@
 -- The trace of a worker, one event, and what an ended worker's trace says.
 use Rattle.std.specs.Prelude.{ℕ, ◌≡◌, ◌==◌, ◌⊎◌, List, [], ◌∷◌, ◌++◌, true, false, Option, Some, None, cond}
-use Rattle.vx_values.specs.Values.{Row}
+use Rattle.vx_rows_values.specs.Values.{Row}
 use Rattle.vx_plan_nodes.specs.Routes.{Routing}
 use Rattle.vx_ports.specs.Packets.{PacketView}
 use Rattle.vx_morsel.specs.Draws.{Draws}
@@ -8,7 +8,7 @@ use Rattle.vx_worker.specs.Morsels.{morsel_of, morsels}
 use Rattle.vx_ops.specs.Ledger.{Stream}
 use Rattle.vx_ops.specs.Turn.{with_packet}
 use Rattle.vx_rows.specs.Lists.{IsBeginning}
-use Rattle.vx_ends.specs.Tasks.{Task, Finished, Stopped}
+use Rattle.vx_exchange_ends.specs.Tasks.{Task, Finished, Stopped}
 use Rattle.vx_worker.specs.Fragment.{RunModel, goes, Frag, Reads, FragAbides}
 use Rattle.vx_ops.specs.declared.fault.Code.TheVariants.{NoMemory}
 use Rattle.vx_ops.specs.declared.fault.Fault.{Fault}

@@ -1,6 +1,6 @@
 -- What a tree wants before its next turn, what it is given, and the types of the rows in it.
 use Rattle.std.specs.Prelude.{ℕ, ◌≡◌, ◌≤◌, ◌<◌, ◌==◌, cond, false, List, []}
-use Rattle.vx_values.specs.declared.value.ColType.{ColType}
+use Rattle.vx_rows_values.specs.declared.value.ColType.{ColType}
 use Rattle.vx_ports.specs.Packets.{is_closed}
 use Rattle.vx_ops.specs.Ledger.{fresh}
 use Rattle.vx_ops.specs.Turn.{Shape, GivesRows, heard, with_packet, rows_in, packet_rows, with_more}

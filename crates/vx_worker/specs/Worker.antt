@@ -1,22 +1,22 @@
 -- Workers: when one may have done what a trace says, what it needs before a step, and how it ended.
 use Rattle.std.specs.Prelude.{ℕ, ◌≡◌, List, [], ◌∷◌, Bool, true, false, Option, Some, None}
 use Rattle.std.specs.List.{All}
-use Rattle.vx_values.specs.Values.{Val, Row}
+use Rattle.vx_rows_values.specs.Values.{Val, Row}
 use Rattle.vx_rows.specs.Lists.{each_below}
-use Rattle.vx_values.specs.declared.value.ColType.{ColType}
+use Rattle.vx_rows_values.specs.declared.value.ColType.{ColType}
 use Rattle.vx_plan_nodes.specs.Routes.{Routing}
 use Rattle.vx_ports.specs.Packets.{fault, PacketView, closes}
 use Rattle.vx_ops.specs.Ledger.{Stream, Ledger, Op}
 use Rattle.vx_ops.specs.Turn.{Shape, with_packet}
 use Rattle.vx_ops.specs.declared.fault.StreamState.TheVariants as stream_state
-use Rattle.vx_ends.specs.Ship.{packet_of}
-use Rattle.vx_ends.specs.Tasks.{Task, Post, sends_by_ship, keeps, post_types}
+use Rattle.vx_exchange_ends.specs.Ship.{packet_of}
+use Rattle.vx_exchange_ends.specs.Tasks.{Task, Post, sends_by_ship, keeps, post_types}
 use Rattle.vx_worker.specs.Fragment.{Frag, Reads}
 use Rattle.vx_worker.specs.Trace.{Trace, ReadsAreOf, ReadsBeginOf, IsWellBy, HasFailedBy, HonestBy, Fate, well, failed}
 use Rattle.vx_worker.specs.Trees.{shape, TreeStands}
 use Rattle.vx_worker.specs.Wishes.{Numbered, TreeTyped, tree_types}
 use Rattle.vx_worker.specs.Intake.{sources_of, has_met_end, IntakeStands, IsDrained}
-use Rattle.vx_setup.specs.declared.counts.StepCounts.{StepCounts}
+use Rattle.vx_exec_setup.specs.declared.counts.StepCounts.{StepCounts}
 use Rattle.vx_worker.specs.declared.tree.Tree.{Tree}
 use Rattle.vx_worker.specs.declared.worker.Worker.{Worker}
 use Rattle.vx_worker.specs.declared.worker.WorkerState.{WorkerState}

@@ -3,7 +3,7 @@
 use crate::wires::{Morsels, Wires};
 use crate::wish::Wish;
 use std::alloc::{AllocError, Global};
-use vx_ends::{MayEnd, next_open};
+use vx_exchange_ends::{MayEnd, next_open};
 use vx_ops::{Got, Polled};
 use vx_ports::Packet;
 
@@ -70,8 +70,8 @@ pub enum Drained {
 impl Intake {
     ghost use Rattle.std.specs.Prelude.{◌≡◌, ℕ, List, map, IfOk, Some};
     ghost use Rattle.std.specs.List.{All};
-    ghost use Rattle.vx_values.specs.Values.{Row};
-    ghost use Rattle.vx_values.specs.declared.value.ColType.{ColType};
+    ghost use Rattle.vx_rows_values.specs.Values.{Row};
+    ghost use Rattle.vx_rows_values.specs.declared.value.ColType.{ColType};
     ghost use Rattle.vx_ports.specs.Packets.{closes};
     ghost use Rattle.vx_worker.specs.Trace.{Event, Trace, added, empty_trace, took_one};
     ghost use Rattle.vx_worker.specs.Answering.{DrainFinds};

@@ -2,7 +2,7 @@
 
 use std::alloc::AllocError;
 use vx_ports::{Packet, Put};
-use vx_views::Rows;
+use vx_rows_views::Rows;
 
 /// The decks, inward ports and outward ports of one worker. Each call draws, takes or puts at most once, and nothing where it refuses.
 pub trait Wires {
@@ -42,8 +42,8 @@ pub trait Wires {
 /// The morsels that a fragment's scans read.
 pub trait Morsels {
     ghost use Rattle.std.specs.Prelude.{◌≡◌, ℕ, List, IfOk};
-    ghost use Rattle.vx_values.specs.declared.value.ColType.{ColType};
-    ghost use Rattle.vx_values.specs.Values.{Row};
+    ghost use Rattle.vx_rows_values.specs.declared.value.ColType.{ColType};
+    ghost use Rattle.vx_rows_values.specs.Values.{Row};
 
     // The rows of a scan's morsel.
     ghost morsel_of: { Self → ℕ → ℕ → List Row };

@@ -4,11 +4,11 @@ use crate::intake::{Drained, ExchangeInput, Intake};
 use crate::tree::Tree;
 use crate::wires::{Morsels, Wires};
 use std::alloc::Global;
-use vx_ends::Sends;
+use vx_exchange_ends::Sends;
+use vx_exec_setup::StepCounts;
 use vx_ops::{Code, Fault, Got, Polled, Source};
 use vx_plan_nodes::Router;
 use vx_ports::{Packet, Put};
-use vx_setup::StepCounts;
 
 // Where a worker stands.
 #[derive(Clone, Copy)]
@@ -81,20 +81,20 @@ impl<O: Drop, S: Drop> Drop for Worker<O, S> {
 impl<O: Source, S: Sends> Worker<O, S> {
     ghost use Rattle.std.specs.Prelude.{◌≡◌, ◌+◌, ℕ, List, [], length, true, false, None, Some, IfSome, IfNone, IsSome, ◌↔◌, map};
     ghost use Rattle.std.specs.List.{All};
-    ghost use Rattle.vx_values.specs.Values.{Row};
-    ghost use Rattle.vx_values.specs.declared.value.ColType.{ColType};
+    ghost use Rattle.vx_rows_values.specs.Values.{Row};
+    ghost use Rattle.vx_rows_values.specs.declared.value.ColType.{ColType};
     ghost use Rattle.vx_plan_nodes.specs.Routes.{Routing};
     ghost use Rattle.vx_ports.specs.Packets.{PacketView, closes};
     ghost use Rattle.vx_ops.specs.Ledger.{fresh};
-    ghost use Rattle.vx_ends.specs.Tasks.{post_types};
-    ghost use Rattle.vx_ends.specs.Sending.{RoutesAs};
+    ghost use Rattle.vx_exchange_ends.specs.Tasks.{post_types};
+    ghost use Rattle.vx_exchange_ends.specs.Sending.{RoutesAs};
     ghost use Rattle.vx_worker.specs.Trace.{Event, Trace, added, empty_trace, IsNoMemory};
     ghost use Rattle.vx_worker.specs.Trees.{shape, TreeStands, IsFormed};
     ghost use Rattle.vx_worker.specs.Remaining.{TreeStarts, pending_count, Spends, Starts};
     ghost use Rattle.vx_worker.specs.Wishes.{Numbered, TreeTyped, tree_types, fresh_reads};
     ghost use Rattle.vx_worker.specs.Answering.{Answered};
     ghost use Rattle.vx_worker.specs.Intake.{source_of, IsFresh};
-    ghost use Rattle.vx_setup.specs.Counts.{no_steps};
+    ghost use Rattle.vx_exec_setup.specs.Counts.{no_steps};
     ghost use Rattle.vx_worker.specs.Counts.{with_event, with_answer};
     ghost use Rattle.vx_worker.specs.Worker.{closing_of, with_pending, with_all, outcome_of, sender_of, tree_of, counts_of, inputs_of, role_of, IsReady, IsReadyIn, IsGoing, IsClosing, WorkerStands, EndsAs};
 

@@ -1,7 +1,7 @@
 use Rattle.std.proofs.Common.{rules, ◌≡◌, ◌∷◌}
 use Rattle.std.specs.Vec.Iter.{into_iter_items}
 use Rattle.std.proofs.lemmas.List.Elements.{All-rest}
-use Rattle.vx_decks.specs.Seats.{IsSeatOf}
+use Rattle.vx_morsel_decks.specs.Seats.{IsSeatOf}
 use Rattle.stress_rings.proofs.decks.draw_all.Goals as goal
 
 pub loop-seat-preserved : goal.loop-seat-preserved

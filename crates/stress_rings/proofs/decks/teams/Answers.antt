@@ -1,7 +1,7 @@
 use Rattle.std.proofs.Common.{rules, ◌≡◌, ◌∷◌, ◌++◌, [], All, sym, Vec, Global}
 use Rattle.std.specs.Vec.Iter.{into_iter_items}
 use Rattle.std.proofs.lemmas.List.Elements.{All-rest, All-head, All-same, All-push, All-nil}
-use Rattle.vx_decks.specs.Seats.{SeatView, IsSeatOf}
+use Rattle.vx_morsel_decks.specs.Seats.{SeatView, IsSeatOf}
 use Rattle.stress_rings.proofs.decks.teams.Goals as goal
 
 pub loop-seat-preserved-then-len-eq-SEATS_IN_A_THREAD : goal.loop-seat-preserved-then-len-eq-SEATS_IN_A_THREAD

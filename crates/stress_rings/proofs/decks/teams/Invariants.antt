@@ -1,6 +1,6 @@
 use Rattle.std.proofs.Common.{All}
 use Rattle.std.specs.Vec.Iter.{into_iter_items}
-use Rattle.vx_decks.specs.Seats.{IsSeatOf}
+use Rattle.vx_morsel_decks.specs.Seats.{IsSeatOf}
 use Rattle.stress_rings.proofs.decks.teams.Given as goal
 
 abbrev pub invariant-loop-seat : goal.invariant-loop-seat

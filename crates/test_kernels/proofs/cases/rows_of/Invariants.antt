@@ -1,5 +1,5 @@
 use Rattle.std.proofs.Common.{◌≡◌, [], ◌∷◌}
-use Rattle.vx_values.specs.declared.value.ColType.TheVariants as kind
+use Rattle.vx_rows_values.specs.declared.value.ColType.TheVariants as kind
 use Rattle.test_kernels.proofs.cases.rows_of.Given as goal
 
 abbrev pub invariant-loop-entry : goal.invariant-loop-entry

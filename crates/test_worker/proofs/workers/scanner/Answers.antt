@@ -1,6 +1,6 @@
 use Rattle.std.proofs.Common.{ap, ◌∙◌, [], ◌∷◌}
 use Rattle.vx_ops.specs.Turn.{Shape}
-use Rattle.vx_values.specs.declared.value.ColType.TheVariants.{Int}
+use Rattle.vx_rows_values.specs.declared.value.ColType.TheVariants.{Int}
 use Rattle.test_worker.proofs.workers.scanner.Goals as goal
 
 pub returns : goal.returns

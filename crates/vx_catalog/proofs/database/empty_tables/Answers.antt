@@ -1,8 +1,8 @@
 use Rattle.std.proofs.Common.{ℕ, ◌≡◌, ◌∙◌, ap, [], length, arith}
 use Rattle.std.proofs.lemmas.List.{length_push}
 use Rattle.vx_rows.specs.View.{RowsView}
-use Rattle.vx_relations.specs.Relation.{Relation}
-use Rattle.vx_relations.specs.Catalog.{relation_at}
+use Rattle.vx_catalog_relations.specs.Relation.{Relation}
+use Rattle.vx_catalog_relations.specs.Catalog.{relation_at}
 use Rattle.vx_catalog.proofs.DatabaseFacts.{pushed, empty_database, all_empty}
 use Rattle.vx_catalog.proofs.database.empty_tables.Goals as goal
 

@@ -1,5 +1,5 @@
 use Rattle.std.proofs.Common.{◌≡◌, ◌-◌, ◌+◌, ◌<◌, ◌≤◌, true, false, length, [], arith, rules, slice_index_or, is_lt}
-use Rattle.vx_values.specs.Order.{compare_on}
+use Rattle.vx_rows_values.specs.Order.{compare_on}
 use Rattle.vx_catalog.proofs.OrderFacts.{falls_here, falls_later, falls_first, falls_nowhere}
 use Rattle.vx_catalog.proofs.loader.first_fall.Goals as goal
 

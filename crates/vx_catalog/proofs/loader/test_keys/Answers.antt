@@ -1,5 +1,5 @@
 use Rattle.std.proofs.Common.{◌≡◌, ◌<◌, ◌≤◌, [], length, None, Some, rules, slice_index_or}
-use Rattle.vx_values.specs.Keys.{first_clash}
+use Rattle.vx_rows_values.specs.Keys.{first_clash}
 use Rattle.vx_catalog.proofs.OrderFacts.{key_clashes, key_holds, keys_done}
 use Rattle.vx_catalog.proofs.loader.test_keys.Goals as goal
 

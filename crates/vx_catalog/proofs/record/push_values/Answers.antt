@@ -2,11 +2,11 @@ use Rattle.std.proofs.Common.{◌<◌, ◌∷◌, [], refl, ap, ◌∙◌, arith
 use Rattle.std.proofs.lemmas.List.{map-id, length-append, get_or_default}
 use Rattle.std.proofs.lemmas.Result.{err_from_is_err_and}
 use Rattle.csv.specs.Records.{fields_of}
-use Rattle.vx_values.specs.ValueView.{cell_val}
-use Rattle.vx_values.specs.declared.value.ColType.{ColType}
-use Rattle.vx_values.specs.declared.value.ColType.TheVariants as kind
+use Rattle.vx_rows_values.specs.ValueView.{cell_val}
+use Rattle.vx_rows_values.specs.declared.value.ColType.{ColType}
+use Rattle.vx_rows_values.specs.declared.value.ColType.TheVariants as kind
 use Rattle.vx_catalog.specs.Loading.{next_value}
-use Rattle.vx_relations.proofs.WalkFacts.{walk_step, walk_next, walk_done}
+use Rattle.vx_catalog_relations.proofs.WalkFacts.{walk_step, walk_next, walk_done}
 use Rattle.vx_catalog.proofs.RowFacts.{type_kept, next_is, fails_along}
 use Rattle.vx_catalog.proofs.record.push_values.Goals as goal
 

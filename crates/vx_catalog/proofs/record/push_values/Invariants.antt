@@ -1,7 +1,7 @@
 use Rattle.std.proofs.Common.{◌≡◌, [], length, map, drop}
 use Rattle.csv.specs.Records.{fields_of}
-use Rattle.vx_values.specs.declared.value.ColType.{ColType}
-use Rattle.vx_relations.specs.Walk.{walk_onto}
+use Rattle.vx_rows_values.specs.declared.value.ColType.{ColType}
+use Rattle.vx_catalog_relations.specs.Walk.{walk_onto}
 use Rattle.vx_catalog.specs.Loading.{next_value}
 use Rattle.vx_catalog.proofs.record.push_values.Given as goal
 

@@ -4,7 +4,7 @@ use Rattle.vx_catalog.specs.Counting.{StaysKnown}
 use Rattle.vx_catalog.specs.Records.{IsPlain, rest_of}
 use Rattle.vx_catalog.proofs.RowsReported.{RowsSoFar}
 use Rattle.vx_catalog.proofs.record.read_rows.Given as goal
-use Rattle.vx_values.specs.Limits.{max_rows}
+use Rattle.vx_rows_values.specs.Limits.{max_rows}
 
 abbrev pub invariant-loop : goal.invariant-loop
 invariant-loop g l = record {

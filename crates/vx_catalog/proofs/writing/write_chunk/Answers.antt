@@ -1,6 +1,6 @@
 use Rattle.std.proofs.Common.{◌<◌, ◌++◌, ℕ, List, length, rules, subst, flat_map, arith}
 use Rattle.std.proofs.lemmas.List.{take_all}
-use Rattle.vx_values.specs.Values.{Row}
+use Rattle.vx_rows_values.specs.Values.{Row}
 use Rattle.vx_catalog.specs.Csv.{line_text}
 use Rattle.vx_catalog.specs.Text.{StandsAt}
 use Rattle.vx_catalog.proofs.CsvFacts.{lines_more}

@@ -1,7 +1,7 @@
 use Rattle.std.proofs.Common.{◌++◌, ℕ, List, subst, flat_map, arith}
 use Rattle.std.proofs.lemmas.List.{take_all}
 use Rattle.vx_rows.specs.View.{RowsView}
-use Rattle.vx_views.specs.Chunks.{all_rows}
+use Rattle.vx_rows_views.specs.Chunks.{all_rows}
 use Rattle.vx_catalog.specs.Csv.{line_text}
 use Rattle.vx_catalog.specs.Text.{StandsAt}
 use Rattle.vx_catalog.proofs.CsvFacts.{chunks_more}

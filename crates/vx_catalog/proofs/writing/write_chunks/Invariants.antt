@@ -1,5 +1,5 @@
 use Rattle.std.proofs.Common.{ℕ, List, ◌++◌, flat_map, take}
-use Rattle.vx_views.specs.Chunks.{all_rows}
+use Rattle.vx_rows_views.specs.Chunks.{all_rows}
 use Rattle.vx_catalog.specs.Csv.{line_text}
 use Rattle.vx_catalog.specs.Text.{StandsAt}
 use Rattle.vx_catalog.proofs.writing.write_chunks.Given as goal

@@ -1,5 +1,5 @@
 use Rattle.std.proofs.Common.{◌∙◌, ap, map}
-use Rattle.vx_values.specs.Ranges.{RangeForm, range_form}
+use Rattle.vx_rows_values.specs.Ranges.{RangeForm, range_form}
 use Rattle.vx_check.specs.Explain.{name_at}
 use Rattle.vx_check.proofs.WordFacts.{name-range}
 use Rattle.vx_check.proofs.words.range_name.Goals as goal

@@ -1,7 +1,7 @@
 use Rattle.std.proofs.Common.{ℕ, ◌∙◌, ◌<◌, Vec, Global, map, length, rules, arith, ap, get_or}
 use Rattle.std.proofs.lemmas.List.{length-map}
 use Rattle.std.proofs.lemmas.Result.{on_ok_weaker}
-use Rattle.vx_relations.specs.Catalog.{are_distinct}
+use Rattle.vx_catalog_relations.specs.Catalog.{are_distinct}
 use Rattle.vx_check_options.proofs.FoundFacts.{finds-last, no-choices, first-choices, choices-start, choices-next, choices-done, column-distinct}
 use Rattle.vx_check_options.proofs.choices.+add_choices.Goals as goal
 

@@ -1,5 +1,5 @@
 use Rattle.std.proofs.Common.{◌∙◌, ℕ, Vec, Global, map, ap}
-use Rattle.vx_relations.specs.Catalog.{relation_at}
+use Rattle.vx_catalog_relations.specs.Catalog.{relation_at}
 use Rattle.vx_plan_nodes.specs.Describe.{whole_rows}
 use Rattle.vx_plan_nodes.specs.Outline.{part_of, binary_of, plan_of}
 use Rattle.vx_check_rules.specs.Seen.{columns_seen}

@@ -1,9 +1,9 @@
 use Rattle.std.proofs.Common.{◌≡◌, ◌∙◌, ◌<◌, ℕ, true, false, Some, None, List, [], ◌∷◌, map, length, refl, sym, ap, arith}
 use Rattle.std.specs.Prelude.{is_some}
 use Rattle.std.proofs.lemmas.List.{nil_from_length}
-use Rattle.vx_values.specs.Lists.{is_some_list}
-use Rattle.vx_relations.specs.Relation.{Relation}
-use Rattle.vx_relations.specs.Catalog.{relation_at}
+use Rattle.vx_rows_values.specs.Lists.{is_some_list}
+use Rattle.vx_catalog_relations.specs.Relation.{Relation}
+use Rattle.vx_catalog_relations.specs.Catalog.{relation_at}
 use Rattle.vx_plan_nodes.specs.Plan.{Plan, scan, unary, binary, exchange, claim}
 use Rattle.vx_plan_nodes.specs.declared.typed.Part as rust_part
 use Rattle.vx_plan_nodes.specs.Outline.{part_of, plan_of}

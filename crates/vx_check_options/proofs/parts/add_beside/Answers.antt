@@ -1,5 +1,5 @@
 use Rattle.std.proofs.Common.{List, map, flat_map, refl}
-use Rattle.vx_relations.specs.Catalog.{relation_at}
+use Rattle.vx_catalog_relations.specs.Catalog.{relation_at}
 use Rattle.vx_plan_nodes.specs.declared.typed.Part as rust_part
 use Rattle.vx_plan_nodes.specs.Outline.{part_of, plan_of}
 use Rattle.vx_check_options.specs.Options.{parts_over}

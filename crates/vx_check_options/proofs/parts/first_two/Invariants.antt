@@ -1,5 +1,5 @@
 use Rattle.std.proofs.Common.{◌≡◌, map, drop}
-use Rattle.vx_relations.specs.Catalog.{relation_at}
+use Rattle.vx_catalog_relations.specs.Catalog.{relation_at}
 use Rattle.vx_plan_nodes.specs.Outline.{part_of, plan_of}
 use Rattle.vx_check_options.specs.Placed.{first_two, is_given}
 use Rattle.vx_check_options.proofs.parts.first_two.Given as goal

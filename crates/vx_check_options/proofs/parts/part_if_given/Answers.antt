@@ -1,5 +1,5 @@
 use Rattle.std.proofs.Common.{◌≡◌, ◌∙◌, ◌∷◌, [], map, take, ap, sym}
-use Rattle.vx_relations.specs.Catalog.{relation_at}
+use Rattle.vx_catalog_relations.specs.Catalog.{relation_at}
 use Rattle.vx_plan_nodes.specs.Plan.{Part, claim}
 use Rattle.vx_plan_nodes.specs.Outline.{part_of, plan_of}
 use Rattle.vx_check_options.specs.Options.{part_if_given}

@@ -1,6 +1,6 @@
 use Rattle.std.proofs.Common.{◌∙◌, List, map, flat_map, refl, sym, arith}
 use Rattle.std.proofs.lemmas.List.{at_drop_all}
-use Rattle.vx_relations.specs.Catalog.{relation_at}
+use Rattle.vx_catalog_relations.specs.Catalog.{relation_at}
 use Rattle.vx_plan_nodes.specs.declared.typed.Part as rust_part
 use Rattle.vx_plan_nodes.specs.Plan.{Part}
 use Rattle.vx_plan_nodes.specs.Outline.{part_of, plan_of}

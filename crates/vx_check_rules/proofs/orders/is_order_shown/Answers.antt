@@ -1,6 +1,6 @@
 use Rattle.std.proofs.Common.{◌∙◌, sym, ap}
 use Rattle.std.specs.List.{list_any}
-use Rattle.vx_relations.specs.Catalog.{relation_at}
+use Rattle.vx_catalog_relations.specs.Catalog.{relation_at}
 use Rattle.vx_plan_nodes.specs.Plan.{claim}
 use Rattle.vx_plan_nodes.specs.Outline.{plan_of}
 use Rattle.vx_check_rules.specs.Behaviour.{behaviour, sorts, shown_order}

@@ -1,6 +1,6 @@
 use Rattle.std.proofs.Common.{◌≡◌, ℕ, true, false, Some, None, refl, sym, ◌∙◌}
-use Rattle.vx_relations.specs.Relation.{Relation}
-use Rattle.vx_relations.specs.Catalog.{relation_at}
+use Rattle.vx_catalog_relations.specs.Relation.{Relation}
+use Rattle.vx_catalog_relations.specs.Catalog.{relation_at}
 use Rattle.vx_plan_nodes.specs.Plan.{Plan}
 use Rattle.vx_plan_nodes.specs.Outline.{plan_of}
 use Rattle.vx_check_rules.specs.Rules.{sizes_match, not_replicated, inputs_match, order_given, part_shown, order_shown, keys_shown}

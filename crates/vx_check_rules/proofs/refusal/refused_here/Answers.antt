@@ -1,4 +1,4 @@
-use Rattle.vx_relations.specs.Catalog.{relation_at}
+use Rattle.vx_catalog_relations.specs.Catalog.{relation_at}
 use Rattle.vx_plan_nodes.specs.Outline.{plan_of}
 use Rattle.vx_check_rules.proofs.NamedKeys.{named-here}
 use Rattle.vx_check_rules.proofs.refusal.refused_here.Goals as goal

@@ -1,6 +1,6 @@
 use Rattle.std.proofs.Common.{◌≡◌, drop, map, flat_map}
 use Rattle.std.specs.List.{fold}
-use Rattle.vx_values.specs.ValueView.{val_of}
+use Rattle.vx_rows_values.specs.ValueView.{val_of}
 use Rattle.vx_plan_nodes.specs.ByteRouter.{hash_byte, value_bytes}
 use Rattle.vx_exchange.proofs.byte_router.hash_key.Given as goal
 

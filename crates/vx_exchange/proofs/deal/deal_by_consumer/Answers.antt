@@ -5,7 +5,7 @@ use Rattle.vx_rows.specs.Lists.{each_below}
 use Rattle.vx_rows.specs.View.{row, ArePositions}
 use Rattle.vx_rows.proofs.Below.{length-each_below, get_or-each_below}
 use Rattle.vx_plan_nodes.specs.Streams.{Streams, bearing}
-use Rattle.vx_views.specs.Selected.{places_of}
+use Rattle.vx_rows_views.specs.Selected.{places_of}
 use Rattle.vx_exchange.proofs.LaneLists.{cuts-same}
 use Rattle.vx_exchange.proofs.PlaceFacts.{lists, places-there}
 use Rattle.vx_exchange.proofs.Turns.{places-bearing}

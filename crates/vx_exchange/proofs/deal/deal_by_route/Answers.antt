@@ -1,5 +1,5 @@
 use Rattle.std.proofs.Common.{◌≡◌, ◌<◌, ℕ, List, map, sym, subst, arith, All}
-use Rattle.vx_values.specs.Values.{Row}
+use Rattle.vx_rows_values.specs.Values.{Row}
 use Rattle.vx_exchange.specs.Routed.{routed_to}
 use Rattle.vx_exchange.proofs.KindDeals.{routed-below, map-below}
 use Rattle.vx_exchange.proofs.deal.deal_by_route.Goals as goal

@@ -1,7 +1,7 @@
 use Rattle.std.proofs.Common.{◌<◌, ◌≡◌, ◌∙◌, ◌+◌, ℕ, List, length, map, get_or, [], ap, sym, subst, false, arith}
 use Rattle.std.proofs.lemmas.List.{length-map}
 use Rattle.std.specs.Prelude.{slice_range}
-use Rattle.vx_values.specs.Values.{Row}
+use Rattle.vx_rows_values.specs.Values.{Row}
 use Rattle.vx_rows.specs.View.{row, ArePositions}
 use Rattle.vx_plan_nodes.specs.Streams.{Streams}
 use Rattle.vx_exchange.specs.LaneView.{Cuts}

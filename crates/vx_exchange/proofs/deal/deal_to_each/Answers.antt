@@ -1,5 +1,5 @@
 use Rattle.std.proofs.Common.{◌<◌, ◌≡◌, ◌∙◌, List, length, ap, subst, false, arith}
-use Rattle.vx_values.specs.Values.{Row}
+use Rattle.vx_rows_values.specs.Values.{Row}
 use Rattle.vx_rows.specs.View.{RowsView}
 use Rattle.vx_plan_nodes.specs.Streams.{Streams}
 use Rattle.vx_exchange.specs.LaneView.{Cuts}

@@ -1,7 +1,7 @@
 use Rattle.std.proofs.Common.{ℕ, List, ◌≡◌, ◌==◌, ◌++◌, ◌∷◌, [], ap, sym, ◌∙◌, set, get_or, take_all, length, arith, Vec, Global}
 use Rattle.std.proofs.lemmas.List.{length-map}
 use Rattle.vx_rows.proofs.Below.{length-each_below, each_below-ext}
-use Rattle.vx_views.specs.Selected.{places_of}
+use Rattle.vx_rows_views.specs.Selected.{places_of}
 use Rattle.vx_exchange.proofs.PlaceFacts.{places-below, places-first, places-more}
 use Rattle.vx_exchange.proofs.places.places_of_each.Goals as goal
 

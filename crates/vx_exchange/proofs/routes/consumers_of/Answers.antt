@@ -1,9 +1,9 @@
 use Rattle.std.proofs.Common.{ℕ, List, length, subst, ◌≡◌, ◌++◌, ap, sym, ◌∙◌, map, take, take_all, arith}
 use Rattle.std.proofs.lemmas.List.{map-append}
-use Rattle.vx_values.specs.Values.{Row}
-use Rattle.vx_views.specs.Chunks.{all_rows}
-use Rattle.vx_views.proofs.Whole.{next-rows}
-use Rattle.vx_values.specs.declared.value.ColType.{ColType}
+use Rattle.vx_rows_values.specs.Values.{Row}
+use Rattle.vx_rows_views.specs.Chunks.{all_rows}
+use Rattle.vx_rows_views.proofs.Whole.{next-rows}
+use Rattle.vx_rows_values.specs.declared.value.ColType.{ColType}
 use Rattle.vx_rows.specs.View.{RowsView, AreColumns}
 use Rattle.vx_exchange.specs.Routed.{routed_to, key_columns}
 use Rattle.vx_exchange.proofs.routes.consumers_of.Goals as goal

@@ -1,5 +1,5 @@
 use Rattle.std.proofs.Common.{◌≡◌, map, take}
-use Rattle.vx_views.specs.Chunks.{all_rows}
+use Rattle.vx_rows_views.specs.Chunks.{all_rows}
 use Rattle.vx_exchange.specs.Routed.{routed_to}
 use Rattle.vx_exchange.proofs.routes.consumers_of.Given as goal
 

@@ -1,7 +1,7 @@
 use Rattle.std.proofs.Common.{◌≡◌, ℕ, ◌+◌, ◌≤◌, ap, ◌∙◌, take, length, arith}
 use Rattle.std.specs.List.{slice_range}
 use Rattle.std.proofs.lemmas.List.{length-take-le}
-use Rattle.vx_values.specs.Values.{Row}
+use Rattle.vx_rows_values.specs.Values.{Row}
 use Rattle.vx_exchange.proofs.BlockFacts.{block-routed}
 use Rattle.vx_exchange.proofs.routes.push_of_numbers.Goals as goal
 

@@ -1,9 +1,9 @@
 use Rattle.std.proofs.Common.{ℕ, ◌<◌, ◌++◌, ◌∷◌, [], ap, sym, ◌∙◌, map, length, take, append_assoc, arith, rules, w64}
 use Rattle.std.proofs.lemmas.Int.{to_z-of_z}
 use Rattle.std.proofs.lemmas.List.{map_more}
-use Rattle.vx_values.specs.Values.{Row, value_at}
+use Rattle.vx_rows_values.specs.Values.{Row, value_at}
 use Rattle.vx_plan_nodes.specs.Routes.{range_consumer}
-use Rattle.vx_keys.specs.Columns.{number_key}
+use Rattle.vx_match_keys.specs.Columns.{number_key}
 use Rattle.vx_exchange.proofs.routes.push_of_ranges.Goals as goal
 
 pub loop-i-preserved : goal.loop-i-preserved

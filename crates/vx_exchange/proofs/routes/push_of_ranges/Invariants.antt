@@ -1,5 +1,5 @@
 use Rattle.std.proofs.Common.{◌≡◌, ◌++◌, map, take}
-use Rattle.vx_values.specs.Values.{value_at}
+use Rattle.vx_rows_values.specs.Values.{value_at}
 use Rattle.vx_plan_nodes.specs.Routes.{range_consumer}
 use Rattle.vx_exchange.proofs.routes.push_of_ranges.Given as goal
 

@@ -1,7 +1,7 @@
 use Rattle.std.proofs.Common.{◌≡◌, ◌<◌, ◌++◌, [], ◌∷◌, arith, ap, ◌∙◌, sym, length, take, get_or}
 use Rattle.std.proofs.lemmas.List.{length-map, take_more, get_or_default}
-use Rattle.vx_values.specs.Values.{pick, value_at}
-use Rattle.vx_values.specs.ValueView.{cell_val}
+use Rattle.vx_rows_values.specs.Values.{pick, value_at}
+use Rattle.vx_rows_values.specs.ValueView.{cell_val}
 use Rattle.vx_rows.specs.View.{row}
 use Rattle.vx_rows.proofs.Fill.{map_at}
 use Rattle.vx_exchange.proofs.routes.set_key.Goals as goal

@@ -1,12 +1,12 @@
 use Rattle.std.specs.Prelude.{OnOk}
 use Rattle.std.proofs.Common.{◌≡◌, ◌++◌, ℕ, List, map, sym, subst}
-use Rattle.vx_values.specs.Values.{Row}
+use Rattle.vx_rows_values.specs.Values.{Row}
 use Rattle.vx_rows.specs.Lists.{each_below}
 use Rattle.vx_plan_nodes.specs.Outline.{plan_of, kind_of}
 use Rattle.vx_plan_nodes.specs.Plan.{size}
 use Rattle.vx_plan_nodes.specs.Streams.{workers}
 use Rattle.vx_plan_nodes.specs.declared.typed.TypedNode.{TypedNode}
-use Rattle.vx_steps.specs.Crews.{producer_duty, duties_below}
+use Rattle.vx_exec_steps.specs.Crews.{producer_duty, duties_below}
 use Rattle.vx_exec.specs.Crew.{duty}
 use Rattle.vx_exec.specs.Job.{model_of}
 use Rattle.vx_exec.proofs.Each.{both-added}

@@ -4,7 +4,7 @@ use Rattle.vx_rows.specs.Lists.{each_below}
 use Rattle.vx_plan_nodes.specs.Outline.{plan_of, kind_of}
 use Rattle.vx_plan_nodes.specs.Streams.{workers}
 use Rattle.vx_plan_nodes.specs.Workers.{worker_group_at}
-use Rattle.vx_steps.specs.Crews.{producer_duty}
+use Rattle.vx_exec_steps.specs.Crews.{producer_duty}
 use Rattle.vx_exec.specs.Crew.{duty, IsNew}
 use Rattle.vx_exec.specs.Job.{model_of}
 use Rattle.vx_exec.proofs.Each.{each-begun, each-mapped}

@@ -1,9 +1,9 @@
 use Rattle.std.proofs.Common.{◌≡◌, ◌++◌, ℕ, List, map}
 use Rattle.std.specs.List.{All}
-use Rattle.vx_values.specs.Values.{Row}
+use Rattle.vx_rows_values.specs.Values.{Row}
 use Rattle.vx_rows.specs.Lists.{each_below}
 use Rattle.vx_plan_nodes.specs.Outline.{plan_of, kind_of}
-use Rattle.vx_steps.specs.Crews.{producer_duty}
+use Rattle.vx_exec_steps.specs.Crews.{producer_duty}
 use Rattle.vx_exec.specs.Crew.{duty, IsNew}
 use Rattle.vx_exec.specs.Job.{model_of}
 use Rattle.vx_exec.proofs.crew.add_producers.Given as goal

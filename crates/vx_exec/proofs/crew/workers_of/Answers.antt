@@ -1,7 +1,7 @@
 use Rattle.std.proofs.Common.{◌≡◌, ◌∷◌, ◌++◌, ◌∙◌, [], map, ap, subst}
 use Rattle.vx_plan_nodes.specs.Outline.{plan_of}
 use Rattle.vx_plan_nodes.specs.TypedView.{plan as whole_plan}
-use Rattle.vx_steps.specs.Crews.{root_duty, duties_below}
+use Rattle.vx_exec_steps.specs.Crews.{root_duty, duties_below}
 use Rattle.vx_exec.specs.Crew.{duty}
 use Rattle.vx_exec.specs.Job.{model_of}
 use Rattle.vx_exec.proofs.Parts.{root-is-part}

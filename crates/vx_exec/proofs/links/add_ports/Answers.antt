@@ -1,5 +1,5 @@
 use Rattle.vx_rows.specs.Lists.{each_below}
-use Rattle.vx_steps.specs.Queues.{open_line}
+use Rattle.vx_exec_steps.specs.Queues.{open_line}
 use Rattle.vx_exec.proofs.Each.{each-begun, each-pushed, each-alike}
 use Rattle.vx_exec.proofs.links.add_ports.Goals as goal
 

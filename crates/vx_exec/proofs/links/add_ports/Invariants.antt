@@ -1,6 +1,6 @@
 use Rattle.std.proofs.Common.{◌≡◌, ◌++◌}
 use Rattle.vx_rows.specs.Lists.{each_below}
-use Rattle.vx_steps.specs.Queues.{open_line}
+use Rattle.vx_exec_steps.specs.Queues.{open_line}
 use Rattle.vx_exec.proofs.links.add_ports.Given as goal
 
 abbrev pub invariant-loop : goal.invariant-loop

@@ -1,5 +1,5 @@
 use Rattle.std.proofs.Common.{sym, ap, ◌∙◌}
-use Rattle.vx_operators.specs.Destination.{post_of}
+use Rattle.vx_exec_operators.specs.Destination.{post_of}
 use Rattle.vx_worker.specs.Worker.{sender_of}
 use Rattle.vx_exec.proofs.Posts.{sender-keeps-not}
 use Rattle.vx_exec.proofs.run.rows_of_root.Goals as goal

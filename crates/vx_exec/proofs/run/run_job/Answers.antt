@@ -3,9 +3,9 @@ use Rattle.vx_plan_nodes.specs.TypedView.{plan as whole_plan, resolved_of}
 use Rattle.vx_plan_nodes.specs.Types.{types_of}
 use Rattle.vx_check_rules.specs.Checked.{relations}
 use Rattle.vx_exec.specs.Counts.{AreCountsOf}
-use Rattle.vx_setup.specs.Counts.{counts_in}
+use Rattle.vx_exec_setup.specs.Counts.{counts_in}
 use Rattle.vx_exec.specs.Job.{model_of}
-use Rattle.vx_runs.specs.Promise.{NothingElse}
+use Rattle.vx_exec_runs.specs.Promise.{NothingElse}
 use Rattle.vx_exec.specs.Runs.{IsInRounds}
 use Rattle.vx_exec.proofs.Outcomes.{rounds-reported, counted-reported, comes-whole}
 use Rattle.vx_exec.proofs.Finishing.{job-accepted, ready-parts, has-run, first-types, not-passed, comes-kept}

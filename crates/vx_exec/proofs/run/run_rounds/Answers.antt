@@ -1,8 +1,8 @@
 use Rattle.std.proofs.Common.{◌≤◌, IfOk, refl, subst, inl}
-use Rattle.vx_layout.specs.Needed.{rounds_needed}
-use Rattle.vx_setup.specs.Counts.{counts_in}
-use Rattle.vx_runs.specs.Promise.{NothingElse}
-use Rattle.vx_runs.specs.Runs.{IsWhole}
+use Rattle.vx_exec_layout.specs.Needed.{rounds_needed}
+use Rattle.vx_exec_setup.specs.Counts.{counts_in}
+use Rattle.vx_exec_runs.specs.Promise.{NothingElse}
+use Rattle.vx_exec_runs.specs.Runs.{IsWhole}
 use Rattle.vx_exec.specs.Runs.{InRounds, CountedInRounds}
 use Rattle.vx_exec.proofs.Outcomes.{made-of, NoJobOf, where-set, nothing-ran, promise-kept, promise-refused}
 use Rattle.vx_exec.proofs.run.run_rounds.Goals as goal

@@ -1,8 +1,8 @@
 use Rattle.std.proofs.Common.{IfOk, refl, subst, inl}
-use Rattle.vx_layout.specs.Needed.{rounds_needed}
+use Rattle.vx_exec_layout.specs.Needed.{rounds_needed}
 use Rattle.vx_plan_nodes.specs.Workers.{crew_size}
-use Rattle.vx_runs.specs.Runs.{IsWhole}
-use Rattle.vx_steps.specs.Schedules.{HoldsRounds}
+use Rattle.vx_exec_runs.specs.Runs.{IsWhole}
+use Rattle.vx_exec_steps.specs.Schedules.{HoldsRounds}
 use Rattle.vx_exec.specs.Runs.{Scheduled, IsBadStepOf, NamesFirst}
 use Rattle.vx_exec.proofs.Outcomes.{made-of, NoJobOf, where-set, nothing-ran, promise-kept, promise-refused}
 use Rattle.vx_exec.proofs.run.run_scheduled.Goals as goal

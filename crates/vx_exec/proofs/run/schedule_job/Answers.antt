@@ -1,9 +1,9 @@
-use Rattle.vx_layout.specs.Needed.{rounds_needed}
+use Rattle.vx_exec_layout.specs.Needed.{rounds_needed}
 use Rattle.vx_plan_nodes.specs.TypedView.{plan as whole_plan, resolved_of}
 use Rattle.vx_plan_nodes.specs.Types.{types_of}
 use Rattle.std.proofs.Common.{◌<◌, inl, inr, subst, sym}
 use Rattle.std.specs.List.{All}
-use Rattle.vx_steps.specs.Schedules.{HoldsRounds, IsBadStep}
+use Rattle.vx_exec_steps.specs.Schedules.{HoldsRounds, IsBadStep}
 use Rattle.vx_exec.specs.Runs.{IsBadStepOf}
 use Rattle.vx_exec.specs.Job.{model_of}
 use Rattle.vx_check_rules.specs.Checked.{relations}

@@ -1,6 +1,6 @@
 use Rattle.std.proofs.Common.{◌∙◌, sym, map, string_bytes, rules}
-use Rattle.vx_runs.specs.Setup.{size_out_of_range, bad_packet, bad_morsel, bad_slack, sizes_set}
-use Rattle.vx_setup.specs.Setup.{first_out_of_range}
+use Rattle.vx_exec_runs.specs.Setup.{size_out_of_range, bad_packet, bad_morsel, bad_slack, sizes_set}
+use Rattle.vx_exec_setup.specs.Setup.{first_out_of_range}
 use Rattle.vx_exec.proofs.WorkerGroupFacts.{none_found, passed, is_within-true, worker_groups_within}
 use Rattle.vx_exec.proofs.setup.job_in.Goals as goal
 

@@ -1,6 +1,6 @@
 use Rattle.std.proofs.Common.{[], ap, ◌∙◌}
 use Rattle.vx_ports.specs.Packets.{fault}
-use Rattle.vx_ends.specs.Ship.{packet_of}
+use Rattle.vx_exchange_ends.specs.Ship.{packet_of}
 use Rattle.vx_exec.proofs.Each.{each-begun}
 use Rattle.vx_exec.proofs.Starting.{closing_more}
 use Rattle.vx_exec.proofs.worker.closing_packets.Goals as goal

@@ -1,7 +1,7 @@
 use Rattle.std.proofs.Common.{◌≡◌}
 use Rattle.vx_rows.specs.Lists.{each_below}
 use Rattle.vx_ports.specs.Packets.{fault}
-use Rattle.vx_ends.specs.Ship.{Ship, packet_of}
+use Rattle.vx_exchange_ends.specs.Ship.{Ship, packet_of}
 use Rattle.vx_exec.proofs.worker.closing_packets.Given as goal
 
 abbrev pub invariant-loop-to : goal.invariant-loop-to

@@ -1,7 +1,7 @@
 use Rattle.std.proofs.Common.{ap, ◌∙◌, map}
 use Rattle.vx_plan_nodes.specs.Outline.{plan_of}
-use Rattle.vx_steps.specs.Crews.{duty_of}
-use Rattle.vx_operators.specs.Destination.{post_of}
+use Rattle.vx_exec_steps.specs.Crews.{duty_of}
+use Rattle.vx_exec_operators.specs.Destination.{post_of}
 use Rattle.vx_worker.specs.Intake.{source_of}
 use Rattle.vx_exec.proofs.Workers.{made-does, made-new}
 use Rattle.vx_exec.proofs.worker.fragment_worker.Goals as goal

@@ -1,16 +1,16 @@
 use Rattle.std.proofs.Common.{◌≡◌, ℕ, List, ap, ◌∙◌, sym}
 use Rattle.vx_plan_nodes.specs.Outline.{plan_of, kind_of}
 use Rattle.vx_plan_nodes.specs.Streams.{workers}
-use Rattle.vx_values.specs.Values.{Row}
+use Rattle.vx_rows_values.specs.Values.{Row}
 use Rattle.vx_check_rules.specs.Checked.{relations}
 use Rattle.vx_rows.specs.Lists.{each_below}
 use Rattle.vx_ports.specs.Packets.{fault}
-use Rattle.vx_ends.specs.Ship.{Ship, packet_of}
-use Rattle.vx_ends.specs.Tasks.{post_types}
+use Rattle.vx_exchange_ends.specs.Ship.{Ship, packet_of}
+use Rattle.vx_exchange_ends.specs.Tasks.{post_types}
 use Rattle.vx_worker.specs.Fragment.{fragment}
 use Rattle.vx_worker.specs.Worker.{closing_of}
-use Rattle.vx_laws.specs.RunOf.{ship_of}
-use Rattle.vx_operators.specs.Destination.{post_of}
+use Rattle.vx_exec_laws.specs.RunOf.{ship_of}
+use Rattle.vx_exec_operators.specs.Destination.{post_of}
 use Rattle.vx_plan_nodes.specs.Workers.{worker_group_at}
 use Rattle.vx_exec.specs.Job.{model_of}
 use Rattle.vx_exec.proofs.Workers.{does-at}

@@ -4,14 +4,14 @@ use Rattle.vx_plan_nodes.specs.Plan.{ExchangeKind}
 use Rattle.vx_plan_nodes.specs.Streams.{workers}
 use Rattle.vx_plan_nodes.specs.Typed.{is_kind}
 use Rattle.vx_plan_nodes.specs.TypedView.{scope}
-use Rattle.vx_values.specs.Values.{Val}
+use Rattle.vx_rows_values.specs.Values.{Val}
 use Rattle.vx_check_rules.specs.Checked.{relations}
 use Rattle.vx_exchange.specs.Lanes.{kind_of as kind_dealt}
-use Rattle.vx_ends.specs.Sending.{KindRoutesAs, RoutesAs}
-use Rattle.vx_ends.specs.Tasks.{Post}
-use Rattle.vx_operators.specs.Destination.{bounds_of}
+use Rattle.vx_exchange_ends.specs.Sending.{KindRoutesAs, RoutesAs}
+use Rattle.vx_exchange_ends.specs.Tasks.{Post}
+use Rattle.vx_exec_operators.specs.Destination.{bounds_of}
 use Rattle.vx_worker.specs.Fragment.{goes}
-use Rattle.vx_operators.specs.declared.destination.Destination.TheVariants as destination
+use Rattle.vx_exec_operators.specs.declared.destination.Destination.TheVariants as destination
 use Rattle.vx_plan_nodes.specs.Workers.{worker_group_at}
 use Rattle.vx_exec.specs.Job.{model_of}
 use Rattle.vx_exec.proofs.Dealing.{deal-serves, deal-columns, deal-routes}

@@ -1,5 +1,5 @@
 use Rattle.std.proofs.Common.{◌≡◌, map, take}
-use Rattle.vx_values.specs.Types.{type_at}
+use Rattle.vx_rows_values.specs.Types.{type_at}
 use Rattle.vx_plan.proofs.columns.kept_types.Given as goal
 
 abbrev pub invariant-loop-k : goal.invariant-loop-k

@@ -1,7 +1,7 @@
 use Rattle.std.proofs.Common.{sym, ◌∙◌, ◌&&◌}
-use Rattle.vx_values.specs.Values.{Val}
-use Rattle.vx_values.specs.Types.{type_of, is_held}
-use Rattle.vx_values.specs.ValueView.{val_of}
+use Rattle.vx_rows_values.specs.Values.{Val}
+use Rattle.vx_rows_values.specs.Types.{type_of, is_held}
+use Rattle.vx_rows_values.specs.ValueView.{val_of}
 use Rattle.vx_plan_nodes.specs.Typed.{type_eq}
 use Rattle.std.proofs.lemmas.List.Folds.{list_all-map}
 use Rattle.vx_plan.proofs.fits.are_bounds_of.Goals as goal

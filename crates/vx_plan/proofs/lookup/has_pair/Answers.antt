@@ -1,7 +1,7 @@
 use Rattle.std.proofs.Common.{sym, ◌∙◌}
 use Rattle.vx_plan_json.specs.Document.{pair_form}
 use Rattle.vx_plan.specs.Lookup.{pair_eq}
-use Rattle.vx_relations.proofs.NameFacts.{list_any-map}
+use Rattle.vx_catalog_relations.proofs.NameFacts.{list_any-map}
 use Rattle.vx_plan.proofs.lookup.has_pair.Goals as goal
 
 pub returns : goal.returns

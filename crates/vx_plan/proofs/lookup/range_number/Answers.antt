@@ -1,6 +1,6 @@
 use Rattle.std.proofs.Common.{sym, ◌∙◌, bytes_eq}
-use Rattle.vx_values.specs.Ranges.{RangeForm, range_form}
-use Rattle.vx_relations.proofs.NameFacts.{position-map}
+use Rattle.vx_rows_values.specs.Ranges.{RangeForm, range_form}
+use Rattle.vx_catalog_relations.proofs.NameFacts.{position-map}
 use Rattle.vx_plan.proofs.lookup.range_number.Goals as goal
 
 pub returns : goal.returns

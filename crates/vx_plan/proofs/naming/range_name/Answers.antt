@@ -1,6 +1,6 @@
 use Rattle.std.proofs.Common.{◌∙◌, ap, map, sym}
-use Rattle.vx_values.specs.Ranges.{RangeForm, range_form}
-use Rattle.vx_relations.specs.Naming.{name_at}
+use Rattle.vx_rows_values.specs.Ranges.{RangeForm, range_form}
+use Rattle.vx_catalog_relations.specs.Naming.{name_at}
 use Rattle.vx_plan.proofs.NamingFacts.{name-range}
 use Rattle.vx_plan.proofs.naming.range_name.Goals as goal
 

@@ -1,5 +1,5 @@
 use Rattle.std.proofs.Common.{map, string_bytes, arith}
-use Rattle.vx_values.specs.Ranges.{range_form}
+use Rattle.vx_rows_values.specs.Ranges.{range_form}
 use Rattle.vx_plan.proofs.PlanFacts.{resolved-typed}
 use Rattle.vx_plan.proofs.resolving.resolve.Goals as goal
 

@@ -1,6 +1,6 @@
 use Rattle.std.proofs.Common.{◌≡◌, ◌∙◌, ap, sym, inr, not, ◌||◌, true, false, ◌<◌, length, map, take, arith, List, ℕ, Err}
-use Rattle.vx_values.specs.ValueView.{val_of}
-use Rattle.vx_values.specs.Ranges.{RangeForm, range_form}
+use Rattle.vx_rows_values.specs.ValueView.{val_of}
+use Rattle.vx_rows_values.specs.Ranges.{RangeForm, range_form}
 use Rattle.vx_plan_nodes.specs.Typed.{is_range}
 use Rattle.vx_plan_json.specs.Fault.{bad_range}
 use Rattle.vx_plan.specs.Resolve.{test_ranges, is_bad_range}

@@ -1,6 +1,6 @@
 use Rattle.std.proofs.Common.{◌≡◌, ℕ, List, [], map, drop, take, bytes_eq}
 use Rattle.std.specs.List.{list_any}
-use Rattle.vx_values.specs.Ranges.{RangeForm, range_form}
+use Rattle.vx_rows_values.specs.Ranges.{RangeForm, range_form}
 use Rattle.vx_plan_json.specs.Fault.{bad_range}
 use Rattle.vx_plan.specs.Lookup.{tested_onto}
 use Rattle.vx_plan.specs.Resolve.{is_bad_range}

@@ -1,7 +1,7 @@
 use Rattle.std.proofs.Common.{◌≡◌, arith, ap, ◌∙◌, length, map}
 use Rattle.std.proofs.lemmas.List.{length-map}
-use Rattle.vx_values.specs.declared.value.ColType.TheVariants as kind
-use Rattle.vx_values.specs.Types.{type_at}
+use Rattle.vx_rows_values.specs.declared.value.ColType.TheVariants as kind
+use Rattle.vx_rows_values.specs.Types.{type_at}
 use Rattle.vx_rows.specs.Columns.{column_type, size}
 use Rattle.vx_rows.proofs.Fill.{map_at}
 use Rattle.vx_rows.proofs.parts.grow_all.Goals as goal

@@ -1,6 +1,6 @@
 use Rattle.std.proofs.Common.{◌≡◌, ◌+◌, ◌<◌, ◌++◌, [], ◌∷◌, arith, ap, ◌∙◌, length, map, take}
 use Rattle.std.proofs.lemmas.List.{length-map, map-set, take_more_set}
-use Rattle.vx_values.specs.ValueView.{val_of, cell_val}
+use Rattle.vx_rows_values.specs.ValueView.{val_of, cell_val}
 use Rattle.vx_rows.proofs.Splice.{on_ok}
 use Rattle.vx_rows.proofs.table.put_key.Goals as goal
 

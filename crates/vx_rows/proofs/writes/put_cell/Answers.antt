@@ -1,6 +1,6 @@
 use Rattle.std.proofs.Common.{◌≡◌, ◌+◌, arith, ap, ◌∙◌}
 use Rattle.vx_rows.specs.Columns.{entry, size}
-use Rattle.vx_values.specs.ValueView.{cell_val}
+use Rattle.vx_rows_values.specs.ValueView.{cell_val}
 use Rattle.vx_rows.proofs.Splice.{on_ok_both}
 use Rattle.vx_rows.proofs.Fill.{keep_set, fill_set}
 use Rattle.vx_rows.proofs.NextColumn.{long_at}

@@ -1,8 +1,8 @@
 use Rattle.std.proofs.Common.{arith, ap, ◌∙◌, sym, get_or, pos}
 use Rattle.std.proofs.lemmas.List.{get_or_default}
-use Rattle.vx_values.specs.declared.value.Cell.TheVariants as cell
-use Rattle.vx_values.specs.ValueView.{cell_val}
-use Rattle.vx_values.specs.Types.{type_at}
+use Rattle.vx_rows_values.specs.declared.value.Cell.TheVariants as cell
+use Rattle.vx_rows_values.specs.ValueView.{cell_val}
+use Rattle.vx_rows_values.specs.Types.{type_at}
 use Rattle.vx_rows.proofs.Fill.{map_at, keep_more}
 use Rattle.vx_rows.proofs.NextColumn.{type_next, value_next, held_next, all_held, values_end}
 use Rattle.vx_rows.proofs.writes.put_cells.Goals as goal

@@ -1,7 +1,7 @@
 use Rattle.std.proofs.Common.{◌≡◌, true, take, map}
 use Rattle.std.specs.List.{list_all}
-use Rattle.vx_values.specs.Types.{is_held}
-use Rattle.vx_values.specs.ValueView.{cell_val}
+use Rattle.vx_rows_values.specs.Types.{is_held}
+use Rattle.vx_rows_values.specs.ValueView.{cell_val}
 use Rattle.vx_rows.specs.Columns.{KeepRows, Fills}
 use Rattle.vx_rows.proofs.writes.put_cells.Given as goal
 

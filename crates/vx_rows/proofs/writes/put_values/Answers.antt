@@ -1,6 +1,6 @@
 use Rattle.std.proofs.Common.{arith, ap, ◌∙◌, sym}
-use Rattle.vx_values.specs.ValueView.{cell_val, val_of}
-use Rattle.vx_values.specs.Types.{type_of, type_at}
+use Rattle.vx_rows_values.specs.ValueView.{cell_val, val_of}
+use Rattle.vx_rows_values.specs.Types.{type_of, type_at}
 use Rattle.vx_rows.proofs.Fill.{map_at, keep_more}
 use Rattle.vx_rows.proofs.NextColumn.{type_next, value_next, held_next, all_held, values_end}
 use Rattle.vx_rows.proofs.writes.put_values.Goals as goal

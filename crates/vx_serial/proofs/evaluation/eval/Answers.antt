@@ -1,5 +1,5 @@
 use Rattle.std.proofs.Common.{rules, ◌≡◌, ◌∙◌, sym, ap, subst, List, None}
-use Rattle.vx_relations.specs.Relation.{Relation}
+use Rattle.vx_catalog_relations.specs.Relation.{Relation}
 use Rattle.vx_plan_nodes.specs.Outline.{plan_of, plan_in}
 use Rattle.vx_plan_nodes.specs.TypedView.{scope, resolved_of}
 use Rattle.vx_serial.specs.Evaluated.{first_exchange, IsFit}

@@ -2,7 +2,7 @@ use Rattle.std.proofs.Common.{◌≡◌, true, subst}
 use Rattle.vx_plan_nodes.specs.Outline.{binary_of}
 use Rattle.vx_plan_nodes.specs.Typed.{is_binary}
 use Rattle.vx_plan_nodes.specs.declared.typed.Binary.{Binary}
-use Rattle.vx_algebra.proofs.ColumnFacts.{union-types}
+use Rattle.vx_ops_kernels.proofs.ColumnFacts.{union-types}
 use Rattle.vx_serial.proofs.operators.binary_rows.Goals as goal
 
 pub united-requires : goal.united-requires

@@ -1,6 +1,6 @@
 use Rattle.std.proofs.Common.{◌∙◌, sym, subst, ℕ, List, length}
 use Rattle.vx_rows.specs.View.{AreColumns}
-use Rattle.vx_algebra.proofs.ColumnFacts.{left-columns, right-columns}
+use Rattle.vx_ops_kernels.proofs.ColumnFacts.{left-columns, right-columns}
 use Rattle.vx_serial.proofs.operators.joined.Goals as goal
 
 pub hash_join-requires-clause-left : goal.hash_join-requires-clause-left

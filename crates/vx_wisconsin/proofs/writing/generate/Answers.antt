@@ -1,5 +1,5 @@
 use Rattle.std.proofs.Common.{arith, ◌∙◌}
-use Rattle.vx_bytes.proofs.PortFacts.{appends_more, or_false}
+use Rattle.vx_catalog_bytes.proofs.PortFacts.{appends_more, or_false}
 use Rattle.vx_wisconsin.proofs.RelationFacts.{rows-meet}
 use Rattle.vx_wisconsin.proofs.TextFacts.{or-true}
 use Rattle.vx_wisconsin.proofs.writing.generate.Goals as goal

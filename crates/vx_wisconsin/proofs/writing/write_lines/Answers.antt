@@ -1,7 +1,7 @@
 use Rattle.std.proofs.Common.{arith, ap, sym, subst, ◌∙◌, ◌≤◌, ◌-◌, ◌++◌, ℕ, List, length, drop}
 use Rattle.std.specs.Io.KnownBytes.{Appends}
 use Rattle.std.proofs.lemmas.List.{take_all, length-drop}
-use Rattle.vx_bytes.proofs.PortFacts.{appends_more, or_false}
+use Rattle.vx_catalog_bytes.proofs.PortFacts.{appends_more, or_false}
 use Rattle.vx_wisconsin.proofs.TextFacts.{lines, lines-split}
 use Rattle.vx_wisconsin.proofs.writing.write_lines.Goals as goal
 

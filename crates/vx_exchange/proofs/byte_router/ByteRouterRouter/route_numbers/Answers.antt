@@ -3,7 +3,7 @@ use Rattle.std.specs.List.{fold}
 use Rattle.std.specs.Int.{w32, w64, to_be_bytes, cast_unsigned, IsPowerOfTwo}
 use Rattle.std.proofs.lemmas.Bool.{eqb-true}
 use Rattle.std.proofs.lemmas.Int.{to_z-of_z}
-use Rattle.vx_values.specs.Values.{num}
+use Rattle.vx_rows_values.specs.Values.{num}
 use Rattle.vx_plan_nodes.specs.ByteRouter.{hash_byte, byte_route}
 use Rattle.vx_exchange.proofs.BlockFacts.{consumers-more}
 use Rattle.vx_exchange.proofs.ByteFacts.{number-hash, small-route, power-one-bit, map-alike}

@@ -1,5 +1,5 @@
 use Rattle.std.proofs.Common.{◌≡◌, ◌∷◌, [], map, take, length}
-use Rattle.vx_values.specs.Values.{num}
+use Rattle.vx_rows_values.specs.Values.{num}
 use Rattle.vx_plan_nodes.specs.ByteRouter.{byte_route}
 use Rattle.vx_exchange.proofs.byte_router.ByteRouterRouter.route_numbers.Given as goal
 

@@ -1,6 +1,6 @@
 use Rattle.std.proofs.Common.{◌∙◌, refl, take}
-use Rattle.vx_views.specs.Chunks.{all_rows}
-use Rattle.vx_views.proofs.Whole.{next-rows}
+use Rattle.vx_rows_views.specs.Chunks.{all_rows}
+use Rattle.vx_rows_views.proofs.Whole.{next-rows}
 use Rattle.vx_exchange.proofs.Cuts.{cuts-both, cuts-nothing}
 use Rattle.vx_exchange.proofs.lane.Lane.fill_each.Goals as goal
 

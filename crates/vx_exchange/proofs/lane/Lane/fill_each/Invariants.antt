@@ -1,5 +1,5 @@
 use Rattle.std.proofs.Common.{◌≡◌, take}
-use Rattle.vx_views.specs.Chunks.{all_rows}
+use Rattle.vx_rows_views.specs.Chunks.{all_rows}
 use Rattle.vx_exchange.specs.LaneView.{Cuts}
 use Rattle.vx_exchange.proofs.lane.Lane.fill_each.Given as goal
 

@@ -1,5 +1,5 @@
 use Rattle.std.proofs.Common.{ap, ◌∙◌, map}
-use Rattle.vx_values.specs.ValueView.{val_of}
+use Rattle.vx_rows_values.specs.ValueView.{val_of}
 use Rattle.vx_exchange.proofs.ranges.Ranges.bounds.Goals as goal
 
 pub returns : goal.returns

@@ -1,7 +1,7 @@
 use Rattle.std.proofs.Common.{◌≡◌, ◌<◌, ◌+◌, ◌-◌, ◌/◌, ◌∙◌, ap, sym, subst, List, true, length, get_or, pos, is_le, arith}
 use Rattle.std.proofs.lemmas.List.{get_or-map, length-map}
-use Rattle.vx_values.specs.Values.{Val, val_cmp, num}
-use Rattle.vx_values.specs.ValueView.{val_of, cell_val}
+use Rattle.vx_rows_values.specs.Values.{Val, val_cmp, num}
+use Rattle.vx_rows_values.specs.ValueView.{val_of, cell_val}
 use Rattle.vx_plan_nodes.specs.Typed.{rises}
 use Rattle.vx_exchange.proofs.RangeFacts.{count-split, still-not_above, still-above, not_greater}
 use Rattle.vx_exchange.proofs.ranges.Ranges.not_above.Goals as goal

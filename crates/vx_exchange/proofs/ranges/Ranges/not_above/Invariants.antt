@@ -1,6 +1,6 @@
 use Rattle.std.proofs.Common.{◌≡◌, ◌≤◌, ◌<◌, ◌-◌, ℕ, true, false, length, get_or, pos, is_le}
-use Rattle.vx_values.specs.Values.{val_cmp, num}
-use Rattle.vx_values.specs.ValueView.{cell_val}
+use Rattle.vx_rows_values.specs.Values.{val_cmp, num}
+use Rattle.vx_rows_values.specs.ValueView.{cell_val}
 use Rattle.vx_exchange.proofs.ranges.Ranges.not_above.Given as goal
 
 abbrev pub invariant-loop-low : goal.invariant-loop-low

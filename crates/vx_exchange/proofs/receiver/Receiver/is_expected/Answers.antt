@@ -2,9 +2,9 @@ use Rattle.std.proofs.Common.{rules, ◌≡◌, true, refl, sym, ◌∙◌}
 use denote.Enum.Bare.{sameb}
 use Rattle.std.specs.Bool.{Decides}
 use Rattle.std.proofs.lemmas.Slice.Eq.{slice_eq-Decides}
-use Rattle.vx_values.specs.declared.value.ColType.{ColType}
-use Rattle.vx_values.specs.declared.value.ColType.TheVariants.{Int, Text}
-use Rattle.vx_values.specs.contracts.value.ColType.{the_type}
+use Rattle.vx_rows_values.specs.declared.value.ColType.{ColType}
+use Rattle.vx_rows_values.specs.declared.value.ColType.TheVariants.{Int, Text}
+use Rattle.vx_rows_values.specs.contracts.value.ColType.{the_type}
 use Rattle.vx_exchange.specs.Receiver.{receiver_end}
 use Rattle.vx_exchange.proofs.Arrivals.{is-for}
 use Rattle.vx_exchange.proofs.receiver.Receiver.is_expected.Goals as goal

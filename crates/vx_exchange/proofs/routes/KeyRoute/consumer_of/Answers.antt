@@ -1,6 +1,6 @@
 use Rattle.std.proofs.Common.{◌≡◌, ℕ, List, length, map, ap, sym, subst, ◌∙◌, string_bytes}
-use Rattle.vx_values.specs.Values.{Row, pick}
-use Rattle.vx_values.specs.ValueView.{val_of}
+use Rattle.vx_rows_values.specs.Values.{Row, pick}
+use Rattle.vx_rows_values.specs.ValueView.{val_of}
 use Rattle.vx_rows.specs.View.{row, AreColumns}
 use Rattle.vx_plan_nodes.specs.Routes.{range_consumer}
 use Rattle.vx_exchange.specs.Routed.{routed_to, key_columns}

@@ -2,9 +2,9 @@ use Rattle.std.proofs.Common.{◌≡◌, ℕ, ◌++◌, ◌∷◌, [], ap, sym, 
 use Rattle.std.specs.Prelude.{OnOk}
 use Rattle.std.proofs.lemmas.List.{map_more}
 use Rattle.std.proofs.lemmas.Simd.{map-map}
-use Rattle.vx_values.specs.Values.{Row, pick, value_at}
+use Rattle.vx_rows_values.specs.Values.{Row, pick, value_at}
 use Rattle.vx_plan_nodes.specs.Routes.{range_consumer}
-use Rattle.vx_views.proofs.Maybe.{on_ok_map}
+use Rattle.vx_rows_views.proofs.Maybe.{on_ok_map}
 use Rattle.vx_exchange.specs.Routed.{routed_to}
 use Rattle.vx_exchange.specs.declared.routes.KeyRoute.{KeyRoute}
 use Rattle.vx_exchange.proofs.routes.KeyRoute.push_consumers.Goals as goal

@@ -2,9 +2,9 @@ use Rattle.std.proofs.Common.{rules, ◌≡◌, ◌<◌, ℕ, true, true≢false
 use Rattle.vx_ops.specs.Ledger.{fresh}
 use Rattle.vx_rows.specs.View.{AreColumns}
 use Rattle.vx_exchange.specs.Lanes.{kind_of, serves, columns_of, way_to}
-use Rattle.vx_ends.specs.Ship.{Ship}
+use Rattle.vx_exchange_ends.specs.Ship.{Ship}
 use Rattle.vx_exchange.specs.Sender.{SenderAt}
-use Rattle.vx_ends.specs.Tasks.{sends_by_ship}
+use Rattle.vx_exchange_ends.specs.Tasks.{sends_by_ship}
 use Rattle.vx_exchange.specs.declared.sender.SenderState.TheVariants.{Open}
 use Rattle.vx_exchange.proofs.LaneLists.{serves-some, fresh-ship, fresh-numbered, fresh-open}
 use Rattle.vx_exchange.proofs.Senders.{sender-fresh}

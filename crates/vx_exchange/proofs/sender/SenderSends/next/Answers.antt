@@ -5,12 +5,12 @@ use Rattle.std.proofs.lemmas.Option.{IfSome_then}
 use Rattle.vx_ports.specs.Packets.{PacketView, closes, last, fault}
 use Rattle.vx_exchange.specs.LaneView.{Way, LaneView}
 use Rattle.vx_exchange.specs.Lanes.{ways_of, ship_of, may_close, AreNumbered}
-use Rattle.vx_ends.specs.Ship.{IsShipped, IsCutShort}
+use Rattle.vx_exchange_ends.specs.Ship.{IsShipped, IsCutShort}
 use Rattle.vx_exchange.specs.Sender.{takes_more, SenderAt}
-use Rattle.vx_ends.specs.Tasks.{sends_by_ship}
+use Rattle.vx_exchange_ends.specs.Tasks.{sends_by_ship}
 use Rattle.vx_exchange.specs.declared.sender.SenderState.{SenderState}
 use Rattle.vx_exchange.proofs.LaneLists.{ways-count, same-count, same-any, same-ship, numbered-same, served-same, few-same, turn-same, columns-same, all-idle, given-same, given-idle, gives-same, gives-idle, gives-unclosed, closed-ways, closed-idle, closes-somewhere}
-use Rattle.vx_ends.specs.Queued.{IsTakenOut}
+use Rattle.vx_exchange_ends.specs.Queued.{IsTakenOut}
 use Rattle.vx_exchange.specs.Queued.{lanes_held, lanes_unclosed}
 use Rattle.vx_exchange.proofs.Held.{gives-taken, closes-taken}
 use Rattle.vx_exchange.proofs.Senders.{closes-with, open-not_failing, ending-not_failing, gives-now, closes-now, sender-shipped, sender-cut}

@@ -3,14 +3,14 @@ use Rattle.std.proofs.lemmas.List.Elements.{All-map}
 use Rattle.std.proofs.lemmas.Simd.{map-map}
 use Rattle.vx_plan_nodes.specs.Plan.{Plan}
 use Rattle.vx_plan_nodes.specs.TypedView.{plan}
-use Rattle.vx_layout.specs.Layout.{spans_of}
-use Rattle.vx_ends.specs.Sending.{RoutesAs}
+use Rattle.vx_exec_layout.specs.Layout.{spans_of}
+use Rattle.vx_exchange_ends.specs.Sending.{RoutesAs}
 use Rattle.vx_worker.specs.Fragment.{goes}
 use Rattle.vx_worker.specs.Trace.{scan_morsels}
 use Rattle.vx_worker.specs.Worker.{Role, role_of}
-use Rattle.vx_operators.specs.Operator.{operator_op}
-use Rattle.vx_operators.specs.Destination.{post_of, bounds_of}
-use Rattle.vx_steps.specs.Crews.{duty_of}
+use Rattle.vx_exec_operators.specs.Operator.{operator_op}
+use Rattle.vx_exec_operators.specs.Destination.{post_of, bounds_of}
+use Rattle.vx_exec_steps.specs.Crews.{duty_of}
 use Rattle.vx_exec.specs.Job.{model_of}
 use Rattle.vx_exec.specs.Links.{morsels_in, station_in, sends_in, queues_in}
 use Rattle.vx_exec.proofs.BySpans.{stations-by-spans, sends-by-spans, queues-by-spans}

@@ -1,6 +1,6 @@
 use Rattle.std.proofs.Common.{◌≡◌, true, List, map, ap, subst, sym, ◌∙◌}
-use Rattle.vx_values.specs.Values.{Val}
-use Rattle.vx_values.specs.ValueView.{val_of}
+use Rattle.vx_rows_values.specs.Values.{Val}
+use Rattle.vx_rows_values.specs.ValueView.{val_of}
 use Rattle.vx_plan_nodes.specs.Outline.{route_of}
 use Rattle.vx_plan_nodes.specs.Typed.{is_routed, rises}
 use Rattle.vx_plan_nodes.specs.TypedView.{scope, names_in}

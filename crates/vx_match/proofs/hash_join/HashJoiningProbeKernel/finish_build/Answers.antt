@@ -1,5 +1,5 @@
 use Rattle.std.proofs.Common.{◌∙◌, ℕ, List, length, map, ap, sym, subst}
-use Rattle.vx_values.specs.declared.value.ColType.{ColType}
+use Rattle.vx_rows_values.specs.declared.value.ColType.{ColType}
 use Rattle.vx_rows.specs.View.{AreColumns}
 use Rattle.vx_match.proofs.hash_join.HashJoiningProbeKernel.finish_build.Goals as goal
 

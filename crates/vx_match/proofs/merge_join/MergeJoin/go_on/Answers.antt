@@ -1,5 +1,5 @@
 use Rattle.std.proofs.Common.{◌∙◌, sym, subst, arith, length, ◌+◌, ◌≤◌}
-use Rattle.vx_merging.specs.Merged.{merge_need}
+use Rattle.vx_match_merging.specs.Merged.{merge_need}
 use Rattle.vx_ops.specs.Turn.{Pays, if_running}
 use Rattle.vx_ops.specs.declared.fault.StreamState.{StreamState}
 use Rattle.vx_match.specs.MergeJoin.{may_join, may_idle, merge_join_most, merge_join_idle, own_where}

@@ -1,5 +1,5 @@
 use Rattle.std.proofs.Common.{◌≡◌, ◌∙◌, ◌+◌, ap, sym, subst}
-use Rattle.vx_merging.specs.Merged.{merge_need}
+use Rattle.vx_match_merging.specs.Merged.{merge_need}
 use Rattle.vx_ops.specs.Turn.{after, Coming, Pays, if_running}
 use Rattle.vx_ops.specs.declared.fault.StreamState.{StreamState}
 use Rattle.vx_ops.proofs.Costs.{pays-before}

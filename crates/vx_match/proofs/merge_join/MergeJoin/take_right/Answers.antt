@@ -2,7 +2,7 @@ use Rattle.std.proofs.Common.{◌+◌, length, zero-le}
 use Rattle.vx_ops.specs.Turn.{Coming}
 use Rattle.vx_ops.specs.Growing.{running-grows}
 use Rattle.vx_ops.proofs.Costs.{pays-within}
-use Rattle.vx_merging.proofs.MergeTurns.{need-right}
+use Rattle.vx_match_merging.proofs.MergeTurns.{need-right}
 use Rattle.vx_match.specs.MergeJoin.{may_join, may_idle}
 use Rattle.vx_match.proofs.MergePays.{rights-pay, rights-idle}
 use Rattle.vx_match.proofs.MergeJoins.{right-came, right-batch-fails, with_right}

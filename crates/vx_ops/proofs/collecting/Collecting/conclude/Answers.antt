@@ -1,5 +1,5 @@
 use Rattle.std.proofs.Common.{sym, subst, Bool, List, true, false}
-use Rattle.vx_values.specs.Values.{Row}
+use Rattle.vx_rows_values.specs.Values.{Row}
 use Rattle.vx_plan_nodes.specs.Plan.{Unary}
 use Rattle.vx_ops.specs.declared.fault.StreamState.{StreamState}
 use Rattle.vx_ops.specs.declared.fault.StreamState.TheVariants.{Running}

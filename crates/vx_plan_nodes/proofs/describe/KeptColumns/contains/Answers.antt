@@ -1,6 +1,6 @@
 use Rattle.std.proofs.Common.{sym, ◌∙◌, ◌==◌}
 use Rattle.vx_plan_nodes.specs.declared.typed.Projected.{Projected}
-use Rattle.vx_relations.proofs.NameFacts.{list_any-map}
+use Rattle.vx_catalog_relations.proofs.NameFacts.{list_any-map}
 use Rattle.vx_plan_nodes.proofs.describe.KeptColumns.contains.Goals as goal
 
 pub returns-in-Outputs : goal.returns-in-Outputs

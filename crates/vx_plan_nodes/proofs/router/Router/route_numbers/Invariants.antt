@@ -1,5 +1,5 @@
 use Rattle.std.proofs.Common.{◌≡◌, ◌∷◌, [], map, take, length}
-use Rattle.vx_values.specs.Values.{num}
+use Rattle.vx_rows_values.specs.Values.{num}
 use Rattle.vx_plan_nodes.proofs.router.Router.route_numbers.Given as goal
 
 abbrev pub invariant-loop-i : goal.invariant-loop-i

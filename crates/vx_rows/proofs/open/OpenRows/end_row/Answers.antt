@@ -1,5 +1,5 @@
 use Rattle.std.proofs.Common.{◌∷◌, [], ◌++◌, ap, ◌∙◌}
-use Rattle.vx_values.specs.Values.{Row}
+use Rattle.vx_rows_values.specs.Values.{Row}
 use Rattle.vx_rows.proofs.OpenFacts.{open_rows, open_front, front_ends, row_ended, rows_ended}
 use Rattle.vx_rows.specs.Columns.{rows_of}
 use Rattle.vx_rows.proofs.open.OpenRows.end_row.Goals as goal

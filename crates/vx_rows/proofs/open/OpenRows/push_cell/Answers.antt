@@ -1,5 +1,5 @@
 use Rattle.std.proofs.Common.{◌<◌, ◌∙◌, refl, arith, ap, length}
-use Rattle.vx_values.specs.ValueView.{cell_val}
+use Rattle.vx_rows_values.specs.ValueView.{cell_val}
 use Rattle.vx_rows.proofs.Fill.{width_is, same_rows, on_err_any}
 use Rattle.vx_rows.proofs.OpenFacts.{open_rows, open_front, open_types, front_length, same_front, still_open, now_open}
 use Rattle.vx_rows.proofs.open.OpenRows.push_cell.Goals as goal

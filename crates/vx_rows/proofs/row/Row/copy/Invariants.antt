@@ -1,5 +1,5 @@
 use Rattle.std.proofs.Common.{◌≡◌, map, take}
-use Rattle.vx_values.specs.ValueView.{val_of}
+use Rattle.vx_rows_values.specs.ValueView.{val_of}
 use Rattle.vx_rows.proofs.row.Row.copy.Given as goal
 
 abbrev pub invariant-loop-value : goal.invariant-loop-value

@@ -1,6 +1,6 @@
 use Rattle.std.proofs.Common.{◌≡◌, map, fold, take}
 use Rattle.vx_rows.specs.Hashing.{row_feed}
-use Rattle.vx_values.specs.ValueView.{val_of}
+use Rattle.vx_rows_values.specs.ValueView.{val_of}
 use Rattle.vx_rows.proofs.row.RowHash.hash.Given as goal
 
 abbrev pub invariant-loop-value : goal.invariant-loop-value

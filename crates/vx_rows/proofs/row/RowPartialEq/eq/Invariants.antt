@@ -1,5 +1,5 @@
 use Rattle.std.proofs.Common.{◌≡◌}
-use Rattle.vx_values.specs.Values.{row_eq}
+use Rattle.vx_rows_values.specs.Values.{row_eq}
 use Rattle.vx_rows.proofs.RowFacts.{rest}
 use Rattle.vx_rows.proofs.row.RowPartialEq.eq.Given as goal
 

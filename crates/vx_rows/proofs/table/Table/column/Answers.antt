@@ -1,5 +1,5 @@
 use Rattle.std.proofs.Common.{◌<◌, arith, ap, ◌∙◌, sym, length, pos, get_or}
-use Rattle.vx_values.specs.Values.{num}
+use Rattle.vx_rows_values.specs.Values.{num}
 use Rattle.vx_rows.specs.Columns.{entry, size}
 use Rattle.vx_rows.proofs.Fill.{map_at}
 use Rattle.vx_rows.proofs.Grown.{seen, width_seen, long_seen, row_seen}

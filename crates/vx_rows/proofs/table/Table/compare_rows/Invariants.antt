@@ -1,6 +1,6 @@
 use Rattle.std.proofs.Common.{◌≡◌, drop}
 use Rattle.vx_rows.specs.View.{row}
-use Rattle.vx_values.specs.Order.{compare_on}
+use Rattle.vx_rows_values.specs.Order.{compare_on}
 use Rattle.vx_rows.proofs.table.Table.compare_rows.Given as goal
 
 -- what is left decides

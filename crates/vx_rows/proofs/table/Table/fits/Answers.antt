@@ -1,9 +1,9 @@
 use Rattle.std.proofs.Common.{◌≡◌, ◌<◌, ◌≤◌, false, arith, ap, ◌∙◌, sym, length, map, true, refl, true≢false, get_or}
 use Rattle.std.proofs.lemmas.List.{length-map, take_more_same, get_or_read, take_all}
 use Rattle.std.specs.List.{list_all}
-use Rattle.vx_values.specs.declared.value.ColType.TheVariants as kind
-use Rattle.vx_values.specs.ValueView.{val_of, cell_val}
-use Rattle.vx_values.specs.Types.{type_of, is_held}
+use Rattle.vx_rows_values.specs.declared.value.ColType.TheVariants as kind
+use Rattle.vx_rows_values.specs.ValueView.{val_of, cell_val}
+use Rattle.vx_rows_values.specs.Types.{type_of, is_held}
 use Rattle.vx_rows.proofs.Fill.{map_at, held_more, types_are}
 use Rattle.vx_rows.proofs.table.Table.fits.Goals as goal
 

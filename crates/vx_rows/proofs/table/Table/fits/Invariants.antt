@@ -1,7 +1,7 @@
 use Rattle.std.proofs.Common.{◌≡◌, take, map, true}
 use Rattle.std.specs.List.{list_all}
-use Rattle.vx_values.specs.ValueView.{val_of}
-use Rattle.vx_values.specs.Types.{type_of, is_held}
+use Rattle.vx_rows_values.specs.ValueView.{val_of}
+use Rattle.vx_rows_values.specs.Types.{type_of, is_held}
 use Rattle.vx_rows.proofs.table.Table.fits.Given as goal
 
 abbrev pub invariant-loop-j : goal.invariant-loop-j

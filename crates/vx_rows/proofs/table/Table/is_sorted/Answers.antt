@@ -1,6 +1,6 @@
 use Rattle.std.proofs.Common.{◌≡◌, suc, ◌-◌, ◌<◌, arith, refl, ap, ◌∙◌, sym, length, get_or, true, is_lt, []}
-use Rattle.vx_values.specs.Order.{compare_on, sorted}
-use Rattle.vx_values.proofs.Order.{not_sorted, sorted_from}
+use Rattle.vx_rows_values.specs.Order.{compare_on, sorted}
+use Rattle.vx_rows_values.proofs.Order.{not_sorted, sorted_from}
 use Rattle.vx_rows.proofs.table.Table.is_sorted.Goals as goal
 
 pub returns-then-falls : goal.returns-then-falls

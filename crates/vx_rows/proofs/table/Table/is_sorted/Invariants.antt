@@ -1,4 +1,4 @@
-use Rattle.vx_values.proofs.Order.{NoFall}
+use Rattle.vx_rows_values.proofs.Order.{NoFall}
 use Rattle.vx_rows.proofs.table.Table.is_sorted.Given as goal
 
 abbrev pub invariant-loop-i : goal.invariant-loop-i

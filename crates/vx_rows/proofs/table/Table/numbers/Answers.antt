@@ -1,5 +1,5 @@
 use Rattle.std.proofs.Common.{◌≡◌, ℕ, ◌<◌, ◌≤◌, arith, ap, ◌∙◌, sym, length, pos, get_or}
-use Rattle.vx_values.specs.Values.{num, value_at}
+use Rattle.vx_rows_values.specs.Values.{num, value_at}
 use Rattle.vx_rows.specs.Columns.{entry, size}
 use Rattle.vx_rows.specs.View.{row}
 use Rattle.vx_rows.proofs.Fill.{map_at}

@@ -1,6 +1,6 @@
 use Rattle.std.proofs.Common.{◌≡◌, ℕ, subst, Ok, Err, Result}
 use Rattle.std.specs.Prelude.{IfOk}
-use Rattle.vx_values.specs.Keys.{first_clash}
+use Rattle.vx_rows_values.specs.Keys.{first_clash}
 use Rattle.vx_rows.specs.Numbers.{AreFirstEqual}
 use Rattle.vx_rows.proofs.SpanFacts.{clash-is}
 use Rattle.vx_rows.proofs.table.Table.numbers_clash.Goals as goal

@@ -1,5 +1,5 @@
 use Rattle.std.proofs.Common.{refl, length, map}
-use Rattle.vx_values.specs.ValueView.{val_of}
+use Rattle.vx_rows_values.specs.ValueView.{val_of}
 use Rattle.vx_rows.proofs.Fill.{still_rows, on_err_any}
 use Rattle.vx_rows.proofs.Grown.{seen, width_of, still_seen, Grown, grown, grown_one}
 use Rattle.vx_rows.proofs.table.Table.push.Goals as goal

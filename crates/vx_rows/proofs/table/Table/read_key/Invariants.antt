@@ -1,6 +1,6 @@
 use Rattle.std.proofs.Common.{◌≡◌, ◌≤◌, length, take, map}
-use Rattle.vx_values.specs.Values.{pick}
-use Rattle.vx_values.specs.ValueView.{val_of}
+use Rattle.vx_rows_values.specs.Values.{pick}
+use Rattle.vx_rows_values.specs.ValueView.{val_of}
 use Rattle.vx_rows.specs.View.{row}
 use Rattle.vx_rows.proofs.table.Table.read_key.Given as goal
 

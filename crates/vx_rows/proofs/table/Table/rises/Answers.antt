@@ -1,6 +1,6 @@
 use Rattle.std.proofs.Common.{◌≡◌, suc, ◌-◌, arith, ap, ◌∙◌, sym, get_or, true, [], true≢false, is_lt}
-use Rattle.vx_values.specs.Order.{compare_on}
-use Rattle.vx_values.proofs.KeyFacts.{rises-apart, sorted-rises}
+use Rattle.vx_rows_values.specs.Order.{compare_on}
+use Rattle.vx_rows_values.proofs.KeyFacts.{rises-apart, sorted-rises}
 use Rattle.vx_rows.proofs.table.Table.rises.Goals as goal
 
 pub returns-clause-apart : goal.returns-clause-apart

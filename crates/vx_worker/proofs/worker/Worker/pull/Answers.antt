@@ -1,5 +1,5 @@
 use Rattle.std.proofs.Common.{◌≡◌, ap, refl, sym, ◌∙◌, subst, true, false, le_refl, arith, rules}
-use Rattle.vx_ends.specs.Tasks.{BeganSending, IsAt}
+use Rattle.vx_exchange_ends.specs.Tasks.{BeganSending, IsAt}
 use Rattle.vx_ops.specs.declared.fault.StreamState.TheVariants as stream_state
 use Rattle.vx_ops.specs.declared.turn.Polled.TheVariants as polled
 use Rattle.vx_ops.specs.Turn.{own_turn}

@@ -1,6 +1,6 @@
 use Rattle.std.proofs.Common.{◌≡◌, sym, ◌∙◌, subst, refl, Option, Some, None, false, is_some}
 use Rattle.vx_ops.specs.Turn.{with_packet}
-use Rattle.vx_ends.specs.Sending.{RoutesAs}
+use Rattle.vx_exchange_ends.specs.Sending.{RoutesAs}
 use Rattle.vx_worker.specs.Trace.{idle}
 use Rattle.vx_worker.specs.Worker.{with_pending}
 use Rattle.vx_worker.proofs.Spending.{next-spent, none-spent, well-spent}

@@ -1,5 +1,5 @@
 use Rattle.std.proofs.Common.{refl, rules, sym, ◌∙◌, subst}
-use Rattle.vx_ends.specs.Tasks.{IsAt, BeganSending}
+use Rattle.vx_exchange_ends.specs.Tasks.{IsAt, BeganSending}
 use Rattle.vx_worker.specs.Trace.{idle, put_one}
 use Rattle.vx_worker.specs.Answering.{IsSending, is_full, by_event, by_fault}
 use Rattle.vx_worker.specs.Intake.{IntakeStands}

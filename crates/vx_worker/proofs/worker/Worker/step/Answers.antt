@@ -1,5 +1,5 @@
 use Rattle.std.proofs.Common.{ap, ◌∙◌}
-use Rattle.vx_setup.specs.Counts.{with_wait}
+use Rattle.vx_exec_setup.specs.Counts.{with_wait}
 use Rattle.vx_worker.specs.Trace.{added}
 use Rattle.vx_worker.proofs.Counting.{stands-counted, waits-counted}
 use Rattle.vx_worker.proofs.Spending.{counted-spent}

@@ -1,0 +1,18 @@
+use Rattle.std.proofs.lemmas.Result.{err_from_is_err_and}
+use Rattle.vx_plan_nodes.specs.TypedView.{resolved_of}
+use Rattle.volcano_answer.specs.Commands.{for_texts}
+use Rattle.volcano_answer.proofs.SerialFacts.{refuses}
+use Rattle.volcano_answer.proofs.serial.serial_plan.Goals as goal
+
+pub returns-in_err-database-clause-refused : goal.returns-in_err-database-clause-refused
+returns-in_err-database-clause-refused g c =
+    let p = err_from_is_err_and c.from_residual.result c.from_residual.ensures.1 in
+    rw (p.1, p.2) (for_texts c.in_err-database.ensures.refused)
+
+pub returns-in_err-rows-clause-refused : goal.returns-in_err-rows-clause-refused
+returns-in_err-rows-clause-refused g c =
+    let built = c.in-Ok.ensures in
+    let p = err_from_is_err_and c.from_residual-in_err-rows.result c.from_residual-in_err-rows.ensures.1 in
+    rw (p.1, p.2)
+    (refuses (resolved_of c.args.plan.now) (resolved_of c.in-Ok.erased) (g.B.Tables.holds c.args.tables.now) (g.B.Tables.lacks c.args.tables.now) c.in_ok-database.database c.in_err-rows.field-0.0
+    built.names built.total built.outline (record { same = c.in_ok-database.ensures.catalog; filled = c.in_ok-database.ensures.filled }) c.in_err-rows.ensures.refused)

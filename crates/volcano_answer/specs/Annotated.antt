@@ -1,0 +1,35 @@
+-- A plan with the claims that the rule table shows, as the program prints it, and why there is none.
+use Rattle.std.specs.Prelude.{◌≡◌, ℕ, ◌++◌, List, true, Ok, codes}
+use Rattle.serde_json.specs.Written.{compact_text}
+use Rattle.vx_catalog_relations.specs.Relation.{Relation}
+use Rattle.vx_plan_json.specs.Document.{Document}
+use Rattle.vx_plan_json.specs.Reading.{document_of_text}
+use Rattle.vx_plan_json.specs.Written.{document_json}
+use Rattle.vx_check_annotate.specs.Unclaimed.{unclaimed}
+use Rattle.vx_check_annotate.specs.Verdict.{is_accepted}
+use Rattle.vx_check_annotate.specs.Telling.{tells}
+use Rattle.vx_check_annotate.specs.Fault.{IsReason}
+use Rattle.vx_check_annotate.specs.declared.fault.AnnotateFault.{AnnotateFault}
+use Rattle.vx_check_annotate.specs.declared.fault.AnnotateFault.TheVariants as fault
+use Rattle.volcano_refusals.specs.declared.refusal.Refusal.{Refusal}
+use Rattle.volcano_refusals.specs.declared.refusal.Refusal.TheVariants as refusal
+
+-- the refusal that a fault is to the program
+abbrev pub refusal_of : AnnotateFault → Refusal
+refusal_of (fault.Plan f) = refusal.Plan f
+refusal_of (fault.Rule node rule) = refusal.Check rule node
+
+-- the text is a line of JSON with the same document but for its claims. The checker accepts it, and its claims tell at least as much as the document's own
+-- where the checker accepts that; and it reads as that document
+pub record IsAnnotated (catalog : List Relation) (d : Document) (text : List ℕ) : Type 0 where
+  pub shown : Document
+  pub same : unclaimed shown ≡ unclaimed d
+  pub accepted : is_accepted catalog shown ≡ true
+  pub telling : is_accepted catalog d ≡ true → tells shown d ≡ true
+  pub written : text ≡ compact_text (document_json shown) ++ codes "\n"
+  pub reads_back : document_of_text (compact_text (document_json shown)) ≡ Ok shown
+
+-- why there is none: the plan without its claims does not fit the catalog, or an operator does not fit; or memory ran out
+pub data AnnotationRefuses (catalog : List Relation) (d : Document) (e : Refusal) : Type 0 where
+  annotation_memory : e ≡ refusal.NoMemory → AnnotationRefuses catalog d e
+  for_reason : (f : AnnotateFault) → e ≡ refusal_of f → IsReason catalog d f → AnnotationRefuses catalog d e

@@ -1,0 +1,14 @@
+-- A check of all nodes of a plan.
+use Rattle.std.specs.Prelude.{◌≡◌, ◌≢◌, ℕ, List, None}
+use Rattle.vx_plan_nodes.specs.Names.{TypedPlanView}
+use Rattle.vx_check_failures.specs.Lines.{failure_lines}
+use Rattle.vx_check.specs.Accepted.{accepted_text}
+use Rattle.volcano_answer.specs.Commands.{refusal_in, IsShown}
+
+-- each note is shown, and this is the text that says so
+abbrev pub IsAllShown : TypedPlanView → List ℕ → Type 0
+IsAllShown p text = IsShown p × (text ≡ accepted_text p.total)
+
+-- the checker refuses the plan, and these are the lines of the nodes that fail, one for each, with the claim that is shown there
+abbrev pub AreFailures : TypedPlanView → List ℕ → Type 0
+AreFailures p lines = (refusal_in p ≢ None) × (lines ≡ failure_lines p)

@@ -1,0 +1,507 @@
+//! What arguments ask for, answered from files and standard input.
+
+ghost use Rattle.std.specs.Prelude.{◌≡◌, ◌⊎◌, [], slice_index_or, true, false, map, option_map, Some, None, MatchOption, IfOk, IfErr};
+ghost use Rattle.clap.specs.Values.{kind_of};
+ghost use Rattle.volcano_arguments.specs.Asked.{asked_is, paths_are, check_all, explain, draw, sql, why, Ask};
+ghost use Rattle.volcano_stats.specs.declared.text.StatsForm.{StatsForm};
+ghost use Rattle.volcano_answer.specs.CommandLine.{default_setting, IsTask, IsNoTask, AnswersTask, TaskRefuses, AnswersForm, FormIsRefused, AnswersStatement, StatementIsRefused, AnswersAnnotation, AnnotationIsRefused, spelled_out, with_program_name, AsksFor};
+ghost use Rattle.volcano_answer.specs.Stats.{stats_of_word, stats_asked, may_run, AsksForRuns};
+ghost use Rattle.volcano_answer.specs.StatsView.{IsCountedAs, IsUncounted, IsStatsFault};
+ghost use Rattle.volcano_answer.specs.CommandLineView.{task_is, IsJob, IsAskAnswer, IsArgumentAnswer, IsHelp, HasUsageText, IsClapFault, IsAskFault, IsArgumentFault};
+
+use crate::annotating::annotated_plan;
+use crate::asked::answer_asked;
+use crate::command::execute;
+use crate::failing::{Findings, verdict_on};
+use crate::files::{bytes_at, document_from_files, plan_from_files};
+use crate::forms::{PlanForm, form_named, plan_in_form};
+use crate::loading::loading_threads;
+use crate::runs::Stopped;
+use crate::session::Session;
+use crate::statement::{dialect_named, statement};
+use crate::stats::{CountedText, stats_named};
+use clap::Error;
+use clap::error::ErrorKind;
+use std::alloc::{AllocError, Global};
+use std::sync::Wait;
+use std::thread::Threads;
+use std::time::Clock;
+use volcano_arguments::{Asked, Request, Sources, asked_for};
+use volcano_bundle::Command;
+use volcano_drawing::{DrawFault, draw};
+use volcano_refusals::Refusal;
+use volcano_stats::{Timer, operator_words};
+use volcano_tables::Folder;
+use volcano_why::entry;
+use vx_catalog_bytes::{ByteIn, Store};
+use vx_check_sql::Dialect;
+use vx_exec_runs::Runs;
+use vx_exec_setup::{
+    DEFAULT_MORSEL_ROWS, DEFAULT_PACKET_ROWS, DEFAULT_SLACK, Mode, Setting, Setup,
+};
+
+/// A command over the catalog, the plan and the folder of tables that arguments name.
+#[derive(Drop)]
+pub struct FileCommand<'a> {
+    command: Command,
+    sources: Sources<'a>,
+    folder: &'a str,
+    setting: Setting,
+}
+
+/// What arguments ask for that is no run, with its values.
+#[derive(Drop)]
+enum AskedJob<'a> {
+    Command(FileCommand<'a>),
+    /// A check of all nodes of the plan that arguments name, over the catalog that they name.
+    Verdict(Sources<'a>),
+    /// That plan with the claims that the rule table shows.
+    Annotation(Sources<'a>),
+    /// A plan in a form, over the catalog and the plan that arguments name.
+    Form(PlanForm, Sources<'a>),
+    /// A plan's picture with the statistics of the file at a path, over the catalog and the plan that arguments name.
+    Drawing(Sources<'a>, &'a str),
+    /// A plan as a statement of SQL, over the catalog and the plan that arguments name.
+    Statement(Dialect, Sources<'a>),
+    /// What a code means.
+    Entry(&'static str),
+    /// The text of the relation with so many rows.
+    Relation(u64),
+}
+
+/// What answers arguments.
+#[derive(Drop)]
+pub enum ArgumentAnswer {
+    /// A finished text.
+    Text(Vec<u8>),
+    /// The text of the relation with so many rows, which is still to be made.
+    Relation(u64),
+    /// A finished text, and statistics that follow it.
+    Counted(CountedText),
+}
+
+/// Why arguments have no answer.
+#[derive(Drop)]
+pub enum ArgumentFault {
+    /// They are wrong, with the text that says how.
+    Usage(String),
+    /// What they ask for is refused.
+    Refused(Refusal),
+    /// They ask for a check of all nodes of a plan, and some fail: a line for each of them.
+    Failing(String),
+    /// They ask for runs of several plans, and one gives no text: the answers before it, and why.
+    Stopped(Stopped),
+}
+
+impl From<Stopped> for ArgumentFault {
+    ghost use Rattle.std.specs.Prelude.{◌≡◌};
+    ghost use Rattle.volcano_answer.specs.declared.command_line.ArgumentFault.TheVariants as fault;
+
+    ghost from_gives = { λ stopped e. e ≡ fault.Stopped stopped };
+
+    fn from(stopped: Stopped) -> ArgumentFault {
+        ArgumentFault::Stopped(stopped)
+    }
+}
+
+impl From<Refusal> for ArgumentFault {
+    ghost use Rattle.std.specs.Prelude.{◌≡◌};
+    ghost use Rattle.volcano_answer.specs.declared.command_line.ArgumentFault.TheVariants as fault;
+
+    ghost from_gives = { λ refusal e. e ≡ fault.Refused refusal };
+
+    fn from(refusal: Refusal) -> ArgumentFault {
+        ArgumentFault::Refused(refusal)
+    }
+}
+
+impl From<AllocError> for ArgumentFault {
+    ghost use Rattle.std.specs.Prelude.{◌≡◌};
+    ghost use Rattle.volcano_answer.specs.declared.command_line.ArgumentFault.TheVariants as fault;
+    ghost use Rattle.volcano_refusals.specs.declared.refusal.Refusal.TheVariants.{NoMemory};
+
+    ghost from_gives = { λ _ e. e ≡ fault.Refused NoMemory };
+
+    fn from(_e: AllocError) -> ArgumentFault {
+        ArgumentFault::Refused(Refusal::NoMemory)
+    }
+}
+
+// How a run is set up by default.
+fn default_setting(alloc: Global) -> Setting
+    ensures { result ≡ default_setting }
+{
+    let setup = Setup::new(
+        Vec::new(alloc),
+        DEFAULT_PACKET_ROWS,
+        DEFAULT_MORSEL_ROWS,
+        DEFAULT_SLACK,
+    );
+    Setting::new(setup, Mode::Rounds)
+}
+
+// A command that needs no more than a catalog and a plan, or a folder of tables too.
+fn plain_task<'a>(
+    alloc: Global,
+    command: Command,
+    sources: Sources<'a>,
+    folder: &'a str,
+) -> FileCommand<'a>
+    ensures { task_is result ≡ record { command = command; paths = paths_are sources.entry; folder = folder.entry.now; setting = default_setting } }
+{
+    FileCommand {
+        command,
+        sources,
+        folder,
+        setting: default_setting(alloc),
+    }
+}
+
+// What explaining a plan in the format of this name is.
+fn explain_job<'a>(alloc: Global, sources: Sources<'a>, format: &str) -> Option<AskedJob<'a>>
+    ensures { MatchOption result (IsNoTask (explain (paths_are sources.entry) format.now)) (λ j. IsJob (explain (paths_are sources.entry) format.now) j) }
+{
+    if format == "text" {
+        let task = plain_task(alloc, Command::Explain, sources, "");
+        return Some(AskedJob::Command(task));
+    }
+    match form_named(format) {
+        Some(form) => Some(AskedJob::Form(form, sources)),
+        None => None,
+    }
+}
+
+// What printing a plan in the SQL of the dialect of this name is.
+fn sql_job<'a>(sources: Sources<'a>, dialect: &str) -> Option<AskedJob<'a>>
+    ensures { MatchOption result (IsNoTask (sql (paths_are sources.entry) dialect.now)) (λ j. IsJob (sql (paths_are sources.entry) dialect.now) j) }
+{
+    match dialect_named(dialect) {
+        Some(dialect) => Some(AskedJob::Statement(dialect, sources)),
+        None => None,
+    }
+}
+
+// What printing the meaning of a code is.
+fn why_job<'a>(code: &str) -> Option<AskedJob<'a>>
+    ensures { MatchOption result (IsNoTask (why code.now)) (λ j. IsJob (why code.now) j) }
+{
+    match entry(code) {
+        Some(text) => Some(AskedJob::Entry(text)),
+        None => None,
+    }
+}
+
+// The job that is asked for, which is no run: `None` if there is no such format, dialect or code.
+fn job_in<'a>(alloc: Global, asked: &Asked<'a>) -> Option<AskedJob<'a>>
+    requires { may_run (asked_is asked.now) ≡ false }
+    ensures { MatchOption result (IsNoTask (asked_is asked.now)) (λ j. IsJob (asked_is asked.now) j) }
+{
+    match asked {
+        Asked::Check(sources) => {
+            let task = plain_task(alloc, Command::Check, *sources, "");
+            Some(AskedJob::Command(task))
+        }
+        Asked::CheckAll(sources) => Some(AskedJob::Verdict(*sources)),
+        Asked::Annotate(sources) => Some(AskedJob::Annotation(*sources)),
+        Asked::Explain(sources, format) => explain_job(alloc, *sources, format),
+        Asked::Draw(sources, stats) => Some(AskedJob::Drawing(*sources, *stats)),
+        Asked::Sql(sources, dialect) => sql_job(*sources, dialect),
+        Asked::Why(code) => why_job(code),
+        Asked::Serial(sources, folder) => {
+            let task = plain_task(alloc, Command::Serial, *sources, *folder);
+            Some(AskedJob::Command(task))
+        }
+        Asked::Bundle | Asked::Run(_, _, _) | Asked::RunPlans(_, _, _) => unreachable!(),
+        Asked::Generate(rows) => Some(AskedJob::Relation(*rows)),
+    }
+}
+
+// The text that answers a task. Up to `session.threads` threads load each of its tables.
+fn answer_task<T: Threads + Wait + Sync, R: Runs, C: Clock, F: Store, I: ByteIn>(
+    session: &Session<'_, T, R, C>,
+    files: &F,
+    input: &mut I,
+    task: &FileCommand<'_>,
+) -> Result<Vec<u8>, Refusal>
+    ensures text { IfOk result (λ text. AnswersTask (F.holds files.now) (I.remaining input.old) (task_is task.now) text.items) }
+    ensures refused { IfErr result (λ e. TaskRefuses (F.holds files.now) (F.is_reliable files.now) (I.remaining input.old) (I.has_failed input.new) (task_is task.now) e) }
+{
+    let plan = plan_from_files(session.alloc, files, input, task.sources)?;
+    let folder = Folder {
+        files,
+        path: task.folder,
+    };
+    let mut timer = Timer::start(session.alloc, session.clock);
+    let (command, setting) = (task.command, &task.setting);
+    let answer = execute(session, command, &folder, setting, plan, None, &mut timer)?;
+    Ok(answer.into_text())
+}
+
+// The plan at one path over the catalog at the other, in a form.
+fn answer_form<F: Store, I: ByteIn>(
+    alloc: Global,
+    files: &F,
+    input: &mut I,
+    form: PlanForm,
+    sources: Sources<'_>,
+) -> Result<Vec<u8>, Refusal>
+    ensures text { IfOk result (λ text. AnswersForm (F.holds files.now) (I.remaining input.old) form (paths_are sources.entry) text.items) }
+    ensures refused { IfErr result (λ e. FormIsRefused (F.holds files.now) (F.is_reliable files.now) (I.remaining input.old) (I.has_failed input.new) (paths_are sources.entry) e) }
+{
+    let plan = plan_from_files(alloc, files, input, sources)?;
+    plan_in_form(alloc, form, plan)
+}
+
+// The plan at one path over the catalog at the other, as a statement of SQL.
+fn answer_statement<F: Store, I: ByteIn>(
+    alloc: Global,
+    files: &F,
+    input: &mut I,
+    dialect: Dialect,
+    sources: Sources<'_>,
+) -> Result<Vec<u8>, Refusal>
+    ensures text { IfOk result (λ text. AnswersStatement (F.holds files.now) (I.remaining input.old) dialect (paths_are sources.entry) text.items) }
+    ensures refused { IfErr result (λ e. StatementIsRefused (F.holds files.now) (F.is_reliable files.now) (I.remaining input.old) (I.has_failed input.new) (paths_are sources.entry) e) }
+{
+    let plan = plan_from_files(alloc, files, input, sources)?;
+    let text = statement(alloc, dialect, &plan)?;
+    Ok(text)
+}
+
+// What is wrong with a file of statistics.
+const NO_COUNTS: &str =
+    "volcano: a file of statistics is what `run --stats=json` wrote of this plan; see volcano explain --help\n";
+
+// The picture of the plan at one path over the catalog at the other, with the statistics of the file at a third.
+fn answer_drawing<T: Threads + Wait + Sync, R: Runs, C: Clock, F: Store, I: ByteIn>(
+    session: &Session<'_, T, R, C>,
+    files: &F,
+    input: &mut I,
+    sources: Sources<'_>,
+    stats: &str,
+) -> Result<ArgumentAnswer, ArgumentFault>
+    ensures answer { IfOk result (λ a. IsAskAnswer (R.counted session.now.engine.now) (F.holds files.now) (I.remaining input.old) (draw (paths_are sources.entry) stats.now) a) }
+    ensures no_stats { IfOk result IsUncounted }
+    ensures refused { IfErr result (IsAskFault (F.holds files.now) (F.is_reliable files.now) (I.remaining input.old) (I.has_failed input.new) (draw (paths_are sources.entry) stats.now)) }
+{
+    let alloc = session.alloc;
+    let plan = plan_from_files(alloc, files, input, sources)?;
+    let words = operator_words(alloc, &plan)?;
+    let nodes = words.len();
+    let picture = plan_in_form(alloc, PlanForm::Dot, plan)?;
+    let counted = bytes_at(alloc, files, input, true, stats)?;
+    match draw(alloc, nodes, picture.as_slice(), counted.as_slice()) {
+        Ok(drawing) => Ok(ArgumentAnswer::Text(drawing)),
+        Err(DrawFault::NoMemory) => Err(ArgumentFault::Refused(Refusal::NoMemory)),
+        Err(DrawFault::BadStats) => Err(usage_error(alloc, NO_COUNTS)),
+    }
+}
+
+// The plan at one path over the catalog at the other, with the claims that the rule table shows.
+fn answer_annotation<F: Store, I: ByteIn>(
+    alloc: Global,
+    files: &F,
+    input: &mut I,
+    sources: Sources<'_>,
+) -> Result<Vec<u8>, Refusal>
+    ensures text { IfOk result (λ text. AnswersAnnotation (F.holds files.now) (I.remaining input.old) (paths_are sources.entry) text.items) }
+    ensures refused { IfErr result (AnnotationIsRefused (F.holds files.now) (F.is_reliable files.now) (I.remaining input.old) (I.has_failed input.new) (paths_are sources.entry)) }
+{
+    let (catalog, plan) = document_from_files(alloc, files, input, sources)?;
+    annotated_plan(alloc, &catalog, plan)
+}
+
+// What the checker says of all nodes of the plan at one path, over the catalog at the other.
+fn answer_verdict<T: Threads + Wait + Sync, R: Runs, C: Clock, F: Store, I: ByteIn>(
+    session: &Session<'_, T, R, C>,
+    files: &F,
+    input: &mut I,
+    sources: Sources<'_>,
+) -> Result<ArgumentAnswer, ArgumentFault>
+    ensures answer { IfOk result (λ a. IsAskAnswer (R.counted session.now.engine.now) (F.holds files.now) (I.remaining input.old) (check_all (paths_are sources.entry)) a) }
+    ensures no_stats { IfOk result IsUncounted }
+    ensures refused { IfErr result (IsAskFault (F.holds files.now) (F.is_reliable files.now) (I.remaining input.old) (I.has_failed input.new) (check_all (paths_are sources.entry))) }
+{
+    let plan = plan_from_files(session.alloc, files, input, sources)?;
+    match verdict_on(session.alloc, &plan)? {
+        Findings::Accepted(text) => Ok(ArgumentAnswer::Text(text)),
+        Findings::Failing(lines) => Err(ArgumentFault::Failing(lines)),
+    }
+}
+
+/// What is wrong with arguments that ask for what there is not.
+pub fn usage_text(asked: &Asked<'_>) -> &'static str {
+    match asked {
+        Asked::Explain(_, _) => {
+            "volcano: a format is `text`, `json` or `dot`; see volcano explain --help\n"
+        }
+        Asked::Sql(_, _) => {
+            "volcano: a dialect is `sqlite`, `postgres` or `clickhouse`; see volcano sql --help\n"
+        }
+        Asked::Why(_) => {
+            "volcano: a code is C1 to C12, P1 to P13, K1 to K9, X1 to X14 or V1 to V6; see volcano why --help\n"
+        }
+        _ => {
+            "volcano: a mode is `rounds` or `threads`, and a size is NAME=N with a number of workers; see volcano run --help\n"
+        }
+    }
+}
+
+/// The fault of wrong arguments, with the text that says how they are wrong.
+pub fn usage_error(alloc: Global, text: &str) -> ArgumentFault
+    ensures { HasUsageText text.now result }
+{
+    match String::from_str(alloc, text) {
+        Ok(text) => ArgumentFault::Usage(text),
+        Err(_) => ArgumentFault::Refused(Refusal::NoMemory),
+    }
+}
+
+/// What answers what arguments ask for that is no run.
+pub fn answer_plain<T: Threads + Wait + Sync, R: Runs, C: Clock, F: Store, I: ByteIn>(
+    session: &Session<'_, T, R, C>,
+    files: &F,
+    input: &mut I,
+    asked: &Asked<'_>,
+) -> Result<ArgumentAnswer, ArgumentFault>
+    requires plain { may_run (asked_is asked.now) ≡ false }
+    ensures answer { IfOk result (λ a. IsAskAnswer (R.counted session.now.engine.now) (F.holds files.now) (I.remaining input.old) (asked_is asked.now) a) }
+    ensures no_stats { IfOk result IsUncounted }
+    ensures refused { IfErr result (IsAskFault (F.holds files.now) (F.is_reliable files.now) (I.remaining input.old) (I.has_failed input.new) (asked_is asked.now)) }
+{
+    let alloc = session.alloc;
+    match job_in(alloc, asked) {
+        Some(AskedJob::Command(task)) => {
+            let text = answer_task(session, files, input, &task)?;
+            Ok(ArgumentAnswer::Text(text))
+        }
+        Some(AskedJob::Verdict(sources)) => answer_verdict(session, files, input, sources),
+        Some(AskedJob::Annotation(sources)) => {
+            let text = answer_annotation(alloc, files, input, sources)?;
+            Ok(ArgumentAnswer::Text(text))
+        }
+        Some(AskedJob::Form(form, sources)) => {
+            let text = answer_form(alloc, files, input, form, sources)?;
+            Ok(ArgumentAnswer::Text(text))
+        }
+        Some(AskedJob::Drawing(sources, stats)) => answer_drawing(
+            session, files, input, sources, stats,
+        ),
+        Some(AskedJob::Statement(dialect, sources)) => {
+            let text = answer_statement(alloc, files, input, dialect, sources)?;
+            Ok(ArgumentAnswer::Text(text))
+        }
+        Some(AskedJob::Entry(text)) => {
+            let text = Vec::from_slice(alloc, text.as_bytes())?;
+            Ok(ArgumentAnswer::Text(text))
+        }
+        Some(AskedJob::Relation(rows)) => Ok(ArgumentAnswer::Relation(rows)),
+        None => Err(usage_error(alloc, usage_text(asked))),
+    }
+}
+
+// The argument at a place, the empty word where there is none.
+fn argument_at<'a>(arguments: &[&'a str], place: usize) -> &'a str
+    ensures { result.now ≡ slice_index_or (map (λ a. a.now) arguments.now) place [] }
+{
+    match arguments.get(place) {
+        Some(argument) => argument,
+        None => "",
+    }
+}
+
+// An argument of a command before another: `--stats` asks for a table where no form of statistics follows it.
+fn spelled_out<'a>(command: &str, argument: &'a str, next: &str) -> &'a str
+    ensures { result.now ≡ spelled_out command.now argument.now next.now }
+{
+    match (command, argument) {
+        ("run" | "bundle", "--stats") => match stats_named(next) {
+            Some(_) => argument,
+            None => "--stats=table",
+        },
+        _ => argument,
+    }
+}
+
+/// The program's name, and then the arguments, spelled out.
+pub fn with_program_name<'a>(
+    alloc: Global,
+    arguments: &[&'a str],
+) -> Result<Vec<&'a str>, AllocError>
+    ensures { IfOk result (λ v. map (λ a. a.now) v.items ≡ with_program_name (map (λ a. a.now) arguments.now)) }
+{
+    let command = argument_at(arguments, 0);
+    let mut all = Vec::new(alloc);
+    all.push("volcano")?;
+    for place in 0..arguments.len() {
+        let next = argument_at(arguments, place + 1);
+        all.push(spelled_out(command, argument_at(arguments, place), next))?;
+    }
+    Ok(all)
+}
+
+// What is wrong with a word for statistics.
+const NO_STATS: &str =
+    "volcano: statistics are `none`, `table` or `json`; see volcano run --help\n";
+
+// What answers a request.
+fn answer_request<T: Threads + Wait + Sync, R: Runs, C: Clock, F: Store, I: ByteIn>(
+    session: &Session<'_, T, R, C>,
+    files: &F,
+    input: &mut I,
+    request: &Request<'_>,
+) -> Result<ArgumentAnswer, ArgumentFault>
+    ensures answer { IfOk result (λ a. IsAskAnswer (R.counted session.now.engine.now) (F.holds files.now) (I.remaining input.old) (asked_is request.now.asked) a) }
+    ensures stats { (f : StatsForm) → AsksForRuns (I.remaining input.old) (asked_is request.now.asked) → stats_of_word (option_map (λ s. s.now) request.now.stats) ≡ Some f → IfOk result (IsCountedAs f) }
+    ensures no_stats { stats_of_word (option_map (λ s. s.now) request.now.stats) ≡ None → IfOk result IsUncounted }
+    ensures refused { IfErr result (λ e. IsAskFault (F.holds files.now) (F.is_reliable files.now) (I.remaining input.old) (I.has_failed input.new) (asked_is request.now.asked) e
+        ⊎ IsStatsFault (option_map (λ s. s.now) request.now.stats) e) }
+{
+    let session = session.with_threads(loading_threads(session.rt, request.threads));
+    match request.stats {
+        None => answer_asked(&session, files, input, None, &request.asked),
+        Some(word) => match stats_named(word) {
+            None => Err(usage_error(session.alloc, NO_STATS)),
+            Some(form) => answer_asked(&session, files, input, form, &request.asked),
+        },
+    }
+}
+
+// What clap returns in place of matches: help, which is an answer, or a fault.
+fn help_or_fault(alloc: Global, error: &Error) -> Result<ArgumentAnswer, ArgumentFault>
+    ensures help { IfOk result (IsHelp (kind_of error.now)) }
+    ensures fault { IfErr result (IsClapFault (kind_of error.now)) }
+{
+    let text = format!(in alloc; "{error}")?;
+    match error.kind() {
+        ErrorKind::DisplayHelp | ErrorKind::DisplayVersion => Ok(ArgumentAnswer::Text(
+            text.into_bytes(),
+        )),
+        ErrorKind::OutOfMemory => Err(ArgumentFault::Refused(Refusal::NoMemory)),
+        _ => Err(ArgumentFault::Usage(text)),
+    }
+}
+
+/// What answers arguments.
+pub fn answer_arguments<T: Threads + Wait + Sync, R: Runs, C: Clock, F: Store, I: ByteIn>(
+    session: &Session<'_, T, R, C>,
+    files: &F,
+    input: &mut I,
+    arguments: &[&str],
+) -> Result<ArgumentAnswer, ArgumentFault>
+    ensures answer { IfOk result (λ a. IsArgumentAnswer (R.counted session.now.engine.now) (F.holds files.now) (I.remaining input.old) (map (λ a. a.now) arguments.now) a) }
+    ensures stats { (f : StatsForm) (ask : Ask) → AsksFor (map (λ a. a.now) arguments.now) ask → AsksForRuns (I.remaining input.old) ask → stats_asked (map (λ a. a.now) arguments.now) ≡ Some f → IfOk result (IsCountedAs f) }
+    ensures no_stats { stats_asked (map (λ a. a.now) arguments.now) ≡ None → IfOk result IsUncounted }
+    ensures refused { IfErr result (IsArgumentFault (F.holds files.now) (F.is_reliable files.now) (I.remaining input.old) (I.has_failed input.new) (map (λ a. a.now) arguments.now)) }
+{
+    let alloc = session.alloc;
+    let arguments = with_program_name(alloc, arguments)?;
+    match asked_for(alloc, arguments.as_slice()) {
+        Ok(Some(request)) => answer_request(session, files, input, &request),
+        Ok(None) => Err(usage_error(
+            alloc,
+            "volcano: statistics are drawn with --format dot alone; see volcano explain --help\n",
+        )),
+        Err(error) => help_or_fault(alloc, &error),
+    }
+}

@@ -1,0 +1,41 @@
+//! Evaluations of plans over tables.
+
+ghost use Rattle.std.specs.Prelude.{IfOk, IfErr};
+ghost use Rattle.vx_plan_nodes.specs.TypedView.{resolved_of};
+ghost use Rattle.volcano_answer.specs.Commands.{IsSerial, SerialRefuses};
+
+use crate::run::text_of;
+use crate::session::Session;
+use std::sync::Wait;
+use std::thread::Threads;
+use std::time::Clock;
+use volcano_refusals::Refusal;
+use volcano_tables::{Tables, Unobserved, load_tables_in_threads};
+use vx_exec_runs::Runs;
+use vx_plan::erase;
+use vx_plan_nodes::TypedPlan;
+use vx_serial::eval;
+
+/// The text of the rows of a plan without its exchanges over tables, under the names of the plan. Up to `session.threads`
+/// threads load a table and make the text; one thread evaluates the plan.
+pub fn serial_plan<T: Threads + Wait + Sync, R: Runs, C: Clock, B: Tables>(
+    session: &Session<'_, T, R, C>,
+    tables: &B,
+    plan: &TypedPlan,
+) -> Result<Vec<u8>, Refusal>
+    ensures text { IfOk result (λ text. IsSerial (resolved_of plan.now) (B.holds tables.now) text.items) }
+    ensures refused { IfErr result (λ e. SerialRefuses (resolved_of plan.now) (B.holds tables.now) (B.lacks tables.now) e) }
+{
+    let database = load_tables_in_threads(
+        session.rt,
+        session.loading(),
+        plan,
+        tables,
+        &mut Unobserved,
+    )?;
+    let Ok(erased) = erase(session.alloc, plan) else {
+        return Err(Refusal::NoMemory);
+    };
+    let rows = eval(session.alloc, &erased, &database)?;
+    Ok(text_of(session, plan, &rows)?)
+}

@@ -1,0 +1,68 @@
+//! What all answers of one call are made with.
+
+ghost use Rattle.std.specs.Prelude.{◌≡◌};
+
+use std::alloc::Global;
+use volcano_tables::Loading;
+use vx_rows_values::KeySeed;
+
+/// What all answers of one call are made with.
+#[derive(Clone, Copy)]
+pub struct Session<'a, T, R, C> {
+    /// Starts threads.
+    pub rt: &'a T,
+    /// Runs plans.
+    pub engine: &'a R,
+    /// Measures what statistics say.
+    pub clock: &'a C,
+    pub alloc: Global,
+    /// Keys are hashed by it; no answer depends on it.
+    pub seed: KeySeed,
+    /// How many threads load a table at most, and make the text of rows.
+    pub threads: usize,
+}
+
+impl<'a, T, R, C> Session<'a, T, R, C> {
+    /// Where one thread loads each table and makes the text of rows.
+    pub fn new(
+        rt: &'a T,
+        engine: &'a R,
+        clock: &'a C,
+        alloc: Global,
+        seed: KeySeed,
+    ) -> Session<'a, T, R, C>
+        ensures { result.engine.now ≡ engine.now }
+    {
+        Session {
+            rt,
+            engine,
+            clock,
+            alloc,
+            seed,
+            threads: 1,
+        }
+    }
+
+    /// How databases are filled.
+    pub fn loading(&self) -> Loading {
+        Loading {
+            alloc: self.alloc,
+            threads: self.threads,
+            seed: self.seed,
+        }
+    }
+
+    /// The same session with up to `threads` threads.
+    pub fn with_threads(&self, threads: usize) -> Session<'a, T, R, C>
+        ensures { result.engine.now ≡ self.now.engine.now }
+    {
+        Session {
+            rt: self.rt,
+            engine: self.engine,
+            clock: self.clock,
+            alloc: self.alloc,
+            seed: self.seed,
+            threads,
+        }
+    }
+}

@@ -1,0 +1,10 @@
+-- About and example are no part of what a command reads of its arguments.
+use Rattle.std.proofs.Common.{◌∙◌, ap}
+use Rattle.clap.specs.Simple.{app_of_fields}
+use Rattle.volcano_arguments.proofs.command_line.bare.Goals as goal
+
+pub returns-clause-app : goal.returns-clause-app
+returns-clause-app c = ap app_of_fields c.after_help.ensures ∙ (ap app_of_fields c.about.ensures ∙ c.new.ensures.app)
+
+pub returns-clause-local : goal.returns-clause-local
+returns-clause-local c = ap (λ f. f.has_globals) c.after_help.ensures ∙ (ap (λ f. f.has_globals) c.about.ensures ∙ c.new.ensures.local)

@@ -1,0 +1,24 @@
+-- The plan without its exchanges, and why it has no serial rows.
+use Rattle.std.proofs.Common.{◌≡◌, ◌∙◌, ℕ, List, Ok, Bool, false, refl, ap, subst}
+use Rattle.vx_catalog.specs.Database.{Database}
+use Rattle.vx_plan_nodes.specs.Erased.{erased_from}
+use Rattle.vx_plan_nodes.specs.Names.{Names, TypedPlanView}
+use Rattle.vx_plan_nodes.specs.Outline.{Outline}
+use Rattle.vx_serial.specs.Results.{EvalFails}
+use Rattle.vx_exec_setup.specs.declared.eval_fault.EvalFault.{EvalFault}
+use Rattle.volcano_refusals.specs.declared.refusal.Refusal.TheVariants as refusal
+use Rattle.volcano_embedding.specs.Session.{Session}
+use Rattle.volcano_embedding.specs.Planning.{plan_text}
+use Rattle.volcano_embedding.specs.Serial.{erased, IsDatabaseFor, SerialRefuses, for_evaluation}
+
+is-erased : (e p : TypedPlanView) → e.names ≡ p.names → e.total ≡ false → e.root ≡ erased_from 0 p.root → e ≡ erased p
+is-erased e p names total root =
+    ap (λ (n : Names). let r : TypedPlanView = record { names = n; total = e.total; root = e.root } in r) names
+    ∙ ap (λ (t : Bool). let r : TypedPlanView = record { names = p.names; total = t; root = e.root } in r) total
+    ∙ ap (λ (o : Outline). let r : TypedPlanView = record { names = p.names; total = false; root = o } in r) root
+
+pub refuses : (s : Session) (text : List ℕ) (p e : TypedPlanView) (db : Database) (fault : EvalFault) → plan_text s.catalog text ≡ Ok p → e.names ≡ p.names → e.total ≡ false
+    → e.root ≡ erased_from 0 p.root → IsDatabaseFor p s db → EvalFails e db fault → SerialRefuses s text (refusal.Eval fault)
+refuses s text p e db fault says names total root there fails =
+    let P : TypedPlanView → Type 0 = λ q. EvalFails q db fault in
+    for_evaluation p db fault says there refl (subst P (is-erased e p names total root) fails)

@@ -1,5 +1,0 @@
-use Rattle.vx_answer.specs.Annotated.{for_reason}
-use Rattle.vx_answer.proofs.annotating.annotated_plan.Goals as goal
-
-pub returns-in-Err-clause-refused : goal.returns-in-Err-clause-refused
-returns-in-Err-clause-refused c = for_reason c.in-Err.fault c.refusal_of.ensures c.in-Err.ensures.refused

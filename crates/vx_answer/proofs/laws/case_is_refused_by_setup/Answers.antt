@@ -1,5 +1,0 @@
-use Rattle.vx_answer.proofs.CaseFacts.{case_is_refused_by_setup}
-use Rattle.vx_answer.proofs.laws.case_is_refused_by_setup.Goals as goal
-
-pub returns : goal.returns
-returns c = case_is_refused_by_setup

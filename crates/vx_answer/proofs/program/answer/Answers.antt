@@ -1,4 +1,0 @@
-use Rattle.vx_answer.proofs.program.answer.Goals as goal
-
-pub returns-clause-usage : goal.returns-clause-usage
-returns-clause-usage g c some two = (c.reply_to_arguments.ensures.usage two).0

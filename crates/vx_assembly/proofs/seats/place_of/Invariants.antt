@@ -1,7 +1,0 @@
-use Rattle.std.proofs.Common.{◌≡◌}
-use Rattle.std.specs.List.{AllWithin}
-use Rattle.vx_threads.specs.declared.drawer.Drawer.{Drawer}
-use Rattle.vx_assembly.proofs.seats.place_of.Given as goal
-
-abbrev pub invariant-loop-k : goal.invariant-loop-k
-invariant-loop-k l = AllWithin (λ (x : Drawer). x.scan ≡ l.scan → ⊥) l.draws 0 l.k

@@ -1,8 +1,0 @@
-use Rattle.std.proofs.Common.{◌≡◌, [], map}
-use Rattle.serde_json.specs.View.{members_view}
-use Rattle.vx_setup.specs.Setup.{entry_of}
-use Rattle.vx_bundle.specs.Bundle.{each_member, number_in}
-use Rattle.vx_bundle.proofs.bundle.read_each_size.Given as goal
-
-abbrev pub invariant-loop-name : goal.invariant-loop-name
-invariant-loop-name l = each_member number_in (map entry_of l.sizes.items) (members_view l.name-iterator) ≡ each_member number_in [] (members_view l.members.entries)

@@ -1,0 +1,12 @@
+use Rattle.std.proofs.Common.{◌≡◌, ◌≤◌, length}
+use Rattle.vx_catalog_loading.specs.Reading.{ComesFrom}
+use Rattle.vx_catalog_loading.proofs.rounds.read_rounds.Given as goal
+use Rattle.vx_rows_values.specs.Limits.{max_rows}
+
+abbrev pub invariant-loop : goal.invariant-loop
+invariant-loop g l = record {
+  types : l.rows.types ≡ l.initial.rows.types;
+  few : length l.rows.rows ≤ max_rows;
+  rows : ComesFrom l.initial.rows.types l.initial.rows.rows l.initial.buffer.items (g.S.Read.remaining l.initial.source)
+      l.rows.rows l.buffer.items (g.S.Read.remaining l.source);
+}

@@ -1,0 +1,150 @@
+//! The rows of the pieces of a text, each read by a thread of its own, behind the rows so far.
+
+ghost use Rattle.std.specs.Prelude.{◌≡◌, ℕ, ◌+◌, ◌-◌, ◌<◌, ◌≤◌, ◌++◌, [], drop, length, true, List, Result, Option, IfErr, IfOk, OnOk, slice_index, slice_index_or, vec_len};
+ghost use Rattle.vx_rows.specs.Parts.{rows_of_all};
+ghost use Rattle.vx_rows_values.specs.Values.{Row};
+ghost use Rattle.vx_rows_values.specs.declared.value.ColType.{ColType as Kind};
+ghost use Rattle.vx_catalog_split.specs.Split.{is_unquoted};
+ghost use Rattle.vx_catalog.specs.Loading.{Fails, Gives};
+ghost use Rattle.vx_catalog_loading.specs.Pieces.{may_cut_before, rows_of_text, fault_behind, piece_at, AreCuts, IsPieceRead, ArePieces, Joined};
+ghost use Rattle.vx_rows_values.specs.Limits.{max_rows};
+
+use crate::cuts::cuts_of;
+use csv::ReaderBuilder;
+use std::alloc::{AllocError, Global};
+use std::thread;
+use std::thread::Threads;
+use vx_catalog::{LoadFault, read_rows};
+use vx_rows::Table;
+use vx_rows_values::ColType;
+use vx_rows_values::limits::MAX_ROWS;
+
+/// Whether bytes have no quote.
+pub fn is_unquoted(bytes: &[u8]) -> bool
+    ensures { result ≡ is_unquoted bytes.now }
+{
+    !bytes.contains(&b'"')
+}
+
+/// The rows of the records of a piece.
+pub fn read_piece(alloc: Global, types: &[ColType], piece: &[u8]) -> Result<Table, LoadFault>
+    ensures types { IfOk result (λ r. r.types ≡ types.now) }
+    ensures rows { Gives (λ r. r.rows) result (rows_of_text types.now [] piece.now) }
+    ensures few { IfOk result (λ r. length r.rows ≤ max_rows) }
+{
+    let mut reader = ReaderBuilder::new()
+        .has_headers(false)
+        .flexible(true)
+        .from_reader(alloc, piece);
+    read_rows(alloc, types, &mut reader)
+}
+
+// What a piece is read as; none if it has a quote, since then it may end within a field.
+fn read_unquoted(alloc: Global, types: &[ColType], piece: &[u8]) -> Option<Result<Table, LoadFault>>
+    ensures { IsPieceRead types.now piece.now result }
+{
+    if is_unquoted(piece) {
+        Some(read_piece(alloc, types, piece))
+    } else {
+        None
+    }
+}
+
+// What each piece of a text is read as, in threads.
+fn read_pieces<P: Threads + Sync>(
+    rt: &P,
+    alloc: Global,
+    types: &[ColType],
+    text: &[u8],
+    cuts: &[usize],
+) -> Result<Vec<Option<Result<Table, LoadFault>>>, AllocError>
+    requires { AreCuts text.now cuts.now (length text.now) }
+    ensures len { IfOk result (λ v. vec_len v ≡ length cuts.now - 1) }
+    ensures each { IfOk result (λ v. (i : ℕ) (d : _) → i + 1 < length cuts.now → IsPieceRead types.now (piece_at text.now cuts.now i) (slice_index_or v.items i d)) }
+{
+    thread::map_indices(
+        rt,
+        alloc,
+        cuts.len() - 1,
+        &|i: usize| -> Option<Result<Table, LoadFault>>
+            requires { (i + 1 < length cuts.now) × (slice_index cuts.now i ≤ slice_index cuts.now (i + 1)) × (slice_index cuts.now (i + 1) ≤ length text.now) }
+            ensures { IsPieceRead types.entry.now (piece_at text.entry.now cuts.entry.now i) result }
+        { read_unquoted(alloc, types, &text[cuts[i]..cuts[i + 1]]) },
+    )
+}
+
+/// The error of a piece with `n` rows before it: its row, if it has one, is shifted by `n`. It is `TooLarge` beyond the limit.
+pub fn fault_of(n: usize, fault: LoadFault) -> LoadFault
+    requires { n ≤ max_rows }
+    ensures { result ≡ fault_behind n fault }
+{
+    match fault {
+        LoadFault::BadWidth { row } if row < MAX_ROWS - n => LoadFault::BadWidth { row: n + row },
+        LoadFault::BadInt { row, col } if row < MAX_ROWS - n => LoadFault::BadInt {
+            row: n + row,
+            col,
+        },
+        LoadFault::NotUtf8 { row } if row < MAX_ROWS - n => LoadFault::NotUtf8 { row: n + row },
+        LoadFault::BadWidth { .. } | LoadFault::BadInt { .. } | LoadFault::NotUtf8 { .. } =>
+            LoadFault::TooLarge,
+        other => other,
+    }
+}
+
+// The tables of `parts` before the first `None` (a piece with a quote), or the first error. An error's row is shifted by
+// `before` and by the rows of the tables in front of it.
+fn tables_of(
+    alloc: Global,
+    before: usize,
+    parts: Vec<Option<Result<Table, LoadFault>>>,
+) -> Result<Vec<Table>, LoadFault>
+    requires { before ≤ max_rows }
+    ensures few { IfOk result (λ v. before + length (rows_of_all v.items) ≤ max_rows) }
+    ensures many { IfOk result (λ v. length v.items ≤ length parts.items) }
+    ensures joined { IfOk result (λ v. (types : List Kind) (front : List Row) (left : ℕ → List ℕ) → length front ≡ before → ArePieces types parts.items left → Joined types front left v.items) }
+    ensures err { IfErr result (λ e. (types : List Kind) (front : List Row) (left : ℕ → List ℕ) → length front ≡ before → ArePieces types parts.items left → Fails e (rows_of_text types front (left 0))) }
+{
+    let mut tables = Vec::new(alloc);
+    let mut count = before;
+    for part in parts {
+        match part {
+            None => return Ok(tables),
+            Some(Err(fault)) => return Err(fault_of(count, fault)),
+            Some(Ok(table)) => {
+                if table.len() > MAX_ROWS - count {
+                    return Err(LoadFault::TooLarge);
+                }
+                count += table.len();
+                tables.push(table)?;
+            }
+        }
+    }
+    Ok(tables)
+}
+
+/// Adds the rows of `text` to `rows`, up to the first piece that has a quote, and returns how many bytes were read. The text is
+/// cut into `threads` pieces, and a thread of its own reads each.
+pub fn read_round<P: Threads + Sync>(
+    rt: &P,
+    alloc: Global,
+    threads: usize,
+    text: &[u8],
+    rows: &mut Table,
+) -> Result<usize, LoadFault>
+    requires threads { 0 < threads }
+    requires few { length rows.old.rows ≤ max_rows }
+    ensures types { rows.new.types ≡ rows.old.types }
+    ensures few { OnOk result (length rows.new.rows ≤ max_rows) }
+    ensures within { IfOk result (λ n. n ≤ length text.now) }
+
+    // Whatever follows the text, if it may be cut there: all rows are those so far and those of what is left.
+    ensures rows { IfOk result (λ n. (rest : List ℕ) → may_cut_before rest ≡ true
+        → rows_of_text rows.old.types rows.old.rows (text.now ++ rest) ≡ rows_of_text rows.old.types rows.new.rows (drop n text.now ++ rest)) }
+    ensures err { IfErr result (λ e. (rest : List ℕ) → may_cut_before rest ≡ true → Fails e (rows_of_text rows.old.types rows.old.rows (text.now ++ rest))) }
+{
+    let cuts = cuts_of(alloc, text, threads)?;
+    let parts = read_pieces(rt, alloc, rows.types(), text, cuts.as_slice())?;
+    let tables = tables_of(alloc, rows.len(), parts)?;
+    rows.append_all(rt, tables.as_slice())?;
+    Ok(cuts[tables.len()])
+}

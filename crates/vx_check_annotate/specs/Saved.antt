@@ -1,0 +1,34 @@
+-- Nodes that no claims can save.
+use Rattle.std.specs.Prelude.{◌≡◌, ℕ, ◌==◌, Bool, true, false, cond, ◌&&◌, ◌||◌, List, Ok}
+use Rattle.vx_catalog_relations.specs.Relation.{Relation}
+use Rattle.vx_catalog_relations.specs.Catalog.{relation_at}
+use Rattle.vx_plan_nodes.specs.Plan.{Plan, scan, unary, binary, exchange}
+use Rattle.vx_plan_nodes.specs.Outline.{plan_in}
+use Rattle.vx_plan_nodes.specs.Names.{TypedPlanView}
+use Rattle.vx_plan_json.specs.Document.{Document}
+use Rattle.vx_plan_json.specs.Formed.{is_tree_form}
+use Rattle.vx_plan.specs.Resolve.{resolved}
+use Rattle.vx_check_rules.specs.Rules.{allowed}
+use Rattle.vx_check_options.specs.Options.{is_within}
+use Rattle.vx_check_annotate.specs.Unclaimed.{unclaimed}
+use Rattle.vx_check_annotate.specs.Verdict.{is_accepted}
+
+-- the node with this number and all below it pass their tests
+abbrev pub is_saved : (ℕ → Relation) → ℕ → Plan → Bool
+is_saved catalog k (scan n c r m z) = (n == k) && allowed catalog (scan n c r m z)
+is_saved catalog k (unary n c op p) = cond (n == k) (allowed catalog (unary n c op p)) (is_saved catalog k p)
+is_saved catalog k (binary n c op p q) = cond (n == k) (allowed catalog (binary n c op p q)) (is_saved catalog k p || is_saved catalog k q)
+is_saved catalog k (exchange n c kind m p) = cond (n == k) (allowed catalog (exchange n c kind m p)) (is_saved catalog k p)
+
+-- no bound cuts off a part that a node of the document could claim
+abbrev pub IsWithin : List Relation → Document → Type 0
+IsWithin catalog d = (p : TypedPlanView) × (resolved (unclaimed d) catalog ≡ Ok p) × (is_within (relation_at catalog) (plan_in p.root) ≡ true)
+
+-- whatever a document with these nodes claims, it is not accepted
+abbrev pub IsNeverAccepted : List Relation → Document → Type 0
+IsNeverAccepted catalog d = (e : Document) → is_tree_form e.root ≡ true → unclaimed e ≡ unclaimed d → is_accepted catalog e ≡ false
+
+-- and a test fails at this node or below it
+abbrev pub IsNeverSaved : List Relation → Document → ℕ → Type 0
+IsNeverSaved catalog d k = (e : Document) → is_tree_form e.root ≡ true → unclaimed e ≡ unclaimed d → (r : TypedPlanView) → resolved e catalog ≡ Ok r
+    → is_saved (relation_at catalog) k (plan_in r.root) ≡ false

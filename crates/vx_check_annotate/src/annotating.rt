@@ -1,0 +1,101 @@
+//! A plan with the claims that the rule table shows.
+
+ghost use Rattle.std.specs.Prelude.{◌≡◌, true, option_map, Ok, IfOk, IfErr};
+ghost use Rattle.vx_catalog_relations.specs.Catalog.{relation_at};
+ghost use Rattle.vx_plan_nodes.specs.Outline.{plan_of};
+ghost use Rattle.vx_plan_nodes.specs.TypedView.{resolved_of, plan, scope};
+ghost use Rattle.vx_plan_json.specs.Fault.{Fails};
+ghost use Rattle.vx_plan_json.specs.PlanView.{document_of};
+ghost use Rattle.vx_check_rules.specs.Refusal.{or_else};
+ghost use Rattle.vx_check_rules.specs.RuleView.{refusal_of};
+ghost use Rattle.vx_check_options.specs.Options.{first_unfit};
+ghost use Rattle.vx_plan.specs.Resolve.{resolved};
+ghost use Rattle.vx_check_annotate.specs.Unclaimed.{unclaimed};
+ghost use Rattle.vx_check_annotate.specs.Verdict.{is_accepted};
+ghost use Rattle.vx_check_annotate.specs.Telling.{tells};
+ghost use Rattle.vx_check_annotate.specs.Hinted.{IsHinted, unfit_root};
+ghost use Rattle.vx_check_annotate.specs.Strongest.{TellsTheMost};
+ghost use Rattle.vx_check_annotate.specs.Fault.{IsReason};
+
+use crate::fault::AnnotateFault;
+use crate::naming::Naming;
+use crate::rewriting::claimed_plan;
+use crate::verdict::is_accepted;
+use std::alloc::{AllocError, Global};
+use vx_catalog_relations::Catalog;
+use vx_check_options::{first_unfit, found_claims};
+use vx_check_rules::{Rule, has_one_worker};
+use vx_plan::resolve;
+use vx_plan_json::{Plan, PlanFault};
+use vx_plan_nodes::{TypedNode, TypedPlan};
+
+// The typed plan of a plan that is accepted.
+fn resolved_again(alloc: Global, catalog: &Catalog, plan: &Plan) -> Result<TypedPlan, AllocError>
+    requires { is_accepted catalog.now (document_of plan.now) ≡ true }
+    ensures { IfOk result (λ t. resolved (document_of plan.now) catalog.now ≡ Ok (resolved_of t)) }
+{
+    match resolve(alloc, plan, catalog) {
+        Ok(typed) => Ok(typed),
+        Err(_) => Err(AllocError),
+    }
+}
+
+// The plan whose claims are kept, and its typed plan: the plan as it is, if it is accepted, else without its claims.
+fn hinted(alloc: Global, catalog: &Catalog, plan: Plan) -> Result<(TypedPlan, Plan), PlanFault>
+    ensures hinted { IfOk result (λ r. IsHinted catalog.now (document_of plan) (resolved_of r.0)) }
+    ensures same { IfOk result (λ r. unclaimed (document_of r.1) ≡ unclaimed (document_of plan)) }
+    ensures fault { IfErr result (λ e. Fails e (resolved (unclaimed (document_of plan)) catalog.now)) }
+{
+    if is_accepted(alloc, catalog, &plan)? {
+        let typed = resolved_again(alloc, catalog, &plan)?;
+        return Ok((typed, plan));
+    }
+    let bare = claimed_plan(alloc, Vec::new(alloc), false, plan);
+    let typed = resolve(alloc, &bare, catalog)?;
+    Ok((typed, bare))
+}
+
+// The root, if it has several workers.
+fn unfit_root(root: &TypedNode) -> Option<(u32, Rule)>
+    ensures { option_map refusal_of result ≡ unfit_root (plan_of root.now) }
+{
+    if has_one_worker(root) {
+        return None;
+    }
+    Some((root.head().number, Rule::RootNotOne))
+}
+
+// The first node that no claims can save, or the root if it has several workers.
+fn unfit(alloc: Global, typed: &TypedPlan) -> Result<Option<(u32, Rule)>, AllocError>
+    ensures { IfOk result (λ o. option_map refusal_of o ≡ or_else (first_unfit (relation_at (scope typed.now).catalog) (plan typed.now)) (unfit_root (plan typed.now))) }
+{
+    let root = typed.root();
+    match first_unfit(alloc, typed.catalog(), root)? {
+        Some(unfit) => Ok(Some(unfit)),
+        None => Ok(unfit_root(root)),
+    }
+}
+
+/// The plan with its claims, and whether it is total, replaced by what the rule table shows: at each node a part that
+/// tells the most of those with which the operators above it fit, the longest order, and the minimal keys, the first
+/// 16; and total where the root's order is. What an accepted plan claims is kept: each of its claims is told by the new
+/// one. The refusal is the first one of the plan without claims, or else the first node that no claims can save.
+pub fn annotate(alloc: Global, catalog: &Catalog, plan: Plan) -> Result<Plan, AnnotateFault>
+    ensures same { IfOk result (λ p. unclaimed (document_of p) ≡ unclaimed (document_of plan)) }
+    ensures accepted { IfOk result (λ p. is_accepted catalog.now (document_of p) ≡ true) }
+    ensures telling { is_accepted catalog.now (document_of plan) ≡ true → IfOk result (λ p. tells (document_of p) (document_of plan) ≡ true) }
+    ensures strongest { IfOk result (λ p. TellsTheMost catalog.now (document_of p)) }
+    ensures refused { IfErr result (λ e. IsReason catalog.now (document_of plan) e) }
+{
+    let _relations = catalog.len();
+    let (typed, kept) = hinted(alloc, catalog, plan)?;
+    if let Some((node, rule)) = unfit(alloc, &typed)? {
+        return Err(AnnotateFault::Rule { node, rule });
+    }
+    let (claims, is_total) = found_claims(alloc, typed.catalog(), typed.root())?;
+    let naming = Naming {
+        ranges: typed.ranges(),
+    };
+    let named = naming.named_claims(alloc, claims, typed.root())?;
+    Ok(claimed_plan(alloc, named, is_total, kept))
+}

@@ -1,0 +1,91 @@
+//! A line for each failure.
+
+ghost use Rattle.std.specs.Prelude.{◌≡◌, ◌++◌, map, option_map, string_bytes, OnOk, IfOk, IfSome};
+ghost use Rattle.vx_catalog_relations.specs.Catalog.{relation_at};
+ghost use Rattle.vx_plan_nodes.specs.Outline.{columns, claim_of, outline_of, plan_of};
+ghost use Rattle.vx_plan_nodes.specs.Outputs.{HasOutputs};
+ghost use Rattle.vx_plan_nodes.specs.TypedView.{names_in, resolved_of};
+ghost use Rattle.vx_check_rules.specs.Exactly.{KeysNameColumns};
+ghost use Rattle.vx_check_failures.specs.Lines.{claim_text, shown_text, line_of, lines_of};
+ghost use Rattle.vx_check_failures.specs.FailureView.{failure_is};
+
+use crate::failure::Failure;
+use crate::finding::node_numbered;
+use crate::shown::shown_claim;
+use itoa::Buffer;
+use std::alloc::{AllocError, Global};
+use vx_plan::named_claim;
+use vx_plan_json::claim_text;
+use vx_plan_nodes::{Claim, Name, TypedNode, TypedPlan};
+
+// Adds a claim over columns with these names, if there is one.
+fn push_claim(
+    alloc: Global,
+    text: &mut String,
+    plan: &TypedPlan,
+    names: &[Name],
+    claim: Option<Claim>,
+) -> Result<(), AllocError>
+    ensures { OnOk result (string_bytes text.new ≡ string_bytes text.old ++ claim_text (names_in plan.now) names.now (option_map claim_of claim)) }
+{
+    let Some(claim) = claim else {
+        return Ok(());
+    };
+    let named = named_claim(alloc, plan.ranges(), names, &claim)?;
+    text.push_str(" shown=")?;
+    text.push_str(claim_text(alloc, &named)?.as_str())
+}
+
+// The names of the columns of a node's output.
+fn column_names(node: &TypedNode) -> &[Name]
+    ensures { result.now ≡ (columns (outline_of node.now)).names }
+{
+    node.head().columns.names.as_slice()
+}
+
+// Adds the claim that is shown at a node, if there are both.
+fn push_shown(
+    alloc: Global,
+    text: &mut String,
+    plan: &TypedPlan,
+    node: Option<&TypedNode>,
+) -> Result<(), AllocError>
+    requires { IfSome node (λ n. HasOutputs (relation_at (names_in plan.now).catalog) (outline_of n.now) × KeysNameColumns (relation_at (names_in plan.now).catalog) (plan_of n.now)) }
+    ensures { OnOk result (string_bytes text.new ≡ string_bytes text.old ++ shown_text (names_in plan.now) (option_map (λ n. outline_of n.now) node.entry)) }
+{
+    let Some(node) = node else {
+        return Ok(());
+    };
+    let claim = shown_claim(alloc, plan.catalog(), node)?;
+    push_claim(alloc, text, plan, column_names(node), claim)
+}
+
+// Adds the line of a failure.
+fn push_line(
+    alloc: Global,
+    text: &mut String,
+    plan: &TypedPlan,
+    failure: Failure,
+) -> Result<(), AllocError>
+    ensures { OnOk result (string_bytes text.new ≡ string_bytes text.old ++ line_of (resolved_of plan.now) (failure_is failure)) }
+{
+    let mut digits = Buffer::new();
+    text.push_str("volcano: ")?;
+    text.push_str(failure.rule.text())?;
+    text.push_str(" node=")?;
+    text.push_str(digits.format(failure.node))?;
+    push_shown(alloc, text, plan, node_numbered(plan.root(), failure.node))?;
+    text.push_str("\n")
+}
+
+/// A line for each of the failures, in their order, as the program reports a plan that is refused; behind each the claim
+/// that the rule table shows there.
+pub fn lines_of(alloc: Global, plan: &TypedPlan, failures: &[Failure]) -> Result<String, AllocError>
+    ensures { IfOk result (λ s. string_bytes s ≡ lines_of (resolved_of plan.now) (map failure_is failures.now)) }
+{
+    let mut text = String::new(alloc);
+    for failure in failures {
+        push_line(alloc, &mut text, plan, *failure)?;
+    }
+    Ok(text)
+}

@@ -1,0 +1,59 @@
+//! The claim that the rule table shows at a node.
+
+ghost use Rattle.std.specs.Prelude.{◌≡◌, true, option_map, IfOk, IfSome};
+ghost use Rattle.vx_catalog_relations.specs.Catalog.{relation_at};
+ghost use Rattle.vx_plan_nodes.specs.Outline.{claim_of, outline_of, plan_of};
+ghost use Rattle.vx_plan_nodes.specs.Outputs.{HasOutputs};
+ghost use Rattle.vx_check_rules.specs.Behaviour.{node_part};
+ghost use Rattle.vx_check_rules.specs.Carried.{Shows, carried};
+ghost use Rattle.vx_check_rules.specs.Exactly.{keys_name_columns};
+ghost use Rattle.vx_check_rules.specs.RuleView.{rule_of};
+ghost use Rattle.vx_check_failures.specs.Shown.{is_of_claim, shown_claim};
+
+use std::alloc::{AllocError, Global};
+use vx_catalog_relations::Catalog;
+use vx_check_rules::{Rule, failure_at, node_keys, node_order, node_part};
+use vx_plan_nodes::{Claim, TypedNode};
+
+// Whether no test of the operator fails, where this is the first test of a node that does.
+fn is_of_claim(rule: Option<Rule>) -> bool
+    ensures { result ≡ is_of_claim (option_map rule_of rule) }
+{
+    match rule {
+        None => true,
+        Some(Rule::PartNotShown) | Some(Rule::OrderNotShown) | Some(Rule::KeyNotShown) => true,
+        Some(_) => false,
+    }
+}
+
+// The claim that is carried up to a node.
+fn claim_at(alloc: Global, catalog: &Catalog, node: &TypedNode) -> Result<Option<Claim>, AllocError>
+    requires { HasOutputs (relation_at catalog.now) (outline_of node.now) }
+    ensures { IfOk result (λ o. option_map claim_of o ≡ option_map (carried (relation_at catalog.now) (plan_of node.now)) (node_part (relation_at catalog.now) (plan_of node.now))) }
+{
+    let Some(part) = node_part(alloc, node)? else {
+        return Ok(None);
+    };
+    let order = node_order(alloc, catalog, node)?;
+    let keys = node_keys(alloc, catalog, node)?;
+    Ok(Some(Claim { part, order, keys }))
+}
+
+/// The claim that the rule table shows at a node in place of the node's own, over the claims that its inputs make, where
+/// the operator fits them. With it no test of the node's claim fails.
+pub fn shown_claim(
+    alloc: Global,
+    catalog: &Catalog,
+    node: &TypedNode,
+) -> Result<Option<Claim>, AllocError>
+    requires outputs { HasOutputs (relation_at catalog.now) (outline_of node.now) }
+    requires keys { keys_name_columns (relation_at catalog.now) (plan_of node.now) ≡ true }
+    ensures claim { IfOk result (λ o. option_map claim_of o ≡ shown_claim (relation_at catalog.now) (plan_of node.now)) }
+    ensures shown { IfOk result (λ o. IfSome o (λ c. Shows (relation_at catalog.now) (plan_of node.now) (claim_of c))) }
+{
+    if is_of_claim(failure_at(catalog, node)) {
+        claim_at(alloc, catalog, node)
+    } else {
+        Ok(None)
+    }
+}

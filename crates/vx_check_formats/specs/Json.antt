@@ -1,0 +1,145 @@
+-- A plan as a JSON value: its nodes in preorder, each with what it is, where its rows come from and what it claims.
+use Rattle.std.specs.Prelude.{ℕ, ◌++◌, Bool, cond, List, [], ◌∷◌, map, codes}
+use Rattle.serde_json.specs.Data.{Data, boolean, number, unsigned, string, array, object, Members, no_members, put}
+use Rattle.serde_json.specs.View.{items_of}
+use Rattle.vx_rows_values.specs.declared.value.ColType.{ColType}
+use Rattle.vx_rows_values.specs.declared.value.ColType.TheVariants as type
+use Rattle.vx_rows_values.specs.Values.{Name}
+use Rattle.vx_plan_nodes.specs.Plan.{Size, one_worker, group_of, Route, by_hash, by_range, Part, one, any, all, routed, Claim, Unary, select, project, distinct, sort, group, Phase, plain, partial, final, Binary, union, join, ExchangeKind, route_to, round, broadcast, gather, concat, size}
+use Rattle.vx_plan_nodes.specs.Names.{Names}
+use Rattle.vx_plan_nodes.specs.Outline.{Outline, scan, unary, binary, exchange, Columns, top, columns, plan_in}
+use Rattle.vx_plan_nodes.specs.declared.typed_plan.TypedPlan.{TypedPlan}
+use Rattle.vx_plan_nodes.specs.TypedView.{resolved_of}
+use Rattle.vx_check.specs.Explain.{name_at, description}
+
+-- ---- columns, sizes, routes and types
+
+-- columns by their names
+abbrev pub columns_json : List Name → List ℕ → Data
+columns_json names cols = array (items_of (map (λ c. string (name_at names c)) cols))
+
+abbrev pub keys_json : List Name → List (List ℕ) → Data
+keys_json names keys = array (items_of (map (columns_json names) keys))
+
+abbrev pub names_json : List Name → Data
+names_json names = array (items_of (map string names))
+
+abbrev pub type_json : ColType → Data
+type_json type.Int = string (codes "int")
+type_json type.Text = string (codes "text")
+
+abbrev pub types_json : List ColType → Data
+types_json types = array (items_of (map type_json types))
+
+-- how many workers: 1, or as many as a size name is bound to
+abbrev pub size_json : Names → Size → Data
+size_json s one_worker = number (unsigned 1)
+size_json s (group_of k) = string (name_at s.sizes k)
+
+abbrev pub route_word : Route → List ℕ
+route_word (by_hash name) = codes "hash"
+route_word (by_range k) = codes "range"
+
+abbrev pub route_name : Names → Route → Name
+route_name s (by_hash name) = name
+route_name s (by_range k) = name_at (map (λ r. r.name) s.ranges) k
+
+-- ---- claims
+
+-- a route by its kind, and the columns by which it sends
+abbrev pub routed_json : Names → List Name → Route → List ℕ → Data
+routed_json s names r cols = object (put (codes "columns") (columns_json names cols) (put (route_word r) (string (route_name s r)) no_members))
+
+abbrev pub part_json : Names → List Name → Part → Data
+part_json s names one = string (codes "one")
+part_json s names any = string (codes "any")
+part_json s names all = string (codes "all")
+part_json s names (routed r cols) = routed_json s names r cols
+
+-- a claim, over columns of these names
+abbrev pub with_claim : Names → List Name → Claim → Members → Members
+with_claim s names c ms = put (codes "keys") (keys_json names c.keys) (put (codes "order") (columns_json names c.order) (put (codes "part") (part_json s names c.part) ms))
+
+-- ---- operators
+
+abbrev pub phase_word : Phase → List ℕ
+phase_word plain = codes "group"
+phase_word partial = codes "partial-group"
+phase_word final = codes "final-group"
+
+abbrev pub unary_word : Unary → List ℕ
+unary_word (select cs) = codes "select"
+unary_word (project cols) = codes "project"
+unary_word (distinct cols) = codes "distinct"
+unary_word (sort cols) = codes "sort"
+unary_word (group phase by aggregates) = phase_word phase
+
+abbrev pub binary_word : Binary → List ℕ
+binary_word union = codes "union"
+binary_word (join merging on) = cond merging (codes "merge-join") (codes "hash-join")
+
+abbrev pub op_word : Outline → List ℕ
+op_word (scan h r m z p) = codes "scan"
+op_word (unary h op renamed t) = unary_word op
+op_word (binary h op t u) = binary_word op
+op_word (exchange h k m t) = codes "exchange"
+
+-- the node's number, its operator in a word, and what it does in the words of the text that explains the plan
+abbrev pub with_operator : Names → Outline → Members → Members
+with_operator s t ms = put (codes "text") (string (description s t)) (put (codes "op") (string (op_word t)) (put (codes "number") (number (unsigned (top t).number)) ms))
+
+-- the numbers of the nodes below, left before right
+abbrev pub inputs : Outline → List ℕ
+inputs (scan h r m z p) = []
+inputs (unary h op renamed t) = (top t).number ∷ []
+inputs (binary h op t u) = (top t).number ∷ (top u).number ∷ []
+inputs (exchange h k m t) = (top t).number ∷ []
+
+abbrev pub numbers_json : List ℕ → Data
+numbers_json ns = array (items_of (map (λ n. number (unsigned n)) ns))
+
+-- the nodes below, and how many workers have the node's rows
+abbrev pub with_workers : Names → Outline → Members → Members
+with_workers s t ms = put (codes "workers") (size_json s (size (plan_in t))) (put (codes "inputs") (numbers_json (inputs t)) ms)
+
+-- the names and the types of the output's columns
+abbrev pub with_output : Columns → Members → Members
+with_output c ms = put (codes "types") (types_json c.types) (put (codes "output") (names_json c.names) ms)
+
+-- ---- exchanges
+
+abbrev pub with_route : Names → List Name → Route → List ℕ → Members → Members
+with_route s inputs r cols ms = put (codes "columns") (columns_json inputs cols) (put (codes "route") (string (route_name s r)) (put (codes "kind") (string (route_word r)) ms))
+
+abbrev pub with_kind : Names → List Name → ExchangeKind → Members → Members
+with_kind s inputs (route_to z r cols) ms = with_route s inputs r cols ms
+with_kind s inputs (round z) ms = put (codes "kind") (string (codes "round")) ms
+with_kind s inputs (broadcast z) ms = put (codes "kind") (string (codes "broadcast")) ms
+with_kind s inputs gather ms = put (codes "kind") (string (codes "gather")) ms
+with_kind s inputs concat ms = put (codes "kind") (string (codes "concat")) ms
+
+-- how an exchange sends, by columns of its input, and on which it merges; other nodes do neither
+abbrev pub with_exchange : Names → Outline → Members → Members
+with_exchange s (scan h r m z p) ms = ms
+with_exchange s (unary h op renamed t) ms = ms
+with_exchange s (binary h op t u) ms = ms
+with_exchange s (exchange h k m t) ms = put (codes "merge") (columns_json (columns t).names m) (with_kind s (columns t).names k ms)
+
+-- ---- nodes
+
+unfoldable pub node_json : Names → Outline → Data
+node_json s t = object (with_exchange s t (with_output (columns t) (with_claim s (columns t).names (top t).claim (with_workers s t (with_operator s t no_members)))))
+
+-- in preorder, as the lines of the text that explains the plan
+abbrev pub nodes_json : Names → Outline → List Data
+nodes_json s (scan h r m z p) = node_json s (scan h r m z p) ∷ []
+nodes_json s (unary h op renamed t) = node_json s (unary h op renamed t) ∷ nodes_json s t
+nodes_json s (binary h op t u) = node_json s (binary h op t u) ∷ (nodes_json s t ++ nodes_json s u)
+nodes_json s (exchange h k m t) = node_json s (exchange h k m t) ∷ nodes_json s t
+
+-- the nodes, and whether the plan's order is total
+abbrev pub outline_json : Names → Bool → Outline → Data
+outline_json s total t = object (put (codes "total") (boolean total) (put (codes "nodes") (array (items_of (nodes_json s t))) no_members))
+
+abbrev pub plan_json : TypedPlan → Data
+plan_json p = outline_json (resolved_of p).names (resolved_of p).total (resolved_of p).root

@@ -1,0 +1,264 @@
+//! What each operator is in SQL.
+
+ghost use Rattle.std.specs.Prelude.{◌≡◌, ◌++◌, ◌+◌, ◌<◌, ◌^◌, map, length, string_bytes, codes, OnOk, false};
+ghost use Rattle.vx_plan_nodes.specs.Outline.{side_of, condition_of, unary_of, binary_of};
+ghost use Rattle.vx_check.specs.Explain.{separated};
+ghost use Rattle.vx_check_sql.specs.Words.{column_name};
+ghost use Rattle.vx_check_sql.specs.Operators.{all_columns, scan_sql, side_sql, condition_sql, grouping_sql, unary_columns, unary_clause, pair_sql, join_word, binary_columns, binary_word, binary_clause};
+
+use crate::columns::{
+    push_all, push_group_columns, push_join_columns, push_projected, push_relation_columns,
+};
+use crate::dialect::Dialect;
+use crate::words::{Alias, push_column_name, push_column_of, push_identifier, push_value};
+use std::alloc::AllocError;
+use vx_catalog_relations::Relation;
+use vx_check::push_between;
+use vx_plan_nodes::{Binary, Condition, Side, Unary};
+use vx_rows_values::ColType;
+
+/// Adds a scan of a relation.
+#[tactic(auto, unfolding(crate::specs::Operators::scan_sql))]
+pub fn push_scan(
+    text: &mut String,
+    dialect: Dialect,
+    node: Alias,
+    relation: &Relation,
+) -> Result<(), AllocError>
+    requires { length relation.now.types ≡ length relation.now.names }
+    ensures { OnOk result (string_bytes text.new ≡ string_bytes text.old ++ scan_sql dialect node relation.now) }
+{
+    text.push_str("SELECT ")?;
+    push_relation_columns(text, dialect, node, relation)?;
+    text.push_str(" FROM ")?;
+    push_identifier(text, dialect, relation.name())
+}
+
+fn push_side(
+    text: &mut String,
+    dialect: Dialect,
+    from: Alias,
+    side: &Side,
+) -> Result<(), AllocError>
+    ensures { OnOk result (string_bytes text.new ≡ string_bytes text.old ++ side_sql dialect from (side_of side.now)) }
+{
+    match side {
+        Side::Column(column) => push_column_name(text, from, *column),
+        Side::Constant(value) => push_value(text, dialect, value),
+    }
+}
+
+#[tactic(auto, unfolding(crate::specs::Operators::condition_sql))]
+fn push_condition(
+    text: &mut String,
+    dialect: Dialect,
+    from: Alias,
+    condition: &Condition,
+) -> Result<(), AllocError>
+    ensures { OnOk result (string_bytes text.new ≡ string_bytes text.old ++ condition_sql dialect from (condition_of condition.now)) }
+{
+    push_column_name(text, from, condition.left)?;
+    text.push_str(" ")?;
+    text.push_str(condition.test.text())?;
+    text.push_str(" ")?;
+    push_side(text, dialect, from, &condition.right)
+}
+
+fn push_conditions(
+    text: &mut String,
+    dialect: Dialect,
+    from: Alias,
+    conditions: &[Condition],
+) -> Result<(), AllocError>
+    ensures { OnOk result (string_bytes text.new ≡ string_bytes text.old ++ separated (codes " AND ") false (map (condition_sql dialect from) (map condition_of conditions.now))) }
+{
+    for (i, condition) in conditions.iter().enumerate() {
+        push_between(text, " AND ", i > 0)?;
+        push_condition(text, dialect, from, condition)?;
+    }
+    Ok(())
+}
+
+// Adds columns of the node `from`.
+fn push_columns(text: &mut String, from: Alias, columns: &[usize]) -> Result<(), AllocError>
+    ensures { OnOk result (string_bytes text.new ≡ string_bytes text.old ++ separated (codes ", ") false (map (column_name from) columns.now)) }
+{
+    for (i, column) in columns.iter().enumerate() {
+        push_between(text, ", ", i > 0)?;
+        push_column_name(text, from, *column)?;
+    }
+    Ok(())
+}
+
+// Adds in which groups the rows of the node `from` are.
+fn push_grouping(text: &mut String, from: Alias, by: &[usize]) -> Result<(), AllocError>
+    ensures { OnOk result (string_bytes text.new ≡ string_bytes text.old ++ grouping_sql from by.now) }
+{
+    if by.is_empty() {
+        return text.push_str(" HAVING count(*) > 0");
+    }
+    text.push_str(" GROUP BY ")?;
+    push_columns(text, from, by)
+}
+
+/// Adds what the SELECT of an operator gives: the columns of the node `to` of those of the node `from`.
+#[tactic(auto, unfolding(crate::specs::Operators::unary_columns))]
+pub fn push_unary_columns(
+    text: &mut String,
+    dialect: Dialect,
+    from: Alias,
+    to: Alias,
+    types: &[ColType],
+    operator: &Unary,
+) -> Result<(), AllocError>
+    ensures { OnOk result (string_bytes text.new ≡ string_bytes text.old ++ unary_columns dialect from to types.now (unary_of operator.now)) }
+{
+    match operator {
+        Unary::Select(_) => push_all(text, from, to, types),
+        Unary::Project(kept) => push_projected(text, from, to, kept.as_slice()),
+        Unary::Distinct(kept) => {
+            text.push_str("DISTINCT ")?;
+            push_projected(text, from, to, kept.as_slice())
+        }
+        Unary::Sort(_) => push_all(text, from, to, types),
+        Unary::Group(_, by, aggregates) => {
+            push_group_columns(
+                text,
+                dialect,
+                from,
+                to,
+                by.as_slice(),
+                aggregates.as_slice(),
+            )
+        }
+    }
+}
+
+/// Adds of which rows of the node `from` an operator's SELECT is, and in which groups they are.
+#[tactic(auto, unfolding(crate::specs::Operators::unary_clause))]
+pub fn push_unary_clause(
+    text: &mut String,
+    dialect: Dialect,
+    from: Alias,
+    operator: &Unary,
+) -> Result<(), AllocError>
+    ensures { OnOk result (string_bytes text.new ≡ string_bytes text.old ++ unary_clause dialect from (unary_of operator.now)) }
+{
+    match operator {
+        Unary::Select(conditions) => {
+            text.push_str(" WHERE ")?;
+            push_conditions(text, dialect, from, conditions.as_slice())
+        }
+        Unary::Project(_) | Unary::Distinct(_) | Unary::Sort(_) => Ok(()),
+        Unary::Group(_, by, _) => push_grouping(text, from, by.as_slice()),
+    }
+}
+
+// The word of a join in which each pair of rows that agree gives a row.
+fn join_word(dialect: Dialect) -> &'static str
+    ensures { result.now ≡ join_word dialect }
+{
+    match dialect {
+        Dialect::Sqlite | Dialect::Postgres => " INNER JOIN ",
+        Dialect::ClickHouse => " ALL INNER JOIN ",
+    }
+}
+
+// Adds the pairs on which a join's rows agree.
+fn push_pairs(
+    text: &mut String,
+    left: Alias,
+    right: Alias,
+    on: &[(usize, usize)],
+) -> Result<(), AllocError>
+    ensures { OnOk result (string_bytes text.new ≡ string_bytes text.old ++ separated (codes " AND ") false (map (pair_sql left right) on.now)) }
+{
+    for (i, pair) in on.iter().enumerate() {
+        push_between(text, " AND ", i > 0)?;
+        push_column_of(text, left, pair.0)?;
+        text.push_str(" = ")?;
+        push_column_of(text, right, pair.1)?;
+    }
+    Ok(())
+}
+
+/// Adds what the SELECT of an operator over two inputs gives: the columns of the node `to`.
+#[tactic(auto, unfolding(crate::specs::Operators::binary_columns))]
+pub fn push_binary_columns(
+    text: &mut String,
+    left: Alias,
+    right: Alias,
+    to: Alias,
+    left_types: &[ColType],
+    right_types: &[ColType],
+    operator: &Binary,
+) -> Result<(), AllocError>
+    requires { length left_types.now + length right_types.now < 2 ^ 64 }
+    ensures { OnOk result (string_bytes text.new ≡ string_bytes text.old ++ binary_columns left right to left_types.now right_types.now (binary_of operator.now)) }
+{
+    match operator {
+        Binary::Union => push_all(text, left, to, left_types),
+        Binary::HashJoin(on) | Binary::MergeJoin(on) => {
+            push_join_columns(
+                text,
+                left,
+                right,
+                to,
+                left_types,
+                right_types,
+                on.as_slice(),
+            )
+        }
+    }
+}
+
+// Adds the word of a union, and its right SELECT as far as its rows.
+fn push_union_word(
+    text: &mut String,
+    right: Alias,
+    to: Alias,
+    right_types: &[ColType],
+) -> Result<(), AllocError>
+    ensures { OnOk result (string_bytes text.new ≡ string_bytes text.old ++ (codes " UNION ALL SELECT " ++ (all_columns right to right_types.now ++ codes " FROM "))) }
+{
+    text.push_str(" UNION ALL SELECT ")?;
+    push_all(text, right, to, right_types)?;
+    text.push_str(" FROM ")
+}
+
+/// Adds what stands between the left rows and the right ones.
+#[tactic(auto, unfolding(crate::specs::Operators::binary_word))]
+pub fn push_binary_word(
+    text: &mut String,
+    dialect: Dialect,
+    right: Alias,
+    to: Alias,
+    right_types: &[ColType],
+    operator: &Binary,
+) -> Result<(), AllocError>
+    ensures { OnOk result (string_bytes text.new ≡ string_bytes text.old ++ binary_word dialect right to right_types.now (binary_of operator.now)) }
+{
+    match operator {
+        Binary::Union => push_union_word(text, right, to, right_types),
+        Binary::HashJoin(_) | Binary::MergeJoin(_) => text.push_str(join_word(dialect)),
+    }
+}
+
+/// Adds which rows go together.
+#[tactic(auto, unfolding(crate::specs::Operators::binary_clause))]
+pub fn push_binary_clause(
+    text: &mut String,
+    left: Alias,
+    right: Alias,
+    operator: &Binary,
+) -> Result<(), AllocError>
+    ensures { OnOk result (string_bytes text.new ≡ string_bytes text.old ++ binary_clause left right (binary_of operator.now)) }
+{
+    match operator {
+        Binary::Union => Ok(()),
+        Binary::HashJoin(on) | Binary::MergeJoin(on) => {
+            text.push_str(" ON ")?;
+            push_pairs(text, left, right, on.as_slice())
+        }
+    }
+}

@@ -1,5 +1,0 @@
-use Rattle.vx_ends.proofs.Parts.{begun-more}
-use Rattle.vx_ends.proofs.laws.begun_stays_as_rows_come.Goals as goal
-
-pub returns : goal.returns
-returns c = begun-more

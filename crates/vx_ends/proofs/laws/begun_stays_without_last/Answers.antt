@@ -1,5 +1,0 @@
-use Rattle.vx_ends.proofs.Parts.{begun-without-last}
-use Rattle.vx_ends.proofs.laws.begun_stays_without_last.Goals as goal
-
-pub returns : goal.returns
-returns c = begun-without-last

@@ -1,5 +1,0 @@
-use Rattle.vx_ends.proofs.Closings.{fault-cuts-short}
-use Rattle.vx_ends.proofs.laws.fault_cuts_short.Goals as goal
-
-pub returns : goal.returns
-returns c = fault-cuts-short

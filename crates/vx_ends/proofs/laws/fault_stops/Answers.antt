@@ -1,5 +1,0 @@
-use Rattle.vx_ends.proofs.Parts.{fault-stops}
-use Rattle.vx_ends.proofs.laws.fault_stops.Goals as goal
-
-pub returns : goal.returns
-returns c = fault-stops

@@ -1,5 +1,0 @@
-use Rattle.vx_ends.proofs.Closings.{last-ships}
-use Rattle.vx_ends.proofs.laws.last_ships.Goals as goal
-
-pub returns : goal.returns
-returns c = last-ships

@@ -1,5 +1,0 @@
-use Rattle.vx_ends.proofs.Parts.{without-last-packet}
-use Rattle.vx_ends.proofs.laws.part_stays_without_last.Goals as goal
-
-pub returns : goal.returns
-returns c = without-last-packet

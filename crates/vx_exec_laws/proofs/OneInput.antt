@@ -1,0 +1,367 @@
+-- The claims of scans, of nodes with one input, and of exchanges.
+use Rattle.std.proofs.Common.{◌≡◌, ℕ, ◌+◌, ◌<◌, ◌==◌, Bool, true, false, cond, ◌&&◌, ◌||◌, ⊎_elim, List, [], ◌∷◌, ◌++◌, map, length, refl, sym, ap, ◌∙◌, subst, arith, true≢false, Option, Some, None, ◌⊎◌, inl, inr, zero, suc, ◌≤◌, ap₂, slice_get}
+use Rattle.std.specs.List.{list_all, list_any}
+use Rattle.vx_rows_values.specs.Values.{Row, pick}
+use Rattle.vx_rows_values.specs.Order.{sorted}
+use Rattle.vx_rows_values.specs.Bags.{SameRows}
+use Rattle.vx_catalog_relations.specs.Catalog.{all_below}
+use Rattle.vx_catalog_relations.specs.Relation.{Relation, KeysHold}
+use Rattle.vx_plan_nodes.specs.Plan.{Size, Part, one, any, all, routed, Claim, Plan, scan, unary, exchange, claim, size, Unary, group, ExchangeKind, route_to, round, broadcast, gather, target, is_one, partial, final, Aggregate, concat}
+use Rattle.vx_plan_nodes.specs.Parts.{kind_part}
+use Rattle.vx_plan_nodes.specs.Describe.{Copying, whole_rows, described}
+use Rattle.vx_plan_nodes.specs.Serial.{group_keys, group_fits, unary_rows, SerialResult, rows, or_overflow, after, serial, group_row, aggregate_of, group_rows, of_key}
+use Rattle.vx_plan_nodes.specs.Streams.{Streams, joined, workers}
+use Rattle.vx_plan_nodes.specs.Routes.{Routing}
+use Rattle.vx_plan_nodes.specs.Runs.{Exchanges, Runs}
+use Rattle.vx_plan_nodes.specs.Phases.{columns_from, first_columns, merged, is_partial, is_final, is_open, opens, Parts, spoken, Gives, listed}
+use Rattle.vx_check_rules.specs.Rules.{part_gives, has, copied, covers, is_prefix, within, numbers_below, routed_within, allowed_here, sizes_match, not_replicated, inputs_match, order_given, part_shown, order_shown, keys_shown, goes_on, unary_keys}
+use Rattle.vx_check_rules.specs.Behaviour.{way, own, bare, if_so, meet, over, gives, behaviour, fits, shown_part}
+use Rattle.vx_check_rules.specs.Claims.{PartHolds, OrderHolds, Given, PartOf, ClaimOf}
+use Rattle.vx_check_rules.proofs.Exact.{fits-exactly, parts-exactly}
+use Rattle.vx_check_rules.proofs.Bools.{or-false, or-left, any-if}
+use Rattle.vx_exec_laws.proofs.Bags.{SameRows-sym, and-left, and-right, SameRows-refl, SameRows-trans}
+use Rattle.vx_exec_laws.proofs.Parts.{InRange, single-of, from_single-of, has-part, one-worker, some-workers, or-cases}
+use Rattle.vx_exec_laws.proofs.Orders.{sorted-front, Dealt-sorted}
+use Rattle.vx_exec_laws.proofs.Keys.{covers-key, keys-from}
+use Rattle.vx_exec_laws.proofs.Copies.{if_some-is, copied-cons}
+use Rattle.vx_exec_laws.proofs.Unary.{some-is, project-sorted}
+use Rattle.vx_exec_laws.proofs.Widths.{some-of, firsts-all, picks-wide}
+use Rattle.vx_exec_laws.proofs.Apart.{firsts-sorted}
+use Rattle.vx_exec_laws.proofs.Groups.{groups, groups-joined, fits-joined, extended-sorted, copied-below, groups-key}
+use Rattle.vx_exec_laws.proofs.Exchange.{Dealt-same, exchange-any, broadcast-all, routed-in-stream, single-sorted}
+use Rattle.vx_exec_laws.proofs.Opened.{closed, Opened, opened, opened-as, Gives-order, final-serial}
+use Rattle.vx_exec_laws.proofs.Pieces.{Parts-base, Parts-joined, Parts-groups, final-groups, fits-final}
+use Rattle.vx_exec_laws.proofs.Concat.{ranged, exchange-sorted}
+use Rattle.vx_exec_laws.proofs.Operators.{Made, Meets, Whole, whole, unary-ordered}
+use Rattle.vx_exec_laws.proofs.Places.{part-placed, had-place, each-if, unary-places, Stands, shown-part, made-gives}
+
+pub seven : (a b c d e f g : Bool) → (a && (b && (c && (d && (e && (f && g)))))) ≡ true
+    → (a ≡ true) × (b ≡ true) × (c ≡ true) × (d ≡ true) × (e ≡ true) × (f ≡ true) × (g ≡ true)
+seven a b c d e f g h =
+    let h1 = and-right a (b && (c && (d && (e && (f && g))))) h in
+    let h2 = and-right b (c && (d && (e && (f && g)))) h1 in
+    let h3 = and-right c (d && (e && (f && g))) h2 in
+    let h4 = and-right d (e && (f && g)) h3 in
+    let h5 = and-right e (f && g) h4 in
+    (and-left a _ h, and-left b _ h1, and-left c _ h2, and-left d _ h3, and-left e _ h4, and-left f _ h5, and-right f g h5)
+
+-- each test at a node; those of its inputs and of its part by its behaviour
+pub tests : (catalog : ℕ → Relation) (p : Plan) → allowed_here catalog p ≡ true
+    → (sizes_match p ≡ true) × (not_replicated p ≡ true) × ((is_one (size p) || fits (behaviour catalog p)) ≡ true) × (order_given p ≡ true)
+    × ((is_one (size p) || shown_part (behaviour catalog p) (claim p).part) ≡ true) × (order_shown catalog p ≡ true) × (keys_shown catalog p ≡ true)
+tests catalog p h =
+    let t = seven (sizes_match p) (not_replicated p) (inputs_match p) (order_given p) (part_shown catalog p) (order_shown catalog p) (keys_shown catalog p) h in
+    (t.0, t.1, sym (fits-exactly catalog p) ∙ t.2, t.3, sym (parts-exactly catalog p (claim p).part t.2) ∙ t.4, t.5, t.6)
+
+-- the plan that a claim speaks of has serial rows, and the claim holds of them and of these streams
+pub record HoldingOf (goes : Routing) (c : Claim) (n : ℕ) (s : Streams) (o : SerialResult) (gives_of : List Row → List Row → Type 0) (listed_of : List Row → List Row) : Type 0 where
+  pub base : List Row
+  pub is_serial : o ≡ rows base
+  pub holds : ClaimOf goes c n s (λ xs. gives_of base xs) (listed_of base)
+
+-- at a node, which may be open
+abbrev pub HoldingAt : (ℕ → List Row) → (ℕ → ℕ) → Routing → Plan → Streams → Type 0
+HoldingAt db sizes goes p s = HoldingOf goes (claim p) (workers sizes (size p)) s (serial db (spoken p)) (Gives p) (listed p)
+
+-- at a node that is closed
+abbrev pub Holding : (ℕ → List Row) → (ℕ → ℕ) → Routing → Plan → Streams → Type 0
+Holding db sizes goes p s = HoldingOf goes (claim p) (workers sizes (size p)) s (serial db p) (λ base xs. SameRows xs base) (λ base. base)
+
+-- an operator fits its input
+abbrev pub FitsInput : Unary → Plan → Type 0
+FitsInput op p = (is_one (size p) || fits (over (described op) p)) ≡ true
+
+-- each stream stands for all rows, and is the only one where each row is in one of them; or all do together, and rows that have to meet do
+abbrev pub Fitting : Routing → Option (List ℕ) → Bool → Part → ℕ → Streams → (List Row → Type 0) → Type 0
+Fitting goes m b q n s stands = (((w : ℕ) → w < n → stands (s w)) × ((b || part_gives q any) ≡ true → n ≡ 1)) ⊎ (Meets goes m n s × stands (joined n s))
+
+module _ (goes : Routing) (law : InRange goes) (n : ℕ) (s : Streams) (stands : List Row → Type 0) where
+  loose : (b : Bool) (q : Part) → (b ≡ true → n ≡ 1) → PartOf goes q n s stands → Fitting goes None b q n s stands
+  loose b one single h = inr (tt, h.1)
+  loose b any single h = inr (tt, h)
+  loose b all single h = inl (h, λ e. single (sym (or-false b) ∙ e))
+  loose b (routed r cs) single h = inr (tt, h.0)
+
+  tight : (cols : List ℕ) (b : Bool) (q : Part) → (b ≡ true → n ≡ 1) → (b || ((b || part_gives q all) || routed_within q cols)) ≡ true → PartOf goes q n s stands
+      → Fitting goes (Some cols) b q n s stands
+  tight cols true q single e h = inl (single-of goes law all n s stands (single refl) (from_single-of goes law q n s stands (single refl) h), λ o. single refl)
+  tight cols false one single e h = absurd (true≢false (sym e))
+  tight cols false any single e h = absurd (true≢false (sym e))
+  tight cols false all single e h = inl (h, λ o. absurd (true≢false (sym o)))
+  tight cols false (routed r cs) single e h = inr ((r, cs, e, h.1), h.0)
+
+  -- an input of an operator that fits it
+  pub fitting : (p : Plan) (m : Option (List ℕ)) (k : Copying) → (is_one (size p) ≡ true → n ≡ 1) → (is_one (size p) || list_any (λ v. true) (if_so (meet m (own p)) (way k (own p ∷ []) ∷ []))) ≡ true
+      → PartOf goes (claim p).part n s stands → Fitting goes m (is_one (size p)) (claim p).part n s stands
+  fitting p None k single e h = loose (is_one (size p)) (claim p).part single h
+  fitting p (Some cols) k single e h =
+      let met : Bool = meet (Some cols) (own p) in
+      tight cols (is_one (size p)) (claim p).part single
+      (⊎_elim (λ o. or-left (is_one (size p)) _ o) (λ g. and-left met true (sym (any-if (λ v. true) met (way k (own p ∷ []) ∷ [])) ∙ g))
+      (or-cases (is_one (size p)) (list_any (λ v. true) (if_so met (way k (own p ∷ []) ∷ []))) e)) h
+
+-- what an operator makes of lists that stand for the rows of its input
+pub record Carries (goes : Routing) (m : Option (List ℕ)) (op : List Row → Option (List Row)) (from to : List Row → Type 0) : Type 0 where
+  pub alone : (xs ys : List Row) → op xs ≡ Some ys → from xs → to ys
+  pub joins : (n : ℕ) (s s' : Streams) → Meets goes m n s → from (joined n s) → ((w : ℕ) → w < n → op (s w) ≡ Some (s' w)) → to (joined n s')
+
+-- a part that is made where it is
+made-part : (goes : Routing) → InRange goes → (b : Bool) (p q : Part) (n : ℕ) (s : Streams) (stands : List Row → Type 0) → (b ≡ true → n ≡ 1) → PartOf goes p n s stands
+    → (b || list_any (λ v. gives v q) (way whole_rows (bare p ∷ []) ∷ [])) ≡ true → PartOf goes q n s stands
+made-part goes law b p q n s stands single h e = has-part goes law b p q n s stands single (made-gives b p q e) h
+
+module _ (catalog : ℕ → Relation) (db : ℕ → List Row) (sizes : ℕ → ℕ) (goes : Routing) (given : Given catalog db sizes goes) where
+  some : (z : Size) → 0 < workers sizes z
+  some z = some-workers sizes given.some_workers z
+
+  -- the ways in which an operator's input fits it
+  pub fitting-at : (op : Unary) (p : Plan) (s : Streams) (stands : List Row → Type 0) → PartOf goes (claim p).part (workers sizes (size p)) s stands
+      → FitsInput op p → Fitting goes (described op).meets (is_one (size p)) (claim p).part (workers sizes (size p)) s stands
+  fitting-at op p s stands h e = fitting goes given.in_range (workers sizes (size p)) s stands p (described op).meets (described op).copying (one-worker sizes (size p)) e h
+
+  -- ---- one step for all operators over one input
+
+  unary-claim : (k : ℕ) (c : Claim) (op : Unary) (p : Plan) (s out : Streams) (from to : List Row → Type 0) (list list' : List Row)
+      → PartOf goes (claim p).part (workers sizes (size p)) s from → OrderHolds (claim p).order (workers sizes (size p)) s list
+      → Carries goes (described op).meets (unary_rows op) from to → allowed_here catalog (unary k c op p) ≡ true
+      → ((w : ℕ) → w < workers sizes (size p) → unary_rows op (s w) ≡ Some (out w)) → sorted c.order list' ≡ true → KeysHold c.keys list'
+      → ClaimOf goes c (workers sizes (size p)) out to list'
+  unary-claim k c op p s out from to list list' part order carries ok run up keys =
+      let h = tests catalog (unary k c op p) ok in
+      let n : ℕ = workers sizes (size p) in
+      let one_is : is_one (size p) ≡ true → n ≡ 1 = one-worker sizes (size p) in
+      let had : (q : Part) → has p q ≡ true → PartOf goes q n s from = λ q e. has-part goes given.in_range (is_one (size p)) (claim p).part q n s from one_is e part in
+      let each : has p all ≡ true → (w : ℕ) → w < n → to (out w) = λ e w l. carries.alone (s w) (out w) (run w l) (had all e w l) in
+      let together : has p any ≡ true → to (joined n out) = λ e. ⊎_elim
+      (λ f. from_single-of goes given.in_range all n out to (f.1 e) (λ w l. carries.alone (s w) (out w) (run w l) (f.0 w l)))
+      (λ f. carries.joins n s out f.0 f.1 run)
+      (fitting-at op p s from part h.2) in
+      record {
+        part = shown-part goes given.in_range (is_one (size p)) (over (described op) p).ways c.part n out to one_is (λ o. together (or-left (is_one (size p)) _ o))
+            (each-if (λ v. Stands n out to v) (meet (described op).meets (own p)) (way (described op).copying (own p ∷ []) ∷ [])
+            (λ m. (((λ e. together (and-left (has p any) true e)), (λ e. each (and-left (has p all) true e))), tt)))
+            (λ w l. unary-places goes op p n w (s w) (out w) (run w l)
+            (λ q e. had-place goes given.in_range (is_one (size p)) (claim p).part q n w one_is l (s w) (part-placed goes (claim p).part n s from part w l) e))
+            h.4;
+        order = ((λ w l. unary-ordered catalog k c op p h.5 (s w) (out w) (run w l) (order.0 w l)), up);
+        keys = keys;
+      }
+
+  -- an operator that is whole
+  pub unary-holds : (k : ℕ) (c : Claim) (op : Unary) → (is_partial op || is_final op) ≡ false → (p : Plan) (s out : Streams) (ih : Holding db sizes goes p s)
+      → allowed_here catalog (unary k c op p) ≡ true → ((w : ℕ) → w < workers sizes (size p) → unary_rows op (s w) ≡ Some (out w)) → Holding db sizes goes (unary k c op p) out
+  unary-holds k c op e p s out ih ok run =
+      let h = tests catalog (unary k c op p) ok in
+      let n : ℕ = workers sizes (size p) in
+      let base : List Row = ih.base in
+      let facts : Whole goes op = whole goes op e in
+      let made : (xs : List Row) × (unary_rows op base ≡ Some xs) = ⊎_elim
+      (λ f. let m = facts.of_bags (s 0) base (out 0) (f.0 0 (some (size p))) (run 0 (some (size p))) in (m.out, m.is))
+      (λ f. let m = facts.joins n s out base f.0 f.1 run in (m.out, m.is))
+      (fitting-at op p s (λ xs. SameRows xs base) ih.holds.part h.2) in
+      let same : (like : List Row) → Made (unary_rows op) base like → SameRows like made.0 = λ like m.
+      let P : List Row → Type 0 = λ xs. SameRows like xs in subst P (some-is m.out made.0 (sym m.is ∙ made.1)) m.same in
+      record {
+        base = made.0;
+        is_serial = ap (λ x. after x (λ xs. or_overflow k (unary_rows op xs))) ih.is_serial ∙ ap (or_overflow k) made.1;
+        holds = unary-claim k c op p s out (λ xs. SameRows xs base) (λ xs. SameRows xs made.0) base made.0 ih.holds.part ih.holds.order
+            (record { alone = λ xs ys g f. same ys (facts.of_bags xs base ys f g); joins = λ m t t' met f g. same (joined m t') (facts.joins m t t' base met f g) })
+            ok run (unary-ordered catalog k c op p h.5 base made.0 made.1 ih.holds.order.1)
+            (keys-from (unary_keys op (claim p).keys) made.0 (λ x g. facts.keyed (claim p).keys x g base made.0 made.1 ih.holds.keys) c.keys h.6);
+      }
+
+  -- a partial grouping
+  pub partial-holds : (k : ℕ) (c : Claim) (by : List ℕ) (aggregates : List Aggregate) (p : Plan) (s out : Streams) (ih : Holding db sizes goes p s)
+      → allowed_here catalog (unary k c (group partial by aggregates) p) ≡ true
+      → ((w : ℕ) → w < workers sizes (size p) → unary_rows (group partial by aggregates) (s w) ≡ Some (out w))
+      → HoldingAt db sizes goes (unary k c (group partial by aggregates) p) out
+  partial-holds k c by aggregates p s out ih ok run =
+      let h = tests catalog (unary k c (group partial by aggregates) p) ok in
+      let base : List Row = ih.base in
+      let parts : (xs ys : List Row) → group_rows by aggregates xs ≡ Some ys → Parts by aggregates xs ys = λ xs ys e.
+      let P : List Row → Type 0 = λ l. Parts by aggregates xs l in
+      subst P (some-of (list_all (group_fits by aggregates xs) (group_keys by xs)) (groups by aggregates xs) ys e).1 (Parts-groups by aggregates xs) in
+      let o = if_some-is (copied by c.order) (λ ds. is_prefix ds (claim p).order) h.5 in
+      record {
+        base = base;
+        is_serial = ih.is_serial;
+        holds = unary-claim k c (group partial by aggregates) p s out (λ xs. SameRows xs base) (λ xs. Parts by aggregates base xs) base (group_keys by base) ih.holds.part ih.holds.order
+            (record {
+              alone = λ xs ys e f. Parts-base by aggregates xs base ys f (parts xs ys e);
+              joins = λ n t t' met f g. Parts-base by aggregates (joined n t) base (joined n t') f (Parts-joined by aggregates n t t' (λ w l. parts (t w) (t' w) (g w l)));
+            })
+            ok run (firsts-sorted c.order (map (pick by) base) (project-sorted by c.order o.0 o.1 base (sorted-front o.0 (claim p).order o.2 base ih.holds.order.1)))
+            (keys-from (λ x. false) (group_keys by base) (λ x e. absurd (true≢false (sym e))) c.keys h.6);
+      }
+
+  -- ---- a final grouping
+
+  copied-first : (n i : ℕ) (c d : ℕ) → slice_get (columns_from i n) c ≡ Some d → d ≡ i + c
+  copied-first zero i c d e = cc
+  copied-first (suc n) i zero d e = let k : i ≡ d = cc in omega (arith, k)
+  copied-first (suc n) i (suc c) d e = let k = copied-first n (suc i) c d e in omega (arith, k)
+
+  copied-same : (n : ℕ) (cs ds : List ℕ) → copied (first_columns n) cs ≡ Some ds → ds ≡ cs
+  copied-same n [] ds e = cc
+  copied-same n (c ∷ cs) ds e =
+      let w = copied-cons (first_columns n) c cs ds e in
+      let a : w.0 ≡ c = let k = copied-first n 0 c w.0 w.3 in omega (arith, k) in
+      let b : w.1 ≡ cs = copied-same n cs w.1 w.4 in
+      w.2 ∙ ap₂ (λ x y. x ∷ y) a b
+
+  length-columns : (i n : ℕ) → length (columns_from i n) ≡ n
+  length-columns i zero = refl
+  length-columns i (suc n) = ap suc (length-columns (suc i) n)
+
+  final-of : (k : ℕ) (c : Claim) (p : Plan) (keys_of : List ℕ) (puts_of : List Aggregate) (s out : Streams) (ih : HoldingAt db sizes goes p s) (opened_is : Opened keys_of puts_of p)
+      → ((xs : List Row) → serial db p ≡ rows xs → group_rows (first_columns (length opened_is.by)) (merged (length opened_is.by) opened_is.aggregates) xs ≡ Some xs)
+      → allowed_here catalog (unary k c (group final (first_columns (length opened_is.by)) (merged (length opened_is.by) opened_is.aggregates)) p) ≡ true
+      → ((w : ℕ) → w < workers sizes (size p) → group_rows (first_columns (length opened_is.by)) (merged (length opened_is.by) opened_is.aggregates) (s w) ≡ Some (out w))
+      → Holding db sizes goes (unary k c (group final (first_columns (length opened_is.by)) (merged (length opened_is.by) opened_is.aggregates)) p) out
+  final-of k c p keys_of puts_of s out ih opened_is again ok run =
+      let by : List ℕ = opened_is.by in
+      let aggregates : List Aggregate = opened_is.aggregates in
+      let keys : List ℕ = first_columns (length by) in
+      let puts : List Aggregate = merged (length by) aggregates in
+      let op : Unary = group final keys puts in
+      let h = tests catalog (unary k c op p) ok in
+      let n : ℕ = workers sizes (size p) in
+      let base' : List Row = groups by aggregates ih.base in
+      let both : (xs ys : List Row) → group_rows keys puts xs ≡ Some ys → (list_all (group_fits keys puts xs) (group_keys keys xs) ≡ true) × (groups keys puts xs ≡ ys)
+      = λ xs ys e. some-of (list_all (group_fits keys puts xs) (group_keys keys xs)) (groups keys puts xs) ys e in
+      let whole_of : (xs : List Row) → Gives p ih.base xs → SameRows (groups keys puts xs) base' = λ xs g. final-groups by aggregates ih.base xs (opened_is.gives ih.base xs g) in
+      let fit : list_all (group_fits by aggregates ih.base) (group_keys by ih.base) ≡ true = ⊎_elim
+      (λ f. fits-final by aggregates ih.base (s 0) (opened_is.gives ih.base (s 0) (f.0 0 (some (size p)))) (both (s 0) (out 0) (run 0 (some (size p)))).0)
+      (λ f. fits-final by aggregates ih.base (joined n s) (opened_is.gives ih.base (joined n s) f.1)
+      (fits-joined goes f.0.0 f.0.1 keys puts n s (joined n s) f.0.2 (SameRows-refl (joined n s)) f.0.3 (λ w l. (both (s w) (out w) (run w l)).0)))
+      (fitting-at op p s (λ xs. Gives p ih.base xs) ih.holds.part h.2) in
+      let below : serial db p ≡ rows base' = opened_is.serial_is db ∙ (ap (λ o. after o (λ xs. or_overflow opened_is.node (group_rows by aggregates xs))) ih.is_serial ∙ ap (λ b. or_overflow opened_is.node (cond b (Some base') None)) fit) in
+      let o = if_some-is (copied keys c.order) (λ ds. is_prefix ds (claim p).order) h.5 in
+      let Q : List ℕ → Type 0 = λ v. sorted v (group_keys by ih.base) ≡ true in
+      let R : List Row → Type 0 = λ l. sorted (claim p).order l ≡ true in
+      let L : ℕ → Type 0 = λ v. all_below v c.order ≡ true in
+      record {
+        base = base';
+        is_serial = ap (λ o. after o (λ xs. or_overflow k (group_rows keys puts xs))) below ∙ ap (or_overflow k) (again base' below);
+        holds = unary-claim k c op p s out (λ xs. Gives p ih.base xs) (λ xs. SameRows xs base') (listed p ih.base) base' ih.holds.part ih.holds.order
+            (record {
+              alone = λ xs ys e g. let P : List Row → Type 0 = λ l. SameRows l base' in subst P (both xs ys e).1 (whole_of xs g);
+              joins = λ m t t' met g e.
+                  SameRows-trans (groups-joined goes met.0 met.1 keys puts m t (joined m t) met.2 (SameRows-refl (joined m t)) met.3 t' (λ w l. (both (t w) (t' w) (e w l)).1))
+                  (whole_of (joined m t) g);
+            })
+            ok run
+            (extended-sorted c.order (length by) (group_row by aggregates ih.base) (λ key. map (λ a. aggregate_of a (of_key by key ih.base)) aggregates) (λ key. refl)
+            (subst L (length-columns 0 (length by)) (copied-below keys c.order o.0 o.1)) (group_keys by ih.base) (firsts-all (λ row. length row == length by) (map (pick by) ih.base) (picks-wide by ih.base))
+            (subst Q (copied-same (length by) c.order o.0 o.1) (sorted-front o.0 (claim p).order o.2 (group_keys by ih.base) (subst R (opened_is.listed_is ih.base) ih.holds.order.1))))
+            (keys-from (λ x. within (numbers_below (length keys)) x) base'
+            (λ x e. let W : ℕ → Type 0 = λ v. within (numbers_below v) x ≡ true in groups-key by x aggregates ih.base (subst W (length-columns 0 (length by)) e)) c.keys h.6);
+      }
+
+  pub final-holds : (k : ℕ) (c : Claim) (keys : List ℕ) (puts : List Aggregate) (p : Plan) (s out : Streams) (ih : HoldingAt db sizes goes p s)
+      → opens keys puts p ≡ true
+      → allowed_here catalog (unary k c (group final keys puts) p) ≡ true
+      → ((w : ℕ) → w < workers sizes (size p) → group_rows keys puts (s w) ≡ Some (out w))
+      → Holding db sizes goes (unary k c (group final keys puts) p) out
+  final-holds k c keys puts p s out ih e ok run =
+      let o = opened keys puts p e in
+      opened-as keys puts p o
+      (λ a b. ((xs : List Row) → serial db p ≡ rows xs → group_rows a b xs ≡ Some xs) → allowed_here catalog (unary k c (group final a b) p) ≡ true
+      → ((w : ℕ) → w < workers sizes (size p) → group_rows a b (s w) ≡ Some (out w)) → Holding db sizes goes (unary k c (group final a b) p) out)
+      (final-of k c p keys puts s out ih o) (final-serial db keys puts p e) ok run
+
+  -- ---- scans
+
+  scan-part : (r : ℕ) (m : Bool) (k : ℕ) (c : Claim) (z : Size) (out : Streams) → Runs db sizes goes (scan k c r m z) out → PartHolds goes (cond m any all) (workers sizes z) out (db r)
+  scan-part r true k c z out run = Dealt-same run
+  scan-part r false k c z out run = λ w l. let P : List Row → Type 0 = λ xs. SameRows xs (db r) in subst P (sym (run w l)) (SameRows-refl (db r))
+
+  scan-order : (r : ℕ) (m : Bool) (k : ℕ) (c : Claim) (z : Size) (out : Streams) → Runs db sizes goes (scan k c r m z) out → (cs : List ℕ) → sorted cs (db r) ≡ true
+      → (w : ℕ) → w < workers sizes z → sorted cs (out w) ≡ true
+  scan-order r true k c z out run cs up w l = Dealt-sorted run cs up w l
+  scan-order r false k c z out run cs up w l = let P : List Row → Type 0 = λ xs. sorted cs xs ≡ true in subst P (sym (run w l)) up
+
+  pub scan-holds : (k : ℕ) (c : Claim) (r : ℕ) (m : Bool) (z : Size) (out : Streams) → allowed_here catalog (scan k c r m z) ≡ true
+      → Runs db sizes goes (scan k c r m z) out → Holding db sizes goes (scan k c r m z) out
+  scan-holds k c r m z out ok run =
+      let h = tests catalog (scan k c r m z) ok in
+      let up : sorted c.order (db r) ≡ true = sorted-front c.order (catalog r).order h.5 (db r) (given.meets r).order in
+      record {
+        base = db r;
+        is_serial = refl;
+        holds = record {
+          part = made-part goes given.in_range (is_one z) (cond m any all) c.part (workers sizes z) out (λ xs. SameRows xs (db r)) (one-worker sizes z) (scan-part r m k c z out run) h.4;
+          order = (scan-order r m k c z out run c.order up, up);
+          keys = keys-from (covers (catalog r).keys) (db r) (λ x g. covers-key (catalog r).keys x g (db r) (given.meets r).keys) c.keys h.6;
+        };
+      }
+
+  -- ---- closed nodes and open ones
+
+  pub close : (p : Plan) (s : Streams) → is_open p ≡ false → HoldingAt db sizes goes p s → Holding db sizes goes p s
+  close p s e h = closed db p e (λ o gives_of listed_of. HoldingOf goes (claim p) (workers sizes (size p)) s o gives_of listed_of → Holding db sizes goes p s) (λ g. g) h
+
+  -- ---- exchanges, closed or open
+
+  -- the part that an exchange makes
+  exchange-made : (kind : ExchangeKind) (merge : List ℕ) (p : Plan) (base : List Row) (m : ℕ) (s s' : Streams) → Gives p base (joined m s)
+      → Exchanges goes kind merge m (workers sizes (target kind)) s s' → PartOf goes (kind_part kind) (workers sizes (target kind)) s' (λ xs. Gives p base xs)
+  exchange-made kind merge p base m s s' h x = go kind x
+    where
+      moved : (xs : List Row) → SameRows xs (joined m s) → Gives p base xs
+      moved xs e = Gives-order p base (joined m s) xs (SameRows-sym e) h
+
+      go : (kind : ExchangeKind) → Exchanges goes kind merge m (workers sizes (target kind)) s s' → PartOf goes (kind_part kind) (workers sizes (target kind)) s' (λ xs. Gives p base xs)
+      go (route_to z r cols) x = (
+        moved _ (exchange-any goes given.in_range (route_to z r cols) merge _ _ s s' (joined m s) x (some z) (λ y e. cc) (λ e. cc) (λ e. cc) (SameRows-refl (joined m s))),
+        routed-in-stream goes z r cols merge _ _ s s' x,
+      )
+      go (round z) x = moved _ (exchange-any goes given.in_range (round z) merge _ _ s s' (joined m s) x (some z) (λ y e. cc) (λ e. cc) (λ e. cc) (SameRows-refl (joined m s)))
+      go (broadcast z) x = λ w l. moved (s' w) (broadcast-all goes z merge _ _ s s' (joined m s) x (SameRows-refl (joined m s)) w l)
+      go gather x = (refl, moved _ (exchange-any goes given.in_range gather merge _ 1 s s' (joined m s) x (omega arith) (λ y e. cc) (λ e. refl) (λ e. cc) (SameRows-refl (joined m s))))
+      go concat x = (refl, moved _ (exchange-any goes given.in_range concat merge _ 1 s s' (joined m s) x (omega arith) (λ y e. cc) (λ e. cc) (λ e. refl) (SameRows-refl (joined m s))))
+
+  -- a concat of streams that a range routed, in order
+  concat-sorted : (kind : ExchangeKind) (merge : List ℕ) (p : Plan) (s : Streams) (ih : HoldingAt db sizes goes p s) (s' : Streams)
+      → Exchanges goes kind merge (workers sizes (size p)) (workers sizes (target kind)) s s'
+      → goes_on kind (claim p) ≡ true → (w : ℕ) → w < workers sizes (target kind) → sorted (claim p).order (s' w) ≡ true
+  concat-sorted (route_to z r cols) merge p s ih s' x e w l = absurd (true≢false (sym e))
+  concat-sorted (round z) merge p s ih s' x e w l = absurd (true≢false (sym e))
+  concat-sorted (broadcast z) merge p s ih s' x e w l = absurd (true≢false (sym e))
+  concat-sorted gather merge p s ih s' x e w l = absurd (true≢false (sym e))
+  concat-sorted concat merge p s ih s' x e w l =
+      let P : List Row → Type 0 = λ xs. sorted (claim p).order xs ≡ true in
+      subst P is_joined (ranged goes given.rising (claim p).part (claim p).order m s e ih.holds.order.0 (part-placed goes (claim p).part m s (λ xs. Gives p ih.base xs) ih.holds.part))
+    where
+      m : ℕ
+      m = workers sizes (size p)
+
+      same-joined : (k : ℕ) → k ≤ m → joined k (λ i. x.sent i w) ≡ joined k s
+      same-joined zero b = refl
+      same-joined (suc k) b = ap₂ (λ a d. a ++ d) (same-joined k (omega arith)) (sym (x.sends k (omega arith) w l))
+
+      is_joined : joined m s ≡ s' w
+      is_joined = sym (same-joined m (omega arith)) ∙ x.in_order refl w l
+
+  pub exchange-holds : (k : ℕ) (c : Claim) (kind : ExchangeKind) (merge : List ℕ) (p : Plan) (s out : Streams) (ih : HoldingAt db sizes goes p s) → allowed_here catalog (exchange k c kind merge p) ≡ true
+      → Exchanges goes kind merge (workers sizes (size p)) (workers sizes (target kind)) s out
+      → HoldingAt db sizes goes (exchange k c kind merge p) out
+  exchange-holds k c kind merge p s out ih ok x =
+      let h = tests catalog (exchange k c kind merge p) ok in
+      let list : List Row = listed p ih.base in
+      record {
+        base = ih.base;
+        is_serial = ih.is_serial;
+        holds = record {
+          part = made-part goes given.in_range (is_one (target kind)) (kind_part kind) c.part (workers sizes (target kind)) out (λ xs. Gives p ih.base xs) (one-worker sizes (target kind))
+              (exchange-made kind merge p ih.base (workers sizes (size p)) s out
+              (has-part goes given.in_range (is_one (size p)) (claim p).part any (workers sizes (size p)) s (λ xs. Gives p ih.base xs) (one-worker sizes (size p)) h.1 ih.holds.part) x) h.4;
+          order = (
+            λ w l. exchange-sorted p kind merge c.order (out w) h.5 (x.merged w l)
+                (λ o. single-sorted goes kind merge _ _ s out x (one-worker sizes (size p) o) (claim p).order (ih.holds.order.0 0 (some (size p))) w l)
+                (λ g. concat-sorted kind merge p s ih out x g w l),
+            exchange-sorted p kind merge c.order list h.5 (sorted-front merge (claim p).order h.3 list ih.holds.order.1) (λ o. ih.holds.order.1) (λ g. ih.holds.order.1),
+          );
+          keys = keys-from (covers (claim p).keys) list (λ y e. covers-key (claim p).keys y e list ih.holds.keys) c.keys h.6;
+        };
+      }

@@ -1,0 +1,186 @@
+-- What the operators over one input do to rows: one record of facts for each operator.
+use Rattle.std.proofs.Common.{◌≡◌, ◌==◌, ◌+◌, ℕ, ◌<◌, Bool, true, false, cond, ◌||◌, List, map, filter, length, refl, sym, ap, ◌∙◌, subst, arith, true≢false, Option, Some, None, IsSome}
+use Rattle.std.specs.List.{list_all}
+use Rattle.vx_rows_values.specs.Values.{Row, pick}
+use Rattle.vx_rows_values.specs.Order.{agree, sorted, sort_on}
+use Rattle.vx_rows_values.specs.Bags.{SameRows}
+use Rattle.vx_rows_values.specs.Keys.{HasKey}
+use Rattle.vx_catalog_relations.specs.Relation.{Relation, KeysHold}
+use Rattle.vx_plan_nodes.specs.Plan.{Route, Claim, Plan, unary, claim, Unary, select, project, distinct, sort, group, plain, partial, final, Aggregate}
+use Rattle.vx_plan_nodes.specs.Types.{unary_width}
+use Rattle.vx_plan_nodes.specs.Describe.{Copying, whole_rows, columns_kept, OrderAfter, order_kept, sorted_on, described}
+use Rattle.vx_plan_nodes.specs.Phases.{is_partial, is_final}
+use Rattle.vx_plan_nodes.specs.Serial.{passes, firsts, group_keys, group_row, group_fits, group_rows, unary_rows, aggregate_of, of_key}
+use Rattle.vx_plan_nodes.specs.Streams.{Streams, joined}
+use Rattle.vx_plan_nodes.specs.Routes.{Routing}
+use Rattle.vx_check_rules.specs.Rules.{copied, covers, is_prefix, within, numbers_below, orders, unary_keys}
+use Rattle.vx_check_rules.specs.Behaviour.{sources, Sorted, sorted_by, sorts, order_after}
+use Rattle.vx_check_rules.specs.Claims.{InItsStream}
+use Rattle.vx_check_rules.proofs.Exact.{sources-whole, sources-kept, orders-exactly}
+use Rattle.vx_check_rules.proofs.Bools.{or-false}
+use Rattle.vx_exec_laws.proofs.Bags.{and-left, SameRows-trans}
+use Rattle.vx_exec_laws.proofs.Parts.{list_all-weaken}
+use Rattle.vx_exec_laws.proofs.Orders.{sorted-front, sorted-filter, list_all-filter}
+use Rattle.vx_exec_laws.proofs.Keys.{count-filter, covers-key}
+use Rattle.vx_exec_laws.proofs.Linear.{Linear, Linear-filter, Linear-map, Linear-sort, sort-total, linear-same, linear-joined}
+use Rattle.vx_exec_laws.proofs.Copies.{if_some-is, copied-alone, copied-pick}
+use Rattle.vx_exec_laws.proofs.Unary.{some-is, sort-all, sort-sorted, map-all, project-sorted, project-key}
+use Rattle.vx_exec_laws.proofs.Widths.{firsts-all, picks-wide, some-of, groups-wide}
+use Rattle.vx_exec_laws.proofs.JoinOrder.{wide}
+use Rattle.vx_exec_laws.proofs.Apart.{firsts-same, picks-same, firsts-joined, firsts-sorted, distinct-key}
+use Rattle.vx_exec_laws.proofs.Groups.{groups, groups-same, groups-joined, fits-joined, fits-same-rows, fits-split, groups-sorted, groups-key, keys-all}
+
+-- ---- one list
+
+-- a row of the output has the values of an input's row in the columns that are copied, the rows are in order on them, and each has as many values as there are columns
+pub record Keeps (k : Copying) (after : OrderAfter) (width : ℕ → ℕ) (op : List Row → Option (List Row)) : Type 0 where
+  pub stems : (cs ds : List ℕ) → sources k cs ≡ Some ds → (test : Row → Bool) (xs ys : List Row) → op xs ≡ Some ys
+      → list_all (λ row. test (pick ds row)) xs ≡ true → list_all (λ row. test (pick cs row)) ys ≡ true
+  pub ordered : (cs ds below : List ℕ) → sources k cs ≡ Some ds → is_prefix ds (order_after after below) ≡ true → (xs ys : List Row) → op xs ≡ Some ys
+      → sorted below xs ≡ true → sorted cs ys ≡ true
+  pub wide_as : (w : ℕ) (xs ys : List Row) → op xs ≡ Some ys → wide w xs ≡ true → wide (width w) ys ≡ true
+
+-- whole rows have all columns where they were
+pub same-columns : (cs ds : List ℕ) → sources whole_rows cs ≡ Some ds → cs ≡ ds
+same-columns cs ds e = some-is cs ds (sym (sources-whole cs) ∙ e)
+
+-- by a function that gives the operator's list of whole rows: what holds of each row of its input holds of each of these
+keeps-whole : (after : OrderAfter) (op : List Row → Option (List Row)) (f : List Row → List Row) → ((xs ys : List Row) → op xs ≡ Some ys → f xs ≡ ys)
+    → ((q : Row → Bool) (xs : List Row) → list_all q xs ≡ true → list_all q (f xs) ≡ true)
+    → ((cs below : List ℕ) → is_prefix cs (order_after after below) ≡ true → (xs : List Row) → sorted below xs ≡ true → sorted cs (f xs) ≡ true)
+    → Keeps whole_rows after (λ w. w) op
+keeps-whole after op f is each ordered =
+    let all : (q : Row → Bool) (xs ys : List Row) → op xs ≡ Some ys → list_all q xs ≡ true → list_all q ys ≡ true
+    = λ q xs ys e h. let P : List Row → Type 0 = λ l. list_all q l ≡ true in subst P (is xs ys e) (each q xs h) in
+    record {
+      stems = λ cs ds c test xs ys e h.
+          let P : List ℕ → Type 0 = λ v. list_all (λ row. test (pick v row)) ys ≡ true in subst P (sym (same-columns cs ds c)) (all (λ row. test (pick ds row)) xs ys e h);
+      ordered = λ cs ds below c front xs ys e h.
+          let P : List Row → Type 0 = λ l. sorted cs l ≡ true in
+          let Q : List ℕ → Type 0 = λ v. is_prefix v (order_after after below) ≡ true in
+          subst P (is xs ys e) (ordered cs below (subst Q (sym (same-columns cs ds c)) front) xs h);
+      wide_as = λ w xs ys e h. all (λ row. length row == w) xs ys e h;
+    }
+
+-- by one that gives rows with copies
+keeps-columns : (kept : List ℕ) (width : ℕ) (op : List Row → Option (List Row)) (f : List Row → List Row) → ((xs ys : List Row) → op xs ≡ Some ys → f xs ≡ ys)
+    → ((cs ds : List ℕ) → copied kept cs ≡ Some ds → (test : Row → Bool) (xs : List Row) → list_all (λ row. test (pick ds row)) xs ≡ true → list_all (λ row. test (pick cs row)) (f xs) ≡ true)
+    → ((cs ds : List ℕ) → copied kept cs ≡ Some ds → (xs : List Row) → sorted ds xs ≡ true → sorted cs (f xs) ≡ true)
+    → ((xs : List Row) → wide width (f xs) ≡ true)
+    → Keeps (columns_kept kept) order_kept (λ w. width) op
+keeps-columns kept width op f is stems ordered wide_as = record {
+  stems = λ cs ds c test xs ys e h. let P : List Row → Type 0 = λ l. list_all (λ row. test (pick cs row)) l ≡ true in subst P (is xs ys e) (stems cs ds (sym (sources-kept kept cs) ∙ c) test xs h);
+  ordered = λ cs ds below c front xs ys e h.
+      let P : List Row → Type 0 = λ l. sorted cs l ≡ true in subst P (is xs ys e) (ordered cs ds (sym (sources-kept kept cs) ∙ c) xs (sorted-front ds below front xs h));
+  wide_as = λ w xs ys e h. let P : List Row → Type 0 = λ l. wide width l ≡ true in subst P (is xs ys e) (wide_as xs);
+}
+
+copied-stems : (cs ds : List ℕ) (g : Row → Row) → ((row : Row) → pick cs (g row) ≡ pick ds row) → (test : Row → Bool) (xs : List Row)
+    → list_all (λ row. test (pick ds row)) xs ≡ true → list_all (λ row. test (pick cs (g row))) xs ≡ true
+copied-stems cs ds g same test xs h = list_all-weaken (λ row. test (pick ds row)) (λ row. test (pick cs (g row))) (λ row t. ap test (same row) ∙ t) xs h
+
+group-keeps : (by : List ℕ) (aggregates : List Aggregate) → Keeps (columns_kept by) order_kept (λ w. length by + length aggregates) (group_rows by aggregates)
+group-keeps by aggregates = keeps-columns by (length by + length aggregates) (group_rows by aggregates) (groups by aggregates)
+    (λ xs ys e. (some-of (list_all (group_fits by aggregates xs) (group_keys by xs)) (groups by aggregates xs) ys e).1)
+    (λ cs ds c test xs h. map-all (λ row. test (pick cs row)) (group_row by aggregates xs) (group_keys by xs)
+    (keys-all by (λ key. test (pick cs (group_row by aggregates xs key))) xs
+    (copied-stems cs ds (λ row. group_row by aggregates xs (pick by row)) (λ row. copied-pick by cs ds row (map (λ a. aggregate_of a (of_key by (pick by row) xs)) aggregates) c) test xs h)))
+    (λ cs ds c xs h. groups-sorted by cs ds aggregates c xs h)
+    (λ xs. groups-wide by aggregates xs)
+
+pub keeps : (op : Unary) → Keeps (described op).copying (described op).order (λ w. unary_width op w) (unary_rows op)
+keeps (select conditions) = keeps-whole order_kept (unary_rows (select conditions)) (filter (passes conditions)) (λ xs ys e. some-is _ _ e)
+    (λ q xs. list_all-filter q (passes conditions) xs) (λ cs below front xs h. sorted-filter cs (passes conditions) xs (sorted-front cs below front xs h))
+keeps (project cols) = keeps-columns cols (length cols) (unary_rows (project cols)) (map (pick cols)) (λ xs ys e. some-is _ _ e)
+    (λ cs ds c test xs h. map-all (λ row. test (pick cs row)) (pick cols) xs (copied-stems cs ds (pick cols) (λ row. copied-alone cols cs ds row c) test xs h))
+    (λ cs ds c xs h. project-sorted cols cs ds c xs h) (λ xs. picks-wide cols xs)
+keeps (distinct cols) = keeps-columns cols (length cols) (unary_rows (distinct cols)) (λ xs. firsts (map (pick cols) xs)) (λ xs ys e. some-is _ _ e)
+    (λ cs ds c test xs h. keys-all cols (λ row. test (pick cs row)) xs (copied-stems cs ds (pick cols) (λ row. copied-alone cols cs ds row c) test xs h))
+    (λ cs ds c xs h. firsts-sorted cs (map (pick cols) xs) (project-sorted cols cs ds c xs h)) (λ xs. firsts-all (λ row. length row == length cols) (map (pick cols) xs) (picks-wide cols xs))
+keeps (sort cols) = keeps-whole (sorted_on cols) (unary_rows (sort cols)) (sort_on cols) (λ xs ys e. some-is _ _ e)
+    (λ q xs. sort-all q cols xs) (λ cs below front xs h. sorted-front cs cols front (sort_on cols xs) (sort-sorted cols xs))
+keeps (group plain by aggregates) = group-keeps by aggregates
+keeps (group partial by aggregates) = group-keeps by aggregates
+keeps (group final by aggregates) = group-keeps by aggregates
+
+-- what an operator gives of rows in order is in the order that is shown
+pub unary-ordered : (catalog : ℕ → Relation) (k : ℕ) (c : Claim) (op : Unary) (p : Plan) → orders catalog (unary k c op p) c.order ≡ true
+    → (xs ys : List Row) → unary_rows op xs ≡ Some ys → sorted (claim p).order xs ≡ true → sorted c.order ys ≡ true
+unary-ordered catalog k c op p h xs ys e up =
+    let s : Sorted = sorted_by (described op).copying (order_after (described op).order (claim p).order) in
+    let o = if_some-is (sources s.copying c.order) (λ cs. is_prefix cs s.order) (sym (or-false (sorts s c.order)) ∙ (sym (orders-exactly catalog (unary k c op p) c.order) ∙ h)) in
+    (keeps op).ordered c.order o.0 (claim p).order o.1 o.2 xs ys e up
+
+-- ---- lists of the same rows, and streams
+
+-- the operator gives a list of these rows
+pub record Made (op : List Row → Option (List Row)) (xs like : List Row) : Type 0 where
+  pub out : List Row
+  pub is : op xs ≡ Some out
+  pub same : SameRows like out
+
+-- rows that agree in these columns stand in one stream
+abbrev pub Meets : Routing → Option (List ℕ) → ℕ → Streams → Type 0
+Meets goes None n s = Unit {0}
+Meets goes (Some cols) n s = (r : Route) × (cs : List ℕ) × (within cs cols ≡ true) × InItsStream goes r cs n s
+
+-- an operator that gives the same rows of the same rows, stream by stream too where those that have to meet do; and keys of its output
+pub record Whole (goes : Routing) (op : Unary) : Type 0 where
+  pub of_bags : (xs ys zs : List Row) → SameRows xs ys → unary_rows op xs ≡ Some zs → Made (unary_rows op) ys zs
+  pub joins : (n : ℕ) (s s' : Streams) (base : List Row) → Meets goes (described op).meets n s → SameRows (joined n s) base
+      → ((w : ℕ) → w < n → unary_rows op (s w) ≡ Some (s' w)) → Made (unary_rows op) base (joined n s')
+  pub splits : (n : ℕ) (s : Streams) (base out : List Row) → Meets goes (described op).meets n s → SameRows (joined n s) base → unary_rows op base ≡ Some out
+      → (w : ℕ) → w < n → IsSome (unary_rows op (s w))
+  pub keyed : (keys : List (List ℕ)) (x : List ℕ) → unary_keys op keys x ≡ true → (xs ys : List Row) → unary_rows op xs ≡ Some ys → KeysHold keys xs → HasKey x ys
+
+-- by a function that gives the operator's list, which there always is
+whole-by : (goes : Routing) (op : Unary) (f : List Row → List Row) → ((xs : List Row) → unary_rows op xs ≡ Some (f xs))
+    → ((xs ys : List Row) → SameRows xs ys → SameRows (f xs) (f ys))
+    → ((n : ℕ) (s s' : Streams) (base : List Row) → Meets goes (described op).meets n s → SameRows (joined n s) base → ((w : ℕ) → w < n → f (s w) ≡ s' w) → SameRows (joined n s') (f base))
+    → ((keys : List (List ℕ)) (x : List ℕ) → unary_keys op keys x ≡ true → (xs : List Row) → KeysHold keys xs → HasKey x (f xs))
+    → Whole goes op
+whole-by goes op f is same joins keyed = record {
+  of_bags = λ xs ys zs s e.
+      let P : List Row → Type 0 = λ l. SameRows l (f ys) in record { out = f ys; is = is ys; same = subst P (some-is (f xs) zs (sym (is xs) ∙ e)) (same xs ys s) };
+  joins = λ n s s' base m h run. record { out = f base; is = is base; same = joins n s s' base m h (λ w l. some-is (f (s w)) (s' w) (sym (is (s w)) ∙ run w l)) };
+  splits = λ n s base out m h e w l. let P : Option (List Row) → Type 0 = λ o. IsSome o in subst P (sym (is (s w))) refl;
+  keyed = λ keys x e xs ys g h. let P : List Row → Type 0 = λ l. HasKey x l in subst P (some-is (f xs) ys (sym (is xs) ∙ g)) (keyed keys x e xs h);
+}
+
+-- by a function that takes the rows one by one
+by-row : (goes : Routing) (op : Unary) (f : List Row → List Row) → ((xs : List Row) → unary_rows op xs ≡ Some (f xs)) → Linear f
+    → ((keys : List (List ℕ)) (x : List ℕ) → unary_keys op keys x ≡ true → (xs : List Row) → KeysHold keys xs → HasKey x (f xs))
+    → Whole goes op
+by-row goes op f is lin keyed =
+    whole-by goes op f is (λ xs ys s. linear-same lin s) (λ n s s' base m h run. SameRows-trans (linear-joined lin n s s' run) (linear-same lin h)) keyed
+
+pub whole : (goes : Routing) (op : Unary) → (is_partial op || is_final op) ≡ false → Whole goes op
+whole goes (select cs) e = by-row goes (select cs) (filter (passes cs)) (λ xs. refl) (Linear-filter (passes cs))
+    (λ keys x h xs ks row. let a = count-filter (agree x row) (passes cs) xs in let b = covers-key keys x h xs ks row in omega (arith, a, b))
+whole goes (project cols) e = by-row goes (project cols) (map (pick cols)) (λ xs. refl) (Linear-map (pick cols))
+    (λ keys x h xs ks. let w = if_some-is (copied cols x) (covers keys) h in project-key cols x w.0 w.1 xs (covers-key keys w.0 w.2 xs ks))
+whole goes (distinct cols) e = whole-by goes (distinct cols) (λ xs. firsts (map (pick cols) xs)) (λ xs. refl)
+    (λ xs ys s. firsts-same (picks-same cols s)) (λ n s s' base m h run. firsts-joined goes m.0 m.1 cols n s s' base m.2 run h m.3)
+    (λ keys x h xs ks. distinct-key cols x xs (and-left (within (numbers_below (length cols)) x) (within x (numbers_below (length cols))) h))
+whole goes (sort cols) e = by-row goes (sort cols) (sort_on cols) (λ xs. refl) (Linear-sort cols)
+    (λ keys x h xs ks row. let a = sort-total (λ r. cond (agree x row r) 1 0) cols xs in let b = covers-key keys x h xs ks row in omega (arith, a, b))
+whole goes (group partial by aggregates) e = absurd (true≢false e)
+whole goes (group final by aggregates) e = absurd (true≢false e)
+whole goes (group plain by aggregates) e =
+    let fit : List Row → Bool = λ xs. list_all (group_fits by aggregates xs) (group_keys by xs) in
+    let there : (xs : List Row) → fit xs ≡ true → group_rows by aggregates xs ≡ Some (groups by aggregates xs) = λ xs t. ap (λ b. cond b (Some (groups by aggregates xs)) None) t in
+    let both : (xs ys : List Row) → group_rows by aggregates xs ≡ Some ys → (fit xs ≡ true) × (groups by aggregates xs ≡ ys) = λ xs ys g. some-of (fit xs) (groups by aggregates xs) ys g in
+    record {
+      of_bags = λ xs ys zs s g.
+          let P : List Row → Type 0 = λ l. SameRows l (groups by aggregates ys) in
+          record { out = groups by aggregates ys; is = there ys (fits-same-rows by aggregates xs ys s (both xs zs g).0); same = subst P (both xs zs g).1 (groups-same by aggregates xs ys s) };
+      joins = λ n s s' base m h run. record {
+        out = groups by aggregates base;
+        is = there base (fits-joined goes m.0 m.1 by aggregates n s base m.2 h m.3 (λ w l. (both (s w) (s' w) (run w l)).0));
+        same = groups-joined goes m.0 m.1 by aggregates n s base m.2 h m.3 s' (λ w l. (both (s w) (s' w) (run w l)).1);
+      };
+      splits = λ n s base out m h g w l.
+          let P : Option (List Row) → Type 0 = λ o. IsSome o in
+          subst P (sym (there (s w) (fits-split goes m.0 m.1 by aggregates n s base m.2 h m.3 (both base out g).0 w l))) refl;
+      keyed = λ keys x h xs ys g ks. let P : List Row → Type 0 = λ l. HasKey x l in subst P (both xs ys g).1 (groups-key by x aggregates xs h);
+    }

@@ -1,0 +1,84 @@
+-- Sorted lists: a front of the order, a part of the list, and what copies columns.
+use Rattle.std.proofs.Common.{◌≡◌, ℕ, ◌<◌, ◌==◌, nat_lt, Bool, true, false, cond, List, [], ◌∷◌, map, filter, refl, sym, ap, ◌∙◌, subst, arith, true≢false, eqb-true, eq-eqb, ltb-true, is_le, Ordering, Less, Equal, Greater}
+use Rattle.std.specs.List.{list_all}
+use Rattle.std.specs.Ordering.{ordering_then}
+use Rattle.vx_rows_values.specs.Values.{Row, val_cmp, value_at}
+use Rattle.vx_rows_values.specs.Order.{compare_on, sorted}
+use Rattle.vx_plan_nodes.specs.Streams.{Streams, bearing, Dealt}
+use Rattle.vx_check_rules.specs.Rules.{is_prefix}
+use Rattle.vx_exec_laws.proofs.Bags.{and-left, and-right, and-both}
+use Rattle.vx_exec_laws.proofs.Parts.{list_all-weaken}
+
+pub le-front : (cs ds : List ℕ) (a b : Row) → is_prefix cs ds ≡ true → is_le (compare_on ds a b) ≡ true → is_le (compare_on cs a b) ≡ true
+le-front [] ds a b f h = refl
+le-front (c ∷ cs) [] a b f h = absurd (true≢false (sym f))
+le-front (c ∷ cs) (d ∷ ds) a b f h =
+    let same : c ≡ d = eqb-true c d (and-left _ _ f) in
+    let P : ℕ → Type 0 = λ x. is_le (compare_on (x ∷ cs) a b) ≡ true in
+    subst P (sym same) (step (val_cmp (value_at a d) (value_at b d)) _ _ (le-front cs ds a b (and-right _ _ f)) h)
+  where
+    step : (o p q : Ordering) → (is_le p ≡ true → is_le q ≡ true) → is_le (ordering_then o p) ≡ true → is_le (ordering_then o q) ≡ true
+    step Less p q f h = refl
+    step Equal p q f h = f h
+    step Greater p q f h = h
+
+pub sorted-front : (cs ds : List ℕ) → is_prefix cs ds ≡ true → (xs : List Row) → sorted ds xs ≡ true → sorted cs xs ≡ true
+sorted-front cs ds f [] h = refl
+sorted-front cs ds f (x ∷ xs) h = and-both _ _
+    (list_all-weaken (λ y. is_le (compare_on ds x y)) (λ y. is_le (compare_on cs x y)) (λ y. le-front cs ds x y f) xs (and-left _ _ h))
+    (sorted-front cs ds f xs (and-right _ _ h))
+
+pub list_all-cond : {X : Type 0} (q : X → Bool) (b : Bool) (x : X) (xs : List X) → q x ≡ true → list_all q xs ≡ true → list_all q (cond b (x ∷ xs) xs) ≡ true
+list_all-cond q true x xs h k = and-both _ _ h k
+list_all-cond q false x xs h k = k
+
+pub list_all-filter : {X : Type 0} (q p : X → Bool) (xs : List X) → list_all q xs ≡ true → list_all q (filter p xs) ≡ true
+list_all-filter q p [] h = refl
+list_all-filter q p (x ∷ xs) h = list_all-cond q (p x) x _ (and-left _ _ h) (list_all-filter q p xs (and-right _ _ h))
+
+pub sorted-cond : (cs : List ℕ) (b : Bool) (x : Row) (xs : List Row) → list_all (λ y. is_le (compare_on cs x y)) xs ≡ true → sorted cs xs ≡ true → sorted cs (cond b (x ∷ xs) xs) ≡ true
+sorted-cond cs true x xs h k = and-both _ _ h k
+sorted-cond cs false x xs h k = k
+
+pub sorted-filter : (cs : List ℕ) (p : Row → Bool) (xs : List Row) → sorted cs xs ≡ true → sorted cs (filter p xs) ≡ true
+sorted-filter cs p [] h = refl
+sorted-filter cs p (x ∷ xs) h =
+    sorted-cond cs (p x) x (filter p xs) (list_all-filter _ p xs (and-left _ _ h)) (sorted-filter cs p xs (and-right _ _ h))
+
+abbrev pub rows_of : List (ℕ × Row) → List Row
+rows_of ts = map (λ t. t.1) ts
+
+pub list_all-bearing : (q : Row → Bool) (i : ℕ) (ts : List (ℕ × Row)) → list_all q (rows_of ts) ≡ true → list_all q (bearing i ts) ≡ true
+list_all-bearing q i [] h = refl
+list_all-bearing q i (t ∷ ts) h = list_all-cond q (t.0 == i) t.1 _ (and-left _ _ h) (list_all-bearing q i ts (and-right _ _ h))
+
+pub sorted-bearing : (cs : List ℕ) (i : ℕ) (ts : List (ℕ × Row)) → sorted cs (rows_of ts) ≡ true → sorted cs (bearing i ts) ≡ true
+sorted-bearing cs i [] h = refl
+sorted-bearing cs i (t ∷ ts) h =
+    sorted-cond cs (t.0 == i) t.1 (bearing i ts) (list_all-bearing _ i ts (and-left _ _ h)) (sorted-bearing cs i ts (and-right _ _ h))
+
+-- each list that a sorted list is dealt out to is sorted
+pub Dealt-sorted : {n : ℕ} {xs : List Row} {ls : Streams} → Dealt n xs ls → (cs : List ℕ) → sorted cs xs ≡ true → (i : ℕ) → i < n → sorted cs (ls i) ≡ true
+Dealt-sorted {n} {xs} {ls} d cs h i l =
+    let P : List Row → Type 0 = λ x. sorted cs x ≡ true in
+    subst P (d.lists_are i l) (sorted-bearing cs i d.numbered (subst P (sym d.whole) h))
+
+-- a shuffle of one list is that list
+pub bearing-zero : (ts : List (ℕ × Row)) → list_all (λ t. nat_lt t.0 1) ts ≡ true → bearing 0 ts ≡ rows_of ts
+bearing-zero [] h = refl
+bearing-zero (t ∷ ts) h =
+    let b : t.0 < 1 = ltb-true t.0 1 (and-left _ _ h) in
+    let e : (t.0 == 0) ≡ true = eq-eqb t.0 0 (omega arith) in
+    let r : bearing 0 ts ≡ rows_of ts = bearing-zero ts (and-right _ _ h) in
+    ap (λ v. cond v (t.1 ∷ bearing 0 ts) (bearing 0 ts)) e ∙ ap (λ v. t.1 ∷ v) r
+
+pub Dealt-one : {xs : List Row} {ls : Streams} → Dealt 1 xs ls → xs ≡ ls 0
+Dealt-one d = sym d.whole ∙ (sym (bearing-zero d.numbered d.in_range) ∙ d.lists_are 0 (omega arith))
+
+pub sorted-none : (xs : List Row) → sorted [] xs ≡ true
+sorted-none [] = refl
+sorted-none (x ∷ xs) = and-both _ _ (always xs) (sorted-none xs)
+  where
+    always : (ys : List Row) → list_all (λ y. is_le (compare_on [] x y)) ys ≡ true
+    always [] = refl
+    always (y ∷ ys) = always ys

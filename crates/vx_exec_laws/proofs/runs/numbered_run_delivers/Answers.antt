@@ -1,0 +1,5 @@
+use Rattle.vx_exec_laws.proofs.Numbered.{numbered-run-delivers}
+use Rattle.vx_exec_laws.proofs.runs.numbered_run_delivers.Goals as goal
+
+pub returns : goal.returns
+returns c = numbered-run-delivers

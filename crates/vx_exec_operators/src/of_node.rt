@@ -1,0 +1,148 @@
+//! The operators of the nodes of a plan.
+
+ghost use Rattle.std.specs.Prelude.{◌≡◌, ◌≤◌, true, length, IfOk};
+ghost use Rattle.vx_rows.specs.View.{AreColumns};
+ghost use Rattle.vx_plan_nodes.specs.Outline.{unary_of, binary_of, kind_of};
+ghost use Rattle.vx_plan_nodes.specs.Runs.{is_concat};
+ghost use Rattle.vx_plan_nodes.specs.Typed.{is_unary, is_binary, may_merge};
+ghost use Rattle.vx_plan_nodes.specs.Types.{unary_types, binary_types};
+ghost use Rattle.vx_ops.specs.Ledger.{one_op, two_op, receive};
+ghost use Rattle.vx_ops.specs.Turn.{fresh_ledger};
+ghost use Rattle.vx_ops.specs.Starts.{StartsWithin};
+ghost use Rattle.vx_exec_operators.specs.Operator.{OperatorStands, operator_op, operator_types, operator_most, operator_idle};
+ghost use Rattle.vx_rows_values.specs.Limits.{max_group_workers};
+
+use crate::kind::OperatorKind;
+use crate::operator::Operator;
+use std::alloc::{AllocError, Global};
+use vx_exchange::Receiver;
+use vx_exchange_receivers::{InOrderReceiver, MergeReceiver};
+use vx_match::{FirstRows, HashJoining, KeyedGroups, MergeJoin};
+use vx_ops::{Project, Select, Sort, Union};
+use vx_ops_kernels::kept_columns;
+use vx_plan_nodes::{Binary, Exchange, ExchangeKind, Unary, copied_conditions};
+use vx_rows_values::{ColType, KeySeed};
+
+/// The operator over one input of rows of these types, at the node with this number, to which nothing came. Keys are hashed by
+/// the seed.
+pub fn unary_operator(
+    alloc: Global,
+    seed: KeySeed,
+    number: u32,
+    unary: &Unary,
+    input: &[ColType],
+) -> Result<Operator, AllocError>
+    requires { is_unary input.now (unary_of unary.now) ≡ true }
+    ensures op { IfOk result (λ o. operator_op o ≡ one_op number (unary_of unary.now)) }
+    ensures stands { IfOk result (λ o. OperatorStands o fresh_ledger) }
+    ensures starts { IfOk result (λ o. StartsWithin (operator_op o) (operator_most o) (operator_idle o)) }
+    ensures reads { IfOk result (λ o. (operator_types o).left ≡ input.now) }
+    ensures returns { IfOk result (λ o. (operator_types o).out ≡ unary_types (unary_of unary.now) input.now) }
+{
+    match unary {
+        Unary::Select(conditions) => {
+            let copies = copied_conditions(alloc, conditions.as_slice())?;
+            let types = Vec::from_slice(alloc, input)?;
+            let select = Select::new(alloc, number, copies, types);
+            Ok(Operator::of(number, OperatorKind::Select(select)))
+        }
+        Unary::Project(kept) => {
+            let columns = kept_columns(alloc, kept.as_slice())?;
+            let project = Project::new(alloc, number, columns, input)?;
+            Ok(Operator::of(number, OperatorKind::Project(project)))
+        }
+        Unary::Distinct(kept) => {
+            let columns = kept_columns(alloc, kept.as_slice())?;
+            let distinct = FirstRows::source(alloc, seed, number, columns, input)?;
+            Ok(Operator::of(number, OperatorKind::Distinct(distinct)))
+        }
+        Unary::Sort(columns) => {
+            let columns = Vec::from_slice(alloc, columns.as_slice())?;
+            let sort = Sort::new(alloc, number, columns, input)?;
+            Ok(Operator::of(number, OperatorKind::Sort(sort)))
+        }
+        Unary::Group(phase, by, aggregates) => {
+            let by = by.as_slice();
+            let aggregates = aggregates.as_slice();
+            let group = KeyedGroups::source(alloc, seed, number, *phase, by, aggregates, input)?;
+            Ok(Operator::of(number, OperatorKind::Group(group)))
+        }
+    }
+}
+
+/// The operator over two inputs of rows of these types, at the node with this number, to which nothing came. Keys are hashed by
+/// the seed.
+pub fn binary_operator(
+    alloc: Global,
+    seed: KeySeed,
+    number: u32,
+    binary: &Binary,
+    left: &[ColType],
+    right: &[ColType],
+) -> Result<Operator, AllocError>
+    requires { is_binary left.now right.now (binary_of binary.now) ≡ true }
+    ensures op { IfOk result (λ o. operator_op o ≡ two_op number (binary_of binary.now)) }
+    ensures stands { IfOk result (λ o. OperatorStands o fresh_ledger) }
+    ensures starts { IfOk result (λ o. StartsWithin (operator_op o) (operator_most o) (operator_idle o)) }
+    ensures left { IfOk result (λ o. (operator_types o).left ≡ left.now) }
+    ensures right { IfOk result (λ o. (operator_types o).right ≡ right.now) }
+    ensures returns { IfOk result (λ o. (operator_types o).out ≡ binary_types (binary_of binary.now) left.now right.now) }
+{
+    match binary {
+        Binary::Union => {
+            let types = Vec::from_slice(alloc, left)?;
+            let union = Union::new(number, types);
+            Ok(Operator::of(number, OperatorKind::Union(union)))
+        }
+        Binary::HashJoin(on) => {
+            let on = Vec::from_slice(alloc, on.as_slice())?;
+            let join = HashJoining::source(alloc, seed, number, on, left, right)?;
+            Ok(Operator::of(number, OperatorKind::HashJoin(join)))
+        }
+        Binary::MergeJoin(on) => {
+            let join = MergeJoin::new(alloc, number, on.as_slice(), left, right)?;
+            Ok(Operator::of(number, OperatorKind::MergeJoin(join)))
+        }
+    }
+}
+
+// Whether an exchange takes its producers in the order of their numbers.
+fn is_concat(kind: &ExchangeKind) -> bool
+    ensures { result ≡ is_concat (kind_of kind.now) }
+{
+    matches!(kind, ExchangeKind::Concat)
+}
+
+/// The consumer end, at `place`, of the exchange whose node has this `number`. It takes rows of these `types` from `producers` producers,
+/// and no packet has come yet.
+pub fn consumer_operator(
+    alloc: Global,
+    number: u32,
+    exchange: &Exchange,
+    place: u32,
+    producers: u32,
+    types: Vec<ColType>,
+) -> Result<Operator, AllocError>
+    requires some { 1 ≤ producers }
+    requires few { producers ≤ max_group_workers }
+    requires columns { AreColumns (length types.items) exchange.now.merge.items }
+    requires merges { may_merge (kind_of exchange.now.kind) exchange.now.merge.items ≡ true }
+    ensures op { IfOk result (λ o. operator_op o
+        ≡ receive (record { exchange = number; place = place; producers = producers; types = types.items; merge = exchange.now.merge.items; in_order = is_concat (kind_of exchange.now.kind) })) }
+    ensures stands { IfOk result (λ o. OperatorStands o fresh_ledger) }
+    ensures starts { IfOk result (λ o. StartsWithin (operator_op o) (operator_most o) (operator_idle o)) }
+    ensures reads { IfOk result (λ o. (operator_types o).left ≡ types.items) }
+    ensures returns { IfOk result (λ o. (operator_types o).out ≡ types.items) }
+{
+    if is_concat(&exchange.kind) {
+        let receiver = InOrderReceiver::new(number, place, producers, types);
+        return Ok(Operator::of(number, OperatorKind::InOrder(receiver)));
+    }
+    if exchange.merge.is_empty() {
+        let receiver = Receiver::new(alloc, number, place, producers, types)?;
+        return Ok(Operator::of(number, OperatorKind::Receiver(receiver)));
+    }
+    let merge = Vec::from_slice(alloc, exchange.merge.as_slice())?;
+    let receiver = MergeReceiver::new(alloc, number, place, producers, types, merge)?;
+    Ok(Operator::of(number, OperatorKind::Merge(receiver)))
+}

@@ -1,0 +1,52 @@
+//! The engine of this repository.
+
+use crate::run::{Threading, run_threads};
+use std::alloc::Global;
+use std::sync::Wait;
+use std::thread::Threads;
+use vx_catalog::Database;
+use vx_check_rules::CheckedPlan;
+use vx_exchange::ByteRouter;
+use vx_exec::run_rounds;
+use vx_exec_runs::{MAX_ROUNDS, RunOutcome, Runs};
+use vx_exec_setup::{Mode, RunCounts, RunFault, Setting};
+use vx_exec_threads::Free;
+
+/// Runs plans by the workers of this repository: by rounds in one thread, or each worker in a thread of its own. Hash routes send keys by
+/// their bytes.
+#[derive(Clone, Copy)]
+pub struct Engine;
+
+impl Runs for Engine {
+    ghost use Rattle.vx_exec_parallel.specs.Engine.{CountedIn};
+
+    ghost counted = { λ _ mode p db s result ws. CountedIn mode p db s result ws };
+
+    fn run<T: Threads + Wait + Sync>(
+        &self,
+        rt: &T,
+        alloc: Global,
+        plan: &CheckedPlan,
+        database: &Database,
+        setting: &Setting,
+        counts: &mut RunCounts,
+    ) -> Result<RunOutcome, RunFault> {
+        let setup = setting.setup();
+        match setting.mode() {
+            Mode::Rounds => run_rounds(
+                alloc,
+                plan,
+                database,
+                setup,
+                &ByteRouter,
+                MAX_ROUNDS,
+                counts,
+            ),
+            Mode::Threads => {
+                let (router, gate) = (ByteRouter, Free);
+                let threading = Threading::new(&router, &gate);
+                run_threads(rt, alloc, plan, database, setup, &threading, counts)
+            }
+        }
+    }
+}

@@ -1,6 +1,0 @@
-use Rattle.std.proofs.Common.{◌≡◌, map, take}
-use Rattle.vx_values.specs.Types.{type_at}
-use Rattle.vx_keys.proofs.column_keys.key_types.Given as goal
-
-abbrev pub invariant-loop-column : goal.invariant-loop-column
-invariant-loop-column l = l.found.items ≡ map (type_at l.types) (take l.column-index l.columns)

@@ -1,5 +1,0 @@
-use Rattle.vx_values.proofs.Order.{NoFall}
-use Rattle.vx_keys.proofs.rising.chunk_rises.Given as goal
-
-abbrev pub invariant-loop-i : goal.invariant-loop-i
-invariant-loop-i l = NoFall l.columns l.chunk.rows l.i

@@ -1,5 +1,0 @@
-use Rattle.vx_laws.proofs.Frame.{sound-throughout}
-use Rattle.vx_laws.proofs.every_claim_holds.Goals as goal
-
-pub returns : goal.returns
-returns c = sound-throughout

@@ -1,5 +1,0 @@
-use Rattle.vx_laws.proofs.FormLemmas.{forms-agree}
-use Rattle.vx_laws.proofs.forms_agree.Goals as goal
-
-pub returns : goal.returns
-returns c = forms-agree

@@ -1,5 +1,0 @@
-use Rattle.vx_laws.proofs.Frame.{no-overflow}
-use Rattle.vx_laws.proofs.overflow_is_real.Goals as goal
-
-pub returns : goal.returns
-returns c = no-overflow

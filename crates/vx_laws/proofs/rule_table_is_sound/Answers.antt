@@ -1,5 +1,0 @@
-use Rattle.vx_laws.proofs.Frame.{sound}
-use Rattle.vx_laws.proofs.rule_table_is_sound.Goals as goal
-
-pub returns : goal.returns
-returns c = sound

@@ -1,5 +1,0 @@
-use Rattle.vx_laws.proofs.Total.{sound-at-root}
-use Rattle.vx_laws.proofs.rule_table_is_sound_at_root.Goals as goal
-
-pub returns : goal.returns
-returns c = sound-at-root

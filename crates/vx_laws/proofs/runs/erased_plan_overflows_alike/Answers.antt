@@ -1,5 +1,0 @@
-use Rattle.vx_laws.proofs.Erased.{erased-overflows}
-use Rattle.vx_laws.proofs.runs.erased_plan_overflows_alike.Goals as goal
-
-pub returns : goal.returns
-returns c = erased-overflows

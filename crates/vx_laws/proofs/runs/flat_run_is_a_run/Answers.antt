@@ -1,5 +1,0 @@
-use Rattle.vx_laws.proofs.Layouts.{flat-is-run}
-use Rattle.vx_laws.proofs.runs.flat_run_is_a_run.Goals as goal
-
-pub returns : goal.returns
-returns c = flat-is-run

@@ -1,5 +1,0 @@
-use Rattle.vx_laws.proofs.Hands.{hands-dispatched}
-use Rattle.vx_laws.proofs.runs.hands_are_dispatched.Goals as goal
-
-pub returns : goal.returns
-returns c = hands-dispatched

@@ -1,5 +1,0 @@
-use Rattle.vx_laws.proofs.Numbered.{numbered-run-delivers}
-use Rattle.vx_laws.proofs.runs.numbered_run_delivers.Goals as goal
-
-pub returns : goal.returns
-returns c = numbered-run-delivers

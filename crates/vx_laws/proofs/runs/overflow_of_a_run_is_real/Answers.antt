@@ -1,5 +1,0 @@
-use Rattle.vx_laws.proofs.Overflows.{overflow-is-real}
-use Rattle.vx_laws.proofs.runs.overflow_of_a_run_is_real.Goals as goal
-
-pub returns : goal.returns
-returns c = overflow-is-real

@@ -1,5 +1,0 @@
-use Rattle.vx_laws.proofs.WellRun.{well-run-delivers}
-use Rattle.vx_laws.proofs.runs.well_run_delivers.Goals as goal
-
-pub returns : goal.returns
-returns c = well-run-delivers

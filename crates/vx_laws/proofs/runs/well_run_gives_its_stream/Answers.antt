@@ -1,5 +1,0 @@
-use Rattle.vx_laws.proofs.WellRun.{well-run-gives}
-use Rattle.vx_laws.proofs.runs.well_run_gives_its_stream.Goals as goal
-
-pub returns : goal.returns
-returns c = well-run-gives

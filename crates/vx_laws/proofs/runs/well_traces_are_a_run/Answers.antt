@@ -1,5 +1,0 @@
-use Rattle.vx_laws.proofs.WellRun.{well-runs}
-use Rattle.vx_laws.proofs.runs.well_traces_are_a_run.Goals as goal
-
-pub returns : goal.returns
-returns c = well-runs

@@ -1,5 +1,0 @@
-use Rattle.vx_loading.specs.Reading.{Moves}
-use Rattle.vx_loading.proofs.buffer.fill.Given as goal
-
-abbrev pub invariant-loop : goal.invariant-loop
-invariant-loop g l = Moves l.initial.buffer.items (g.S.Read.remaining l.initial.source) l.buffer.items (g.S.Read.remaining l.source)

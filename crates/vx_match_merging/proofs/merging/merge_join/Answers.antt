@@ -1,0 +1,95 @@
+use Rattle.std.proofs.Common.{◌∙◌, ◌&&◌, [], sym, subst, flat_map}
+use Rattle.vx_rows_values.specs.Order.{sorted}
+use Rattle.vx_rows_values.proofs.Booleans.{and-both}
+use Rattle.vx_match_merging.specs.declared.merging.MergeFault.{MergeFault}
+use Rattle.vx_match_keys.specs.Matched.{matched}
+use Rattle.vx_match_merging.specs.Merged.{MergeBlame}
+use Rattle.vx_match_keys.proofs.ErrorFacts.{reported}
+use Rattle.vx_match_merging.proofs.MergeTurns.{joined-all, left-rises, right-rises, need-left}
+use Rattle.vx_match_merging.proofs.MergeCalls.{whole-range, blame-left, blame-right}
+use Rattle.vx_match_merging.proofs.merging.merge_join.Goals as goal
+
+pub returns-in_err-take_left-clause-err : goal.returns-in_err-take_left-clause-err
+returns-in_err-take_left-clause-err c =
+    let ls = c.args.left.now.rows in
+    let rs = c.args.right.now.rows in
+    let lefts = c.args.left_columns.now in
+    let rights = c.args.right_columns.now in
+    let e = c.in_err-take_left.field-0.0 in
+    let by = c.in_ok-merge.ensures.lefts ∙ c.in_ok-lefts.ensures.items in
+    let all = c.in_ok-slice.ensures.rows ∙ whole-range ls c.len.result c.len.ensures in
+    let blame = c.in_err-take_left.ensures.err c.in_ok-merge.ensures.left_ended [] [] [] c.in_ok-merge.ensures.nothing in
+    reported c.from_residual-in_err-take_left.result e (λ (x : MergeFault). MergeBlame x (sorted lefts ls && sorted rights rs)) c.from_residual-in_err-take_left.ensures.1
+    (blame-left e (sorted lefts ls) (sorted rights rs) (subst (MergeBlame e) (λ i. sorted (by i) (all i)) blame))
+
+pub returns-in_err-take_right-clause-err : goal.returns-in_err-take_right-clause-err
+returns-in_err-take_right-clause-err c =
+    let ls = c.args.left.now.rows in
+    let rs = c.args.right.now.rows in
+    let lefts = c.args.left_columns.now in
+    let rights = c.args.right_columns.now in
+    let e = c.in_err-take_right.field-0.0 in
+    let xs = c.in_ok-slice.field-0.rows in
+    let one = c.in_ok-take_left.ensures.joined c.in_ok-merge.ensures.left_ended [] [] [] c.in_ok-merge.ensures.nothing in
+    let by = c.in_ok-take_left.ensures.shape.rights ∙ (c.in_ok-merge.ensures.rights ∙ c.in_ok-rights.ensures.items) in
+    let all = c.in_ok-slice-2.ensures.rows ∙ whole-range rs c.len-2.result c.len-2.ensures in
+    reported c.from_residual-in_err-take_right.result e (λ (x : MergeFault). MergeBlame x (sorted lefts ls && sorted rights rs)) c.from_residual-in_err-take_right.ensures.1
+    (blame-right e (sorted lefts ls) (sorted rights rs) (subst (MergeBlame e) (λ i. sorted (by i) (all i)) (c.in_err-take_right.ensures.err xs [] [] one)))
+
+pub returns-in_err-joined-clause-err : goal.returns-in_err-joined-clause-err
+returns-in_err-joined-clause-err c =
+    let ls = c.args.left.now.rows in
+    let rs = c.args.right.now.rows in
+    let lefts = c.args.left_columns.now in
+    let rights = c.args.right_columns.now in
+    let e = c.in_err-joined.field-0.0 in
+    let xs = c.in_ok-slice.field-0.rows in
+    let zs = c.in_ok-slice-2.field-0.rows in
+    let ended = c.in_ok-take_left.ensures.right_ended ∙ c.in_ok-merge.ensures.right_ended in
+    let one = c.in_ok-take_left.ensures.joined c.in_ok-merge.ensures.left_ended [] [] [] c.in_ok-merge.ensures.nothing in
+    let two = c.in_ok-take_right.ensures.joined ended xs [] [] one in
+    let three = c.end_right.ensures.joined xs zs [] two in
+    let by = c.end_right.ensures.shape.lefts ∙ (c.in_ok-take_right.ensures.shape.lefts ∙ (c.in_ok-take_left.ensures.shape.lefts ∙ (c.in_ok-merge.ensures.lefts ∙ c.in_ok-lefts.ensures.items))) in
+    let all = c.in_ok-slice.ensures.rows ∙ whole-range ls c.len.result c.len.ensures in
+    reported c.from_residual-in_err-joined.result e (λ (x : MergeFault). MergeBlame x (sorted lefts ls && sorted rights rs)) c.from_residual-in_err-joined.ensures.1
+    (blame-left e (sorted lefts ls) (sorted rights rs) (subst (MergeBlame e) (λ i. sorted (by i) (all i)) (c.in_err-joined.ensures.err xs zs [] three)))
+
+pub returns-in-Left-clause-rows : goal.returns-in-Left-clause-rows
+returns-in-Left-clause-rows c = λ on on-lefts on-rights.
+    let ls = c.args.left.now.rows in
+    let rs = c.args.right.now.rows in
+    let xs = c.in_ok-slice.field-0.rows in
+    let zs = c.in_ok-slice-2.field-0.rows in
+    let ended = c.in_ok-take_left.ensures.right_ended ∙ c.in_ok-merge.ensures.right_ended in
+    let one = c.in_ok-take_left.ensures.joined c.in_ok-merge.ensures.left_ended [] [] [] c.in_ok-merge.ensures.nothing in
+    let two = c.in_ok-take_right.ensures.joined ended xs [] [] one in
+    let three = c.end_right.ensures.joined xs zs [] two in
+    let four = c.in_ok-joined.ensures.joined xs zs [] three in
+    let lefts = c.in_ok-joined.ensures.inputs.lefts ∙ (c.end_right.ensures.shape.lefts ∙ (c.in_ok-take_right.ensures.shape.lefts ∙ (c.in_ok-take_left.ensures.shape.lefts ∙ (c.in_ok-merge.ensures.lefts ∙ c.in_ok-lefts.ensures.items)))) in
+    let rights = c.in_ok-joined.ensures.inputs.rights ∙ (c.end_right.ensures.shape.rights ∙ (c.in_ok-take_right.ensures.shape.rights ∙ (c.in_ok-take_left.ensures.shape.rights ∙ (c.in_ok-merge.ensures.rights ∙ c.in_ok-rights.ensures.items)))) in
+    let all-left = c.in_ok-slice.ensures.rows ∙ whole-range ls c.len.result c.len.ensures in
+    let all-right = c.in_ok-slice-2.ensures.rows ∙ whole-range rs c.len-2.result c.len-2.ensures in
+    let need = need-left c.join_some.new.self (sym c.needs.ensures ∙ c.in-Left.is) in
+    joined-all c.join_some.new.self xs zs c.in_ok-joined.joined.rows four need.0
+    ∙ ((λ i. flat_map (matched (lefts i) (rights i) (all-right i)) (all-left i)) ∙ (λ i. flat_map (matched (on-lefts i) (on-rights i) rs) ls))
+
+pub returns-in-Left-clause-rise : goal.returns-in-Left-clause-rise
+returns-in-Left-clause-rise c =
+    let ls = c.args.left.now.rows in
+    let rs = c.args.right.now.rows in
+    let xs = c.in_ok-slice.field-0.rows in
+    let zs = c.in_ok-slice-2.field-0.rows in
+    let ended = c.in_ok-take_left.ensures.right_ended ∙ c.in_ok-merge.ensures.right_ended in
+    let one = c.in_ok-take_left.ensures.joined c.in_ok-merge.ensures.left_ended [] [] [] c.in_ok-merge.ensures.nothing in
+    let two = c.in_ok-take_right.ensures.joined ended xs [] [] one in
+    let three = c.end_right.ensures.joined xs zs [] two in
+    let four = c.in_ok-joined.ensures.joined xs zs [] three in
+    let lefts = c.in_ok-joined.ensures.inputs.lefts ∙ (c.end_right.ensures.shape.lefts ∙ (c.in_ok-take_right.ensures.shape.lefts ∙ (c.in_ok-take_left.ensures.shape.lefts ∙ (c.in_ok-merge.ensures.lefts ∙ c.in_ok-lefts.ensures.items)))) in
+    let rights = c.in_ok-joined.ensures.inputs.rights ∙ (c.end_right.ensures.shape.rights ∙ (c.in_ok-take_right.ensures.shape.rights ∙ (c.in_ok-take_left.ensures.shape.rights ∙ (c.in_ok-merge.ensures.rights ∙ c.in_ok-rights.ensures.items)))) in
+    let all-left = c.in_ok-slice.ensures.rows ∙ whole-range ls c.len.result c.len.ensures in
+    let all-right = c.in_ok-slice-2.ensures.rows ∙ whole-range rs c.len-2.result c.len-2.ensures in
+    let need = need-left c.join_some.new.self (sym c.needs.ensures ∙ c.in-Left.is) in
+    let left = left-rises c.join_some.new.self xs zs c.in_ok-joined.joined.rows four need.0 need.1 in
+    let right = right-rises c.join_some.new.self xs zs c.in_ok-joined.joined.rows four in
+    and-both (sorted c.args.left_columns.now ls) (sorted c.args.right_columns.now rs)
+    (sym (λ i. sorted (lefts i) (all-left i)) ∙ left) (sym (λ i. sorted (rights i) (all-right i)) ∙ right)

@@ -1,0 +1,13 @@
+-- Comparisons with a constant, as intervals.
+use Rattle.std.specs.Prelude.{◌≡◌, ℤ, int_le, Bool, true, ◌&&◌}
+use Rattle.std.specs.Bool.{beq}
+use Rattle.vx_rows_values.specs.declared.test.Test.{Test}
+use Rattle.vx_rows_values.specs.Types.{fits_64}
+use Rattle.vx_rows_values.specs.Values.{num, val_cmp}
+use Rattle.vx_rows_values.specs.ValueView.{test_of}
+use Rattle.vx_plan_nodes.specs.Serial.{answers}
+
+-- a number of 64 bits compares so with the constant where it lies from low to high, or, at false, where it does not
+abbrev pub IsInterval : Test → ℤ → ℤ → ℤ → Bool → Type 0
+IsInterval test constant low high inside =
+    (z : ℤ) → fits_64 z ≡ true → answers (test_of test) (val_cmp (num z) (num constant)) ≡ beq (int_le low z && int_le z high) inside

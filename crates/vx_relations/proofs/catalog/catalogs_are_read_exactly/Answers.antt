@@ -1,5 +1,0 @@
-use Rattle.vx_relations.proofs.Stated.{catalogs_read_exactly}
-use Rattle.vx_relations.proofs.catalog.catalogs_are_read_exactly.Goals as goal
-
-pub returns : goal.returns
-returns c = catalogs_read_exactly

@@ -1,5 +1,0 @@
-use Rattle.vx_relations.proofs.NameFacts.{same_texts}
-use Rattle.vx_relations.proofs.relation.are_same_names.Goals as goal
-
-pub returns : goal.returns
-returns c = same_texts c.args.names.now c.args.others.now c.eq.result c.eq.ensures

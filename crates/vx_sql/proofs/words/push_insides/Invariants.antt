@@ -1,8 +1,0 @@
-use Rattle.std.proofs.Common.{◌≡◌, ◌++◌, string_bytes}
-use Rattle.std.specs.List.{flat_map}
-use Rattle.vx_sql.specs.Words.{inside}
-use Rattle.vx_sql.proofs.words.push_insides.Given as goal
-
-abbrev pub invariant-loop-character : goal.invariant-loop-character
-invariant-loop-character l =
-    string_bytes l.text ≡ string_bytes l.initial.text ++ flat_map (inside l.quote l.escape l.zero) l.yielded

@@ -1,9 +1,0 @@
-use Rattle.std.proofs.Common.{◌≡◌, ◌++◌, map, string_bytes, codes, false, drop, nat_lt}
-use Rattle.vx_check.specs.Explain.{separated}
-use Rattle.vx_stats.specs.Json.{phase_json}
-use Rattle.vx_stats.proofs.json.push_times.Given as goal
-
-abbrev pub invariant-loop-i : goal.invariant-loop-i
-invariant-loop-i l =
-    string_bytes l.text ++ separated (codes ",") (nat_lt 0 l.i) (map (phase_json l.catalog l.loads) (drop l.i l.times))
-    ≡ string_bytes l.initial.text ++ separated (codes ",") false (map (phase_json l.catalog l.loads) l.times)

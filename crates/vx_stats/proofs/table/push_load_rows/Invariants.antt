@@ -1,6 +1,0 @@
-use Rattle.std.proofs.Common.{◌≡◌, ◌++◌, drop, string_bytes}
-use Rattle.vx_stats.specs.Table.{load_rows}
-use Rattle.vx_stats.proofs.table.push_load_rows.Given as goal
-
-abbrev pub invariant-loop-load : goal.invariant-loop-load
-invariant-loop-load l = string_bytes l.text ++ load_rows l.catalog (drop l.load-index l.loads) ≡ string_bytes l.initial.text ++ load_rows l.catalog l.loads

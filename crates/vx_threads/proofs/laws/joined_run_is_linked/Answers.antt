@@ -1,5 +1,0 @@
-use Rattle.vx_threads.proofs.Linking.{joined-is-linked}
-use Rattle.vx_threads.proofs.laws.joined_run_is_linked.Goals as goal
-
-pub returns : goal.returns
-returns c = joined-is-linked

@@ -1,5 +1,0 @@
-use Rattle.vx_threads_waking.proofs.Stuck.{each-duty-is-needed}
-use Rattle.vx_threads_waking.proofs.each_duty_is_needed.Goals as goal
-
-pub returns : goal.returns
-returns c = each-duty-is-needed

@@ -1,5 +1,0 @@
-use Rattle.vx_threads_waking.proofs.Ending.{some-crew-ends}
-use Rattle.vx_threads_waking.proofs.some_crew_ends.Goals as goal
-
-pub returns : goal.returns
-returns c = some-crew-ends

@@ -1,5 +1,0 @@
-use Rattle.vx_values.proofs.KeyFacts.{key-law}
-use Rattle.vx_values.proofs.keys.keys_are_tested.Goals as goal
-
-pub returns : goal.returns
-returns c = key-law

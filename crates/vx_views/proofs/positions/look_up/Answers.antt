@@ -1,6 +1,0 @@
-use Rattle.std.proofs.Common.{rules, get_or}
-use Rattle.std.proofs.lemmas.List.Edits.{map_over_more}
-use Rattle.vx_views.proofs.positions.look_up.Goals as goal
-
-pub loop-i-preserved : goal.loop-i-preserved
-loop-i-preserved c = map_over_more (λ x. get_or c.args.listed.now x 0) c.args.places.now c.loop-i.places c.loop-i.i _ (search rules) c.loop-i.invariant (search rules)
