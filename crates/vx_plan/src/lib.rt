@@ -18,9 +18,10 @@ pub use erasing::erase;
 pub use naming::named_claim;
 pub use phases::first_columns;
 pub use resolving::{plans_are_resolved_exactly, resolve};
-pub use vx_plan_json::{Plan, PlanFault, Test, to_json};
+pub use vx_plan_json::{Plan, PlanFault, to_json};
 pub use vx_plan_nodes::{
     Aggregate, Binary, Claim, Columns, Condition, Exchange, ExchangeKind, Head, Name, Part, Phase,
     Projected, Route, Router, ScanNode, Side, Size, TypedNode, TypedPlan, Unary, copied_conditions,
     name_texts,
 };
+pub use vx_rows_values::Test;
