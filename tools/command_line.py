@@ -1,7 +1,5 @@
-"""The commands and options of the program, read from crates/volcano_arguments/src/command_line.rt, whose texts `--help` shows.
-
-Each function of that file is some `let`s and an expression, all of them chains of calls as clap has them. `read_program` evaluates `command`
-by evaluating these; a call that is not known here ends it with a `ValueError` that names it, so that nothing is left out unseen.
+"""The commands and options of the program, read from the help that it shows: crates/test_arguments/stdout has it, and the gate holds that file against the
+program.
 """
 import os
 import re
@@ -9,34 +7,33 @@ from dataclasses import dataclass, field
 
 ROOT = os.path.dirname(os.path.dirname(os.path.realpath(__file__)))
 SOURCE = "crates/volcano_arguments/src/command_line.rt"
+HELP = "crates/test_arguments/stdout"
 CODES = "crates/volcano_why/src"
-TOKEN = re.compile(
-    r"""\s+ | //[^\n]* | (?P<text>"(?:[^"\\]|\\.)*") | (?P<char>'(?:[^'\\]|\\.)') | '\w+
-      | (?P<number>\d[\d_]*) | (?P<name>[A-Za-z_]\w*(?:::[A-Za-z_]\w*)*) | (?P<sign>\.\.=?|.)""",
-    re.VERBOSE | re.DOTALL,
-)
-ESCAPES = {"n": "\n", "t": "\t", "\n": ""}
+# An option or an argument: a line of the help, in columns.
+OPTION = re.compile(r"(?:-(?P<short>\w), |    )--(?P<long>[\w-]+)(?: <(?P<value>[^>]+)>)?  +(?P<help>.*)")
+ARGUMENT = re.compile(r"[<\[](?P<value>[^>\]]+)[>\]](?P<many>\.\.\.)?  +(?P<help>.*)")
+DEFAULT = re.compile(r" \[default: (.*)\]$")
+# What may be given more than once. Help does not show it of options.
+REPEATED = {("run", "plan")}
 
 
 @dataclass
 class Argument:
     """An option, or an argument without a name of its own (`long` is empty then)."""
 
-    id: str
     long: str = ""
     short: str = ""
     value_name: str = ""
     help: str = ""
     required: bool = False
     default_value: str = ""
-    action: str = "Set"
-    num_args: object = None
+    many: bool = False
 
     def takes_value(self):
-        return self.action in ("Set", "Append")
+        return bool(self.value_name)
 
     def repeats(self):
-        return self.action in ("Append", "Count") or isinstance(self.num_args, range)
+        return self.many
 
     def words(self):
         """The words that the option takes where it has a default that its help names in backquotes: help names all of them so."""
@@ -60,169 +57,53 @@ class Command:
         return [it for it in self.arguments if not it.long]
 
 
-# Calls that set a member of their own name, by what they are called on.
-SETTERS = {
-    Argument: ("long", "short", "value_name", "help", "required", "default_value", "action", "num_args"),
-    Command: ("about", "after_help", "version"),
-}
-# Calls that say nothing of what a manual shows.
-SILENT = ("value_parser", "as_slice", "into")
-
-
-def text_of(token):
-    """The text that a literal means: a backslash at the end of a line also takes the blanks that follow."""
-    inner = re.sub(r"\\\n\s*", "\\\n", token[1:-1])
-    return re.sub(r"(?s)\\(.)", lambda found: ESCAPES.get(found[1], found[1]), inner)
-
-
-def tokens_of(source):
-    found = [(it.lastgroup, it[0]) for it in TOKEN.finditer(source) if it.lastgroup]
-    return [*found, ("end", "")]
-
-
-class Functions:
-    """The functions of a source: the names of their parameters, and where the tokens of their bodies begin."""
-
-    def __init__(self, source):
-        self.tokens = tokens_of(source)
-        self.known = {}
-        for at, token in enumerate(self.tokens):
-            if token == ("name", "fn"):
-                self.known[self.tokens[at + 1][1]] = self.function_at(at + 2)
-
-    def function_at(self, at):
-        opening = self.find("(", at)
-        closing = self.closing(opening)
-        names = [it for it in range(opening + 1, closing) if self.tokens[it + 1] == ("sign", ":")]
-        return [self.tokens[it][1] for it in names], self.body_after(closing)
-
-    def find(self, sign, at):
-        while self.tokens[at] != ("sign", sign):
-            at += 1
-        return at
-
-    def closing(self, at):
-        """Where the bracket that opens at `at` closes."""
-        depth = 0
-        while True:
-            kind, text = self.tokens[at]
-            depth += (kind == "sign") * ((text in "([{") - (text in ")]}"))
-            if not depth:
-                return at
-            at += 1
-
-    def body_after(self, at):
-        """Where the first braces open that no contract is in: a contract is `ensures {..}` or `ensures NAME {..}`."""
-        opening = self.find("{", at)
-        while any(self.tokens[it][1] in ("ensures", "requires") for it in (opening - 1, opening - 2)):
-            opening = self.find("{", self.closing(opening))
-        return opening + 1
-
-    def call(self, name, values):
-        names, body = self.known[name]
-        return Evaluation(self, body, dict(zip(names, values))).block()
-
-
-class Evaluation:
-    """One evaluation of a body: where it is, and what its names stand for."""
-
-    def __init__(self, functions, at, names):
-        self.functions, self.at, self.names = functions, at, names
-
-    def peek(self):
-        return self.functions.tokens[self.at][1]
-
-    def take(self):
-        token = self.functions.tokens[self.at]
-        self.at += 1
-        return token
-
-    def expect(self, sign):
-        if self.take()[1] != sign:
-            around = " ".join(text for _, text in self.functions.tokens[max(0, self.at - 8) : self.at])
-            raise ValueError(f"{SOURCE}: tools/command_line.py wants {sign!r} at the end of: {around}")
-
-    def block(self):
-        while self.peek() == "let":
-            self.take()
-            name = self.take()[1]
-            self.expect("=")
-            self.names[name] = self.expression()
-            self.expect(";")
-        value = self.expression()
-        self.expect("}")
-        return value
-
-    def expression(self):
-        value = self.primary()
-        while self.peek() in (".", "?", "..", "..="):
-            sign = self.take()[1]
-            if sign == ".":
-                value = called_on(value, self.take()[1], self.values("(", ")"))
-            elif sign != "?":
-                value = range(value, self.primary() if self.functions.tokens[self.at][0] == "number" else 2**32)
-        return value
-
-    def values(self, opening, closing):
-        self.expect(opening)
-        found = []
-        while self.peek() != closing:
-            found.append(self.expression())
-            if self.peek() == ",":
-                self.take()
-        self.expect(closing)
-        return found
-
-    def primary(self):
-        kind, text = self.take()
-        if kind in ("text", "char"):
-            return text_of(text)
-        if kind == "number":
-            return int(text.replace("_", ""))
-        if text == "&":
-            return self.primary()
-        if text == "[":
-            self.at -= 1
-            return self.values("[", "]")
-        if kind == "name":
-            return self.named(text)
-        raise ValueError(f"{SOURCE}: tools/command_line.py does not know what {text!r} begins")
-
-    def named(self, name):
-        """What a name stands for: a parameter, a constant of clap, or a call."""
-        if self.peek() == "!":
-            self.take()
-            self.at = self.functions.closing(self.at) + 1
+def argument_in(command, line, usage):
+    """The option or the argument of a line, or none for what each command has."""
+    found = OPTION.fullmatch(line[2:])
+    if found:
+        if found["long"] in ("help", "version"):
             return None
-        if self.peek() != "(":
-            return self.names[name] if name in self.names else {"true": True, "false": False}.get(name, name.split("::")[-1])
-        values = self.values("(", ")")
-        if name in ("Arg::new", "Command::new"):
-            return (Argument if name == "Arg::new" else Command)(values[1])
-        if name == "Ok":
-            return values[0]
-        if name not in self.functions.known:
-            raise ValueError(f"{SOURCE}: tools/command_line.py does not know the call {name}")
-        return self.functions.call(name, values)
+        shown = found["help"]
+        default = DEFAULT.search(shown)
+        required = f" --{found['long']} " in f"{usage} "
+        text = DEFAULT.sub("", shown)
+        many = (command, found["long"]) in REPEATED
+        return Argument(found["long"], found["short"] or "", found["value"] or "", text, required, default[1] if default else "", many)
+    found = ARGUMENT.fullmatch(line.strip())
+    if not found:
+        raise ValueError(f"{HELP}: tools/command_line.py cannot read {line!r}")
+    return Argument(value_name=found["value"], help=found["help"], required=f"<{found['value']}>" in usage, many=bool(found["many"]))
 
 
-def called_on(value, name, values):
-    """What a call leaves of the argument or the command that it is called on."""
-    if name in SETTERS.get(type(value), ()):
-        setattr(value, name, values[0])
-    elif name == "arg" and isinstance(value, Command):
-        value.arguments.append(values[0])
-    elif name == "subcommand" and isinstance(value, Command):
-        value.commands.append(values[0])
-    elif name not in SILENT:
-        raise ValueError(f"{SOURCE}: tools/command_line.py does not know the call .{name} of {type(value).__name__}")
-    return value
+def command_of(name, text):
+    """A command by its help: its parts stand behind one another, with an empty line between."""
+    parts = text.strip().split("\n\n")
+    command, usage = Command(name, about=parts[0]), parts[1]
+    for part in parts[2:]:
+        title, _, lines = part.partition("\n")
+        if title in ("Options:", "Arguments:"):
+            found = [argument_in(name, it, usage) for it in lines.split("\n")]
+            command.arguments += [it for it in found if it]
+        elif title != "Commands:":
+            command.after_help = part
+    return command
+
+
+def read_texts():
+    """What the program shows, by the command line that asks for it."""
+    with open(f"{ROOT}/{HELP}", encoding="utf-8") as file:
+        parts = re.split(r"(?m)^\$ volcano ?(.*)\n", file.read())
+    # Behind the last text stands the number of lines.
+    return {line: re.sub(r"\n[\w.]+: \d+ lines\n$", "\n", text) for line, text in zip(parts[1::2], parts[2::2])}
 
 
 def read_program():
     """The program as a command, with its commands."""
-    with open(f"{ROOT}/{SOURCE}", encoding="utf-8") as file:
-        return Functions(file.read()).call("command", ["alloc"])
+    texts = read_texts()
+    program = command_of("volcano", texts["--help"])
+    program.version = texts["--version"].strip().removeprefix("volcano ")
+    program.commands = [command_of(it.removesuffix(" --help"), texts[it]) for it in texts if not it.startswith("-")]
+    return program
 
 
 def read_codes():
