@@ -110,8 +110,8 @@ impl Wires for Links {
         match self.way(exchange, from) {
             None => Ok(None),
             Some((producer, consumer)) => match self.ports[producer].take(consumer) {
-                None => return Ok(None),
-                Some(packet) => return Ok(Some(packet)),
+                None => Ok(None),
+                Some(packet) => Ok(Some(packet)),
             },
         }
     }

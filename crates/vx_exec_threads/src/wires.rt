@@ -71,10 +71,10 @@ impl<'d> ThreadWires<'d> {
         self.ends.wake_consumers(self.parkers);
         match self.room {
             Room::There => match self.ends.gather(self.parkers) {
-                Ok(moved) => return moved,
+                Ok(moved) => moved,
                 Err(_) => {
                     self.room = Room::Refused;
-                    return true;
+                    true
                 }
             },
             Room::Refused | Room::Reported => false,

@@ -283,13 +283,13 @@ impl<O: Source, S: Sends> Worker<O, S> {
             Some((to, packet)) => match wires.put(to, packet) {
                 Put::Done => {
                     self.counts.add_put();
-                    return StepOutcome::Moved;
+                    StepOutcome::Moved
                 }
                 Put::Full(packet) => {
                     self.pending = Some((to, packet));
-                    return StepOutcome::Waiting;
+                    StepOutcome::Waiting
                 }
-                Put::NoMemory(_) => return self.fail(self.no_memory()),
+                Put::NoMemory(_) => self.fail(self.no_memory()),
             },
         }
     }
@@ -324,19 +324,19 @@ impl<O: Source, S: Sends> Worker<O, S> {
             Ok(got) => {
                 let nothing_came = matches!(got, Got::Packet(None));
                 match self.tree.turn(got) {
-                    Polled::Waiting if nothing_came => return StepOutcome::Waiting,
-                    Polled::Waiting => return StepOutcome::Moved,
-                    Polled::Fault(fault) => return self.fail(fault),
+                    Polled::Waiting if nothing_came => StepOutcome::Waiting,
+                    Polled::Waiting => StepOutcome::Moved,
+                    Polled::Fault(fault) => self.fail(fault),
                     Polled::Gave(rows) => match self.sender.accept(router, Polled::Gave(rows)) {
-                        Ok(()) => return StepOutcome::Moved,
-                        Err(_) => return self.fail(self.no_memory()),
+                        Ok(()) => StepOutcome::Moved,
+                        Err(_) => self.fail(self.no_memory()),
                     },
                     Polled::End => match self.sender.accept(router, Polled::End) {
                         Ok(()) => {
                             self.is_over = true;
-                            return StepOutcome::Moved;
+                            StepOutcome::Moved
                         }
-                        Err(_) => return self.fail(self.no_memory()),
+                        Err(_) => self.fail(self.no_memory()),
                     },
                 }
             }
@@ -395,11 +395,11 @@ impl<O: Source, S: Sends> Worker<O, S> {
             Some((to, packet)) => match wires.put(to, packet) {
                 Put::Done => {
                     self.counts.add_put();
-                    return StepOutcome::Moved;
+                    StepOutcome::Moved
                 }
                 Put::Full(refused) => {
                     self.pending = Some((to, refused));
-                    return StepOutcome::Waiting;
+                    StepOutcome::Waiting
                 }
                 Put::NoMemory(_) => unreachable!("a packet that closes is never refused"),
             },
@@ -425,8 +425,8 @@ impl<O: Source, S: Sends> Worker<O, S> {
         match self.pending.take() {
             Some(next) => Some(next),
             None => match self.closing.pop() {
-                Some(packet) => return Some((packet.to(), packet)),
-                None => return None,
+                Some(packet) => Some((packet.to(), packet)),
+                None => None,
             },
         }
     }
