@@ -7,7 +7,7 @@ use std::alloc::Global;
 use std::sync::Wait;
 use std::test::Fail;
 use std::thread::Threads;
-use volcano_answer::{Session, answer};
+use volcano_answer::{Services, answer};
 use volcano_stats::NoClock;
 use vx_catalog_bytes::{ByteOut, MemoryIn, MemoryOut, Store};
 use vx_exec_parallel::Engine;
@@ -43,8 +43,8 @@ pub fn status_of<R: Threads + Wait + Sync + AllocGlobal, F: Store, O: ByteOut, E
     out: &mut O,
     err: &mut E,
 ) -> u8 {
-    let session = Session::new(rt, &Engine, &NoClock, rt.alloc(), KeySeed::fixed());
-    answer(&session, arguments, files, input, out, err)
+    let services = Services::new(rt, &Engine, &NoClock, rt.alloc(), KeySeed::fixed());
+    answer(&services, arguments, files, input, out, err)
 }
 
 /// What went to the output, what went to the errors, and the status, as one text.

@@ -12,7 +12,7 @@ use std::fs::{File, Files};
 use std::sync::Wait;
 use std::thread::Threads;
 use std::{env, fs};
-use volcano_answer::{Session, answer};
+use volcano_answer::{Services, answer};
 use volcano_stats::NoClock;
 use vx_catalog_bytes::{Disk, MemoryIn, MemoryOut};
 use vx_exec_parallel::Engine;
@@ -60,9 +60,9 @@ fn show<R: Threads + Wait + Sync + Files<File = File> + Print + AllocGlobal>(
     let mut input = MemoryIn::new(bytes.as_slice(), None);
     let mut out = MemoryOut::new(rt.alloc(), 4096, ROOM);
     let mut err = MemoryOut::new(rt.alloc(), 4096, ROOM);
-    let session = Session::new(rt, &Engine, &NoClock, rt.alloc(), KeySeed::fixed());
+    let services = Services::new(rt, &Engine, &NoClock, rt.alloc(), KeySeed::fixed());
     let status = answer(
-        &session,
+        &services,
         command.arguments.as_slice(),
         &Disk::new(rt),
         &mut input,

@@ -10,7 +10,7 @@ use std::io::{ErrorKind, IsTerminal};
 use std::process::ExitCode;
 use std::random::RandomSource;
 use std::{env, io};
-use volcano_answer::{Session, answer};
+use volcano_answer::{Services, answer};
 use volcano_progress::{Terminal, Watched, is_quiet};
 use volcano_refusals::{Refusal, report};
 use vx_catalog_bytes::{Disk, Real, write_all};
@@ -82,9 +82,9 @@ fn main(rt: HostRuntime) -> ExitCode {
     let terminal = Terminal::new(&rt, rt.stderr());
     let is_shown = rt.stderr().is_terminal() && !is_quiet(texts.as_slice());
     let files = Watched::new(rt.alloc(), Disk::new(&rt), is_shown.then_some(&terminal));
-    let session = Session::new(&rt, &Engine, &rt, rt.alloc(), seed_of(&rt));
+    let services = Services::new(&rt, &Engine, &rt, rt.alloc(), seed_of(&rt));
     ExitCode::from(answer(
-        &session,
+        &services,
         texts.as_slice(),
         &files,
         &mut input,

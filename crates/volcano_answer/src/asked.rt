@@ -13,7 +13,7 @@ use crate::command::CommandAnswer;
 use crate::command_line::{ArgumentAnswer, ArgumentFault, answer_plain, usage_error, usage_text};
 use crate::program::outcome_of;
 use crate::runs::run_plans;
-use crate::session::Session;
+use crate::services::Services;
 use crate::stats::{CountedText, RunReport, run_task};
 use std::sync::Wait;
 use std::thread::Threads;
@@ -53,37 +53,37 @@ fn answer_made(form: Option<StatsForm>, made: CommandAnswer) -> ArgumentAnswer
 
 /// What answers what arguments ask for. Runs are answered with statistics in this form, if there is one.
 pub fn answer_asked<T: Threads + Wait + Sync, R: Runs, C: Clock, F: Store, I: ByteIn>(
-    session: &Session<'_, T, R, C>,
+    services: &Services<'_, T, R, C>,
     files: &F,
     input: &mut I,
     form: Option<StatsForm>,
     asked: &Asked<'_>,
 ) -> Result<ArgumentAnswer, ArgumentFault>
-    ensures answer { IfOk result (λ a. IsAskAnswer (R.counted session.now.engine.now) (F.holds files.now) (I.remaining input.old) (asked_is asked.now) a) }
+    ensures answer { IfOk result (λ a. IsAskAnswer (R.counted services.now.engine.now) (F.holds files.now) (I.remaining input.old) (asked_is asked.now) a) }
     ensures no_stats { form ≡ None → IfOk result IsUncounted }
     ensures stats { (f : StatsForm) → form ≡ Some f → AsksForRuns (I.remaining input.old) (asked_is asked.now) → IfOk result (IsCountedAs f) }
     ensures refused { IfErr result (IsAskFault (F.holds files.now) (F.is_reliable files.now) (I.remaining input.old) (I.has_failed input.new) (asked_is asked.now)) }
 {
-    let alloc = session.alloc;
+    let alloc = services.alloc;
     match asked {
         Asked::Bundle => {
-            let made = outcome_of(session, input, form)?;
+            let made = outcome_of(services, input, form)?;
             Ok(answer_made(form, made))
         }
         Asked::Run(sources, folder, given) => {
             let Some(setting) = setting_in(alloc, given)? else {
                 return Err(usage_error(alloc, usage_text(asked)));
             };
-            let report = run_task(session, files, input, form, *sources, *folder, &setting)?;
+            let report = run_task(services, files, input, form, *sources, *folder, &setting)?;
             Ok(answer_of(form, report))
         }
         Asked::RunPlans(sources, folder, given) => {
             let Some(setting) = setting_in(alloc, given)? else {
                 return Err(usage_error(alloc, usage_text(asked)));
             };
-            let report = run_plans(session, files, input, form, sources, *folder, &setting)?;
+            let report = run_plans(services, files, input, form, sources, *folder, &setting)?;
             Ok(answer_of(form, report))
         }
-        _ => answer_plain(session, files, input, asked),
+        _ => answer_plain(services, files, input, asked),
     }
 }

@@ -10,7 +10,7 @@ ghost use Rattle.volcano_answer.specs.Made.{text_in, IfRun, IsRunReport};
 ghost use Rattle.volcano_answer.specs.Stats.{IsBundleRun, AreBundleStats};
 
 use crate::command::{CommandAnswer, execute};
-use crate::session::Session;
+use crate::services::Services;
 use std::alloc::Global;
 use std::sync::Wait;
 use std::thread::Threads;
@@ -36,41 +36,41 @@ fn plan_from_bundle(alloc: Global, bundle: &Bundle<'_>) -> Result<TypedPlan, Ref
 
 // What answers a bundle. The phases that came before are in the timer.
 fn answer_bundle<T: Threads + Wait + Sync, R: Runs, C: Clock>(
-    session: &Session<'_, T, R, C>,
+    services: &Services<'_, T, R, C>,
     bundle: &Bundle<'_>,
     form: Option<StatsForm>,
     timer: &mut Timer,
 ) -> Result<CommandAnswer, Refusal>
     ensures text { IfOk result (λ a. IsOutput (bundle_form bundle.now) (text_in a)) }
-    ensures run { IfOk result (IfRun (λ k. IsBundleRun (R.counted session.now.engine.now) form (bundle_form bundle.now) (phases_of (times_in timer.old)) k.text.items (string_bytes k.stats))) }
+    ensures run { IfOk result (IfRun (λ k. IsBundleRun (R.counted services.now.engine.now) form (bundle_form bundle.now) (phases_of (times_in timer.old)) k.text.items (string_bytes k.stats))) }
     ensures runs { (bundle_form bundle.now).command ≡ command.Run → IfOk result IsRunReport }
     ensures refused { IfErr result (λ e. Refuses (bundle_form bundle.now) e) }
 {
-    let plan = plan_from_bundle(session.alloc, bundle)?;
-    timer.end(session.clock, WorkPhase::Plan)?;
+    let plan = plan_from_bundle(services.alloc, bundle)?;
+    timer.end(services.clock, WorkPhase::Plan)?;
     let (command, setting) = (bundle.command(), bundle.setting());
-    execute(session, command, bundle, setting, plan, form, timer)
+    execute(services, command, bundle, setting, plan, form, timer)
 }
 
 /// What answers a bundle's bytes, before a byte of it is written. The statistics of its run, if its command is one and they are asked
 /// for, are those up to the time that the write takes.
 pub fn answer_bytes<T: Threads + Wait + Sync, R: Runs, C: Clock>(
-    session: &Session<'_, T, R, C>,
+    services: &Services<'_, T, R, C>,
     bytes: &[u8],
     form: Option<StatsForm>,
 ) -> Result<CommandAnswer, Refusal>
     ensures text { IfOk result (λ a. IsAnswer bytes.now (text_in a)) }
-    ensures run { IfOk result (IfRun (λ k. AreBundleStats (R.counted session.now.engine.now) form bytes.now k.text.items (string_bytes k.stats))) }
+    ensures run { IfOk result (IfRun (λ k. AreBundleStats (R.counted services.now.engine.now) form bytes.now k.text.items (string_bytes k.stats))) }
     ensures runs { AsksForRun bytes.now → IfOk result IsRunReport }
     ensures refused { IfErr result (λ e. IsRefused bytes.now e) }
 {
-    let mut timer = Timer::start(session.alloc, session.clock);
-    let Some(value) = value_of_text(session.alloc, bytes)? else {
+    let mut timer = Timer::start(services.alloc, services.clock);
+    let Some(value) = value_of_text(services.alloc, bytes)? else {
         return Err(Refusal::BadBundle);
     };
-    let Some(bundle) = bundle_in(session.alloc, &value)? else {
+    let Some(bundle) = bundle_in(services.alloc, &value)? else {
         return Err(Refusal::BadBundle);
     };
-    timer.end(session.clock, WorkPhase::Read)?;
-    answer_bundle(session, &bundle, form, &mut timer)
+    timer.end(services.clock, WorkPhase::Read)?;
+    answer_bundle(services, &bundle, form, &mut timer)
 }

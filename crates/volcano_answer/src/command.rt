@@ -10,7 +10,7 @@ ghost use Rattle.volcano_answer.specs.Made.{text_in, IfRun, IsRunReport};
 ghost use Rattle.volcano_answer.specs.Stats.{IsCountedPlan};
 
 use crate::serial::serial_plan;
-use crate::session::Session;
+use crate::services::Services;
 use crate::stats::{RunReport, run_checked};
 use std::sync::Wait;
 use std::thread::Threads;
@@ -62,7 +62,7 @@ pub fn accepted(plan: TypedPlan) -> Result<CheckedPlan, Refusal>
 
 /// What a command makes of a plan over tables. The phases that came before are in the timer; those of a run are added.
 pub fn execute<T: Threads + Wait + Sync, R: Runs, C: Clock, B: Tables>(
-    session: &Session<'_, T, R, C>,
+    services: &Services<'_, T, R, C>,
     command: Command,
     tables: &B,
     setting: &Setting,
@@ -71,25 +71,25 @@ pub fn execute<T: Threads + Wait + Sync, R: Runs, C: Clock, B: Tables>(
     timer: &mut Timer,
 ) -> Result<CommandAnswer, Refusal>
     ensures text { IfOk result (λ a. IsResultOf command (resolved_of plan) (B.holds tables.now) setting.now (text_in a)) }
-    ensures run { IfOk result (IfRun (λ k. (command ≡ Command.Run) × IsShown (resolved_of plan) × IsCountedPlan (R.counted session.now.engine.now) form plan (B.holds tables.now) setting.now (phases_of (times_in timer.old) ++ (work_phase.Check ∷ [])) k.text.items (string_bytes k.stats))) }
+    ensures run { IfOk result (IfRun (λ k. (command ≡ Command.Run) × IsShown (resolved_of plan) × IsCountedPlan (R.counted services.now.engine.now) form plan (B.holds tables.now) setting.now (phases_of (times_in timer.old) ++ (work_phase.Check ∷ [])) k.text.items (string_bytes k.stats))) }
     ensures runs { command ≡ Command.Run → IfOk result IsRunReport }
     ensures refused { IfErr result (λ e. CommandRefuses command (resolved_of plan) (B.holds tables.now) (B.lacks tables.now) setting.now e) }
 {
     match command {
         Command::Run => {
-            let report = run_checked(session, tables, setting, plan, form, timer)?;
+            let report = run_checked(services, tables, setting, plan, form, timer)?;
             Ok(CommandAnswer::Run(report))
         }
         Command::Serial => {
-            let text = serial_plan(session, tables, &plan)?;
+            let text = serial_plan(services, tables, &plan)?;
             Ok(CommandAnswer::Text(text))
         }
         Command::Check => {
-            let text = accepted_text(session.alloc, accepted(plan)?.is_total())?;
+            let text = accepted_text(services.alloc, accepted(plan)?.is_total())?;
             Ok(CommandAnswer::Text(text))
         }
         Command::Explain => {
-            let text = explain(session.alloc, &accepted(plan)?)?;
+            let text = explain(services.alloc, &accepted(plan)?)?;
             Ok(CommandAnswer::Text(text.into_bytes()))
         }
     }

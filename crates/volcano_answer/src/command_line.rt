@@ -17,7 +17,7 @@ use crate::files::{bytes_at, document_from_files, plan_from_files};
 use crate::forms::{PlanForm, form_named, plan_in_form};
 use crate::loading::loading_threads;
 use crate::runs::Stopped;
-use crate::session::Session;
+use crate::services::Services;
 use crate::statement::{dialect_named, statement};
 use crate::stats::{CountedText, stats_named};
 use clap::Error;
@@ -216,9 +216,9 @@ fn job_in<'a>(alloc: Global, asked: &Asked<'a>) -> Option<AskedJob<'a>>
     }
 }
 
-// The text that answers a task. Up to `session.threads` threads load each of its tables.
+// The text that answers a task. Up to `services.threads` threads load each of its tables.
 fn answer_task<T: Threads + Wait + Sync, R: Runs, C: Clock, F: Store, I: ByteIn>(
-    session: &Session<'_, T, R, C>,
+    services: &Services<'_, T, R, C>,
     files: &F,
     input: &mut I,
     task: &FileCommand<'_>,
@@ -226,14 +226,14 @@ fn answer_task<T: Threads + Wait + Sync, R: Runs, C: Clock, F: Store, I: ByteIn>
     ensures text { IfOk result (λ text. AnswersTask (F.holds files.now) (I.remaining input.old) (task_is task.now) text.items) }
     ensures refused { IfErr result (λ e. TaskRefuses (F.holds files.now) (F.is_reliable files.now) (I.remaining input.old) (I.has_failed input.new) (task_is task.now) e) }
 {
-    let plan = plan_from_files(session.alloc, files, input, task.sources)?;
+    let plan = plan_from_files(services.alloc, files, input, task.sources)?;
     let folder = Folder {
         files,
         path: task.folder,
     };
-    let mut timer = Timer::start(session.alloc, session.clock);
+    let mut timer = Timer::start(services.alloc, services.clock);
     let (command, setting) = (task.command, &task.setting);
-    let answer = execute(session, command, &folder, setting, plan, None, &mut timer)?;
+    let answer = execute(services, command, &folder, setting, plan, None, &mut timer)?;
     Ok(answer.into_text())
 }
 
@@ -274,17 +274,17 @@ const NO_COUNTS: &str =
 
 // The picture of the plan at one path over the catalog at the other, with the statistics of the file at a third.
 fn answer_drawing<T: Threads + Wait + Sync, R: Runs, C: Clock, F: Store, I: ByteIn>(
-    session: &Session<'_, T, R, C>,
+    services: &Services<'_, T, R, C>,
     files: &F,
     input: &mut I,
     sources: Sources<'_>,
     stats: &str,
 ) -> Result<ArgumentAnswer, ArgumentFault>
-    ensures answer { IfOk result (λ a. IsAskAnswer (R.counted session.now.engine.now) (F.holds files.now) (I.remaining input.old) (draw (paths_are sources.entry) stats.now) a) }
+    ensures answer { IfOk result (λ a. IsAskAnswer (R.counted services.now.engine.now) (F.holds files.now) (I.remaining input.old) (draw (paths_are sources.entry) stats.now) a) }
     ensures no_stats { IfOk result IsUncounted }
     ensures refused { IfErr result (IsAskFault (F.holds files.now) (F.is_reliable files.now) (I.remaining input.old) (I.has_failed input.new) (draw (paths_are sources.entry) stats.now)) }
 {
-    let alloc = session.alloc;
+    let alloc = services.alloc;
     let plan = plan_from_files(alloc, files, input, sources)?;
     let words = operator_words(alloc, &plan)?;
     let nodes = words.len();
@@ -313,17 +313,17 @@ fn answer_annotation<F: Store, I: ByteIn>(
 
 // What the checker says of all nodes of the plan at one path, over the catalog at the other.
 fn answer_verdict<T: Threads + Wait + Sync, R: Runs, C: Clock, F: Store, I: ByteIn>(
-    session: &Session<'_, T, R, C>,
+    services: &Services<'_, T, R, C>,
     files: &F,
     input: &mut I,
     sources: Sources<'_>,
 ) -> Result<ArgumentAnswer, ArgumentFault>
-    ensures answer { IfOk result (λ a. IsAskAnswer (R.counted session.now.engine.now) (F.holds files.now) (I.remaining input.old) (check_all (paths_are sources.entry)) a) }
+    ensures answer { IfOk result (λ a. IsAskAnswer (R.counted services.now.engine.now) (F.holds files.now) (I.remaining input.old) (check_all (paths_are sources.entry)) a) }
     ensures no_stats { IfOk result IsUncounted }
     ensures refused { IfErr result (IsAskFault (F.holds files.now) (F.is_reliable files.now) (I.remaining input.old) (I.has_failed input.new) (check_all (paths_are sources.entry))) }
 {
-    let plan = plan_from_files(session.alloc, files, input, sources)?;
-    match verdict_on(session.alloc, &plan)? {
+    let plan = plan_from_files(services.alloc, files, input, sources)?;
+    match verdict_on(services.alloc, &plan)? {
         Findings::Accepted(text) => Ok(ArgumentAnswer::Text(text)),
         Findings::Failing(lines) => Err(ArgumentFault::Failing(lines)),
     }
@@ -359,23 +359,23 @@ pub fn usage_error(alloc: Global, text: &str) -> ArgumentFault
 
 /// What answers what arguments ask for that is no run.
 pub fn answer_plain<T: Threads + Wait + Sync, R: Runs, C: Clock, F: Store, I: ByteIn>(
-    session: &Session<'_, T, R, C>,
+    services: &Services<'_, T, R, C>,
     files: &F,
     input: &mut I,
     asked: &Asked<'_>,
 ) -> Result<ArgumentAnswer, ArgumentFault>
     requires plain { may_run (asked_is asked.now) ≡ false }
-    ensures answer { IfOk result (λ a. IsAskAnswer (R.counted session.now.engine.now) (F.holds files.now) (I.remaining input.old) (asked_is asked.now) a) }
+    ensures answer { IfOk result (λ a. IsAskAnswer (R.counted services.now.engine.now) (F.holds files.now) (I.remaining input.old) (asked_is asked.now) a) }
     ensures no_stats { IfOk result IsUncounted }
     ensures refused { IfErr result (IsAskFault (F.holds files.now) (F.is_reliable files.now) (I.remaining input.old) (I.has_failed input.new) (asked_is asked.now)) }
 {
-    let alloc = session.alloc;
+    let alloc = services.alloc;
     match job_in(alloc, asked) {
         Some(AskedJob::Command(task)) => {
-            let text = answer_task(session, files, input, &task)?;
+            let text = answer_task(services, files, input, &task)?;
             Ok(ArgumentAnswer::Text(text))
         }
-        Some(AskedJob::Verdict(sources)) => answer_verdict(session, files, input, sources),
+        Some(AskedJob::Verdict(sources)) => answer_verdict(services, files, input, sources),
         Some(AskedJob::Annotation(sources)) => {
             let text = answer_annotation(alloc, files, input, sources)?;
             Ok(ArgumentAnswer::Text(text))
@@ -385,7 +385,7 @@ pub fn answer_plain<T: Threads + Wait + Sync, R: Runs, C: Clock, F: Store, I: By
             Ok(ArgumentAnswer::Text(text))
         }
         Some(AskedJob::Drawing(sources, stats)) => answer_drawing(
-            session, files, input, sources, stats,
+            services, files, input, sources, stats,
         ),
         Some(AskedJob::Statement(dialect, sources)) => {
             let text = answer_statement(alloc, files, input, dialect, sources)?;
@@ -446,23 +446,23 @@ const NO_STATS: &str =
 
 // What answers a request.
 fn answer_request<T: Threads + Wait + Sync, R: Runs, C: Clock, F: Store, I: ByteIn>(
-    session: &Session<'_, T, R, C>,
+    services: &Services<'_, T, R, C>,
     files: &F,
     input: &mut I,
     request: &Request<'_>,
 ) -> Result<ArgumentAnswer, ArgumentFault>
-    ensures answer { IfOk result (λ a. IsAskAnswer (R.counted session.now.engine.now) (F.holds files.now) (I.remaining input.old) (asked_is request.now.asked) a) }
+    ensures answer { IfOk result (λ a. IsAskAnswer (R.counted services.now.engine.now) (F.holds files.now) (I.remaining input.old) (asked_is request.now.asked) a) }
     ensures stats { (f : StatsForm) → AsksForRuns (I.remaining input.old) (asked_is request.now.asked) → stats_of_word (option_map (λ s. s.now) request.now.stats) ≡ Some f → IfOk result (IsCountedAs f) }
     ensures no_stats { stats_of_word (option_map (λ s. s.now) request.now.stats) ≡ None → IfOk result IsUncounted }
     ensures refused { IfErr result (λ e. IsAskFault (F.holds files.now) (F.is_reliable files.now) (I.remaining input.old) (I.has_failed input.new) (asked_is request.now.asked) e
         ⊎ IsStatsFault (option_map (λ s. s.now) request.now.stats) e) }
 {
-    let session = session.with_threads(loading_threads(session.rt, request.threads));
+    let services = services.with_threads(loading_threads(services.rt, request.threads));
     match request.stats {
-        None => answer_asked(&session, files, input, None, &request.asked),
+        None => answer_asked(&services, files, input, None, &request.asked),
         Some(word) => match stats_named(word) {
-            None => Err(usage_error(session.alloc, NO_STATS)),
-            Some(form) => answer_asked(&session, files, input, form, &request.asked),
+            None => Err(usage_error(services.alloc, NO_STATS)),
+            Some(form) => answer_asked(&services, files, input, form, &request.asked),
         },
     }
 }
@@ -484,20 +484,20 @@ fn help_or_fault(alloc: Global, error: &Error) -> Result<ArgumentAnswer, Argumen
 
 /// What answers arguments.
 pub fn answer_arguments<T: Threads + Wait + Sync, R: Runs, C: Clock, F: Store, I: ByteIn>(
-    session: &Session<'_, T, R, C>,
+    services: &Services<'_, T, R, C>,
     files: &F,
     input: &mut I,
     arguments: &[&str],
 ) -> Result<ArgumentAnswer, ArgumentFault>
-    ensures answer { IfOk result (λ a. IsArgumentAnswer (R.counted session.now.engine.now) (F.holds files.now) (I.remaining input.old) (map (λ a. a.now) arguments.now) a) }
+    ensures answer { IfOk result (λ a. IsArgumentAnswer (R.counted services.now.engine.now) (F.holds files.now) (I.remaining input.old) (map (λ a. a.now) arguments.now) a) }
     ensures stats { (f : StatsForm) (ask : Ask) → AsksFor (map (λ a. a.now) arguments.now) ask → AsksForRuns (I.remaining input.old) ask → stats_asked (map (λ a. a.now) arguments.now) ≡ Some f → IfOk result (IsCountedAs f) }
     ensures no_stats { stats_asked (map (λ a. a.now) arguments.now) ≡ None → IfOk result IsUncounted }
     ensures refused { IfErr result (IsArgumentFault (F.holds files.now) (F.is_reliable files.now) (I.remaining input.old) (I.has_failed input.new) (map (λ a. a.now) arguments.now)) }
 {
-    let alloc = session.alloc;
+    let alloc = services.alloc;
     let arguments = with_program_name(alloc, arguments)?;
     match asked_for(alloc, arguments.as_slice()) {
-        Ok(Some(request)) => answer_request(session, files, input, &request),
+        Ok(Some(request)) => answer_request(services, files, input, &request),
         Ok(None) => Err(usage_error(
             alloc,
             "volcano: statistics are drawn with --format dot alone; see volcano explain --help\n",

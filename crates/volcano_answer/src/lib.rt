@@ -18,10 +18,10 @@ mod program;
 mod run;
 mod runs;
 mod serial;
-mod session;
+mod services;
 mod statement;
 mod stats;
 
 pub use laws::case_is_refused_by_setup;
 pub use program::{answer, deliver};
-pub use session::Session;
+pub use services::Services;

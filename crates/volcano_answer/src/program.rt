@@ -20,7 +20,7 @@ use crate::command_line::{ArgumentAnswer, ArgumentFault, answer_arguments};
 use crate::files::input_bytes;
 use crate::places::write_place;
 use crate::runs::Stopped;
-use crate::session::Session;
+use crate::services::Services;
 use crate::stats::CountedText;
 use std::alloc::Global;
 use std::sync::Wait;
@@ -35,30 +35,30 @@ use vx_wisconsin::{GenerateFault, generate};
 /// What answers the bundle of which an input has the bytes that are left. The statistics of its run, if its command is one and they are
 /// asked for, are those up to the time that the write takes.
 pub fn outcome_of<T: Threads + Wait + Sync, R: Runs, C: Clock, I: ByteIn>(
-    session: &Session<'_, T, R, C>,
+    services: &Services<'_, T, R, C>,
     input: &mut I,
     form: Option<StatsForm>,
 ) -> Result<CommandAnswer, Refusal>
     ensures text { IfOk result (λ a. IfSome (I.remaining input.old) (λ bytes. IsAnswer bytes (text_in a))) }
-    ensures run { IfOk result (IfRun (λ k. IfSome (I.remaining input.old) (λ bytes. AreBundleStats (R.counted session.now.engine.now) form bytes k.text.items (string_bytes k.stats)))) }
+    ensures run { IfOk result (IfRun (λ k. IfSome (I.remaining input.old) (λ bytes. AreBundleStats (R.counted services.now.engine.now) form bytes k.text.items (string_bytes k.stats)))) }
     ensures runs { IfSome (I.remaining input.old) (λ bytes. AsksForRun bytes → IfOk result IsRunReport) }
     ensures refused { IfErr result (λ e. RefusedWith (I.remaining input.old) (I.has_failed input.new) e) }
     ensures broken { I.has_failed input.new ≡ true → IsErrOf result Refusal.InputUnreadable }
 {
-    let bytes = input_bytes(session.alloc, input)?;
-    answer_bytes(session, bytes.as_slice(), form)
+    let bytes = input_bytes(services.alloc, input)?;
+    answer_bytes(services, bytes.as_slice(), form)
 }
 
 // The text alone, without statistics.
 fn text_outcome<T: Threads + Wait + Sync, R: Runs, C: Clock, I: ByteIn>(
-    session: &Session<'_, T, R, C>,
+    services: &Services<'_, T, R, C>,
     input: &mut I,
 ) -> Result<Vec<u8>, Refusal>
     ensures text { IfOk result (λ text. IfSome (I.remaining input.old) (λ bytes. IsAnswer bytes text.items)) }
     ensures refused { IfErr result (λ e. RefusedWith (I.remaining input.old) (I.has_failed input.new) e) }
     ensures broken { I.has_failed input.new ≡ true → IsErrOf result Refusal.InputUnreadable }
 {
-    match outcome_of(session, input, None) {
+    match outcome_of(services, input, None) {
         Ok(answer) => Ok(answer.into_text()),
         Err(refusal) => Err(refusal),
     }
@@ -119,7 +119,7 @@ pub fn deliver<O: ByteOut, E: ByteOut>(
 
 /// Answers the bundle on `input`: writes the answer on `out`, or reports on `err` why there is none.
 pub fn reply<T: Threads + Wait + Sync, R: Runs, C: Clock, I: ByteIn, O: ByteOut, E: ByteOut>(
-    session: &Session<'_, T, R, C>,
+    services: &Services<'_, T, R, C>,
     input: &mut I,
     out: &mut O,
     err: &mut E,
@@ -138,7 +138,7 @@ pub fn reply<T: Threads + Wait + Sync, R: Runs, C: Clock, I: ByteIn, O: ByteOut,
     // Status 4 comes only for a write that failed, or where the machine or the run failed.
     ensures failed { result ≡ 4 → (O.has_failed out.new ≡ true) ⊎ IsRefusedBy 4 (I.remaining input.old) (I.has_failed input.new) }
 {
-    deliver(text_outcome(session, input), out, err)
+    deliver(text_outcome(services, input), out, err)
 }
 
 // Writes the text of the relation with `rows` rows on `out` as it is made, or reports on `err` why not. All memory is taken
@@ -224,7 +224,7 @@ fn reply_to_arguments<
     O: ByteOut,
     E: ByteOut,
 >(
-    session: &Session<'_, T, R, C>,
+    services: &Services<'_, T, R, C>,
     arguments: &[&str],
     files: &F,
     input: &mut I,
@@ -233,7 +233,7 @@ fn reply_to_arguments<
 ) -> u8
     ensures done { result ≡ 0 → (text : List ℕ) × AnswersArguments (F.holds files.now) (I.remaining input.old) (map (λ a. a.now) arguments.now) text × Appends (O.contents out.old) (O.contents out.new) text }
     ensures stats { result ≡ 0 → E.has_failed err.new ≡ false → (f : StatsForm) (ask : Ask) → AsksFor (map (λ a. a.now) arguments.now) ask → AsksForRuns (I.remaining input.old) ask → stats_asked (map (λ a. a.now) arguments.now) ≡ Some f
-        → (text : List ℕ) × (stats : List ℕ) × AreStatsOf (R.counted session.now.engine.now) (F.holds files.now) (I.remaining input.old) f (map (λ a. a.now) arguments.now) text stats
+        → (text : List ℕ) × (stats : List ℕ) × AreStatsOf (R.counted services.now.engine.now) (F.holds files.now) (I.remaining input.old) f (map (λ a. a.now) arguments.now) text stats
         × Appends (O.contents out.old) (O.contents out.new) text × Appends (E.contents err.old) (E.contents err.new) stats }
     ensures no_stats { result ≡ 0 → stats_asked (map (λ a. a.now) arguments.now) ≡ None → err.new ≡ err.old }
     ensures kept { result ≢ 0 → O.has_failed out.new ≡ false → (out.new ≡ out.old)
@@ -244,12 +244,12 @@ fn reply_to_arguments<
         ⊎ ((lines : List ℕ) × AsksForFailing (F.holds files.now) (I.remaining input.old) (map (λ a. a.now) arguments.now) lines × (E.has_failed err.new ≡ false → Appends (E.contents err.old) (E.contents err.new) lines)) }
     ensures failed { result ≡ 4 → (O.has_failed out.new ≡ true) ⊎ AreRefusedBy 4 (F.holds files.now) (F.is_reliable files.now) (I.remaining input.old) (I.has_failed input.new) (map (λ a. a.now) arguments.now) }
 {
-    match answer_arguments(session, files, input, arguments) {
+    match answer_arguments(services, files, input, arguments) {
         Ok(ArgumentAnswer::Text(text)) => deliver(Ok(text), out, err),
-        Ok(ArgumentAnswer::Relation(rows)) => write_relation(session.alloc, rows, out, err),
-        Ok(ArgumentAnswer::Counted(counted)) => write_counted(session.clock, &counted, out, err),
+        Ok(ArgumentAnswer::Relation(rows)) => write_relation(services.alloc, rows, out, err),
+        Ok(ArgumentAnswer::Counted(counted)) => write_counted(services.clock, &counted, out, err),
         Err(ArgumentFault::Refused(refusal)) => refuse_in_place(
-            session.alloc,
+            services.alloc,
             files,
             arguments,
             &refusal,
@@ -276,7 +276,7 @@ fn reply_to_arguments<
 /// Where the arguments ask for the statistics of runs, `err` gets those of the runs whose rows `out` got; where they ask for none,
 /// status 0 leaves `err` as it was.
 ///
-/// Nothing of this depends on the session's seed. What its clock says goes into statistics alone.
+/// Nothing of this depends on the seed of `services`. What its clock says goes into statistics alone.
 pub fn answer<
     T: Threads + Wait + Sync,
     R: Runs,
@@ -286,7 +286,7 @@ pub fn answer<
     O: ByteOut,
     E: ByteOut,
 >(
-    session: &Session<'_, T, R, C>,
+    services: &Services<'_, T, R, C>,
     arguments: &[&str],
     files: &F,
     input: &mut I,
@@ -307,7 +307,7 @@ pub fn answer<
     // With arguments, status 0 comes only for what they ask for, answered, and then `out` got exactly that.
     ensures arguments_done { arguments.now ≢ [] → result ≡ 0 → (text : List ℕ) × AnswersArguments (F.holds files.now) (I.remaining input.old) (map (λ a. a.now) arguments.now) text × Appends (O.contents out.old) (O.contents out.new) text }
     ensures arguments_stats { arguments.now ≢ [] → result ≡ 0 → E.has_failed err.new ≡ false → (f : StatsForm) (ask : Ask) → AsksFor (map (λ a. a.now) arguments.now) ask → AsksForRuns (I.remaining input.old) ask
-        → stats_asked (map (λ a. a.now) arguments.now) ≡ Some f → (text : List ℕ) × (stats : List ℕ) × AreStatsOf (R.counted session.now.engine.now) (F.holds files.now) (I.remaining input.old) f (map (λ a. a.now) arguments.now) text stats
+        → stats_asked (map (λ a. a.now) arguments.now) ≡ Some f → (text : List ℕ) × (stats : List ℕ) × AreStatsOf (R.counted services.now.engine.now) (F.holds files.now) (I.remaining input.old) f (map (λ a. a.now) arguments.now) text stats
         × Appends (O.contents out.old) (O.contents out.new) text × Appends (E.contents err.old) (E.contents err.new) stats }
     ensures arguments_no_stats { arguments.now ≢ [] → result ≡ 0 → stats_asked (map (λ a. a.now) arguments.now) ≡ None → err.new ≡ err.old }
     ensures arguments_statuses { arguments.now ≢ [] → (result ≡ 0) ⊎ (result ≡ 2) ⊎ (result ≡ 3) ⊎ (result ≡ 4) }
@@ -328,7 +328,7 @@ pub fn answer<
     ensures untouched { result ≡ 2 → out.new ≡ out.old }
 {
     if arguments.is_empty() {
-        return reply(session, input, out, err);
+        return reply(services, input, out, err);
     }
-    reply_to_arguments(session, arguments, files, input, out, err)
+    reply_to_arguments(services, arguments, files, input, out, err)
 }

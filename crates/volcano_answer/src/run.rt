@@ -10,7 +10,7 @@ ghost use Rattle.volcano_stats.specs.declared.text.StatsForm.{StatsForm};
 ghost use Rattle.volcano_answer.specs.Commands.{RunRefuses};
 ghost use Rattle.volcano_answer.specs.Stats.{IsCountedRun};
 
-use crate::session::Session;
+use crate::services::Services;
 use std::alloc::AllocError;
 use std::sync::Wait;
 use std::thread::Threads;
@@ -26,17 +26,17 @@ use vx_rows_views::Rows;
 
 /// The text of rows under the names of a plan's output.
 pub fn text_of<T: Threads + Wait + Sync, R: Runs, C: Clock>(
-    session: &Session<'_, T, R, C>,
+    services: &Services<'_, T, R, C>,
     plan: &TypedPlan,
     rows: &Rows,
 ) -> Result<Vec<u8>, AllocError>
     ensures { IfOk result (λ v. v.items ≡ csv_text (columns (resolved_of plan.now).root).names rows.now.rows) }
 {
-    let names = name_texts(session.alloc, plan.root().head().columns.names.as_slice())?;
+    let names = name_texts(services.alloc, plan.root().head().columns.names.as_slice())?;
     format_in_threads(
-        session.rt,
-        session.alloc,
-        session.threads,
+        services.rt,
+        services.alloc,
+        services.threads,
         names.as_slice(),
         rows,
     )
@@ -44,19 +44,19 @@ pub fn text_of<T: Threads + Wait + Sync, R: Runs, C: Clock>(
 
 /// The text of a run of a plan over a database. What its workers counted is kept, if that is wanted.
 pub fn run_over<T: Threads + Wait + Sync, R: Runs, C: Clock>(
-    session: &Session<'_, T, R, C>,
+    services: &Services<'_, T, R, C>,
     setting: &Setting,
     plan: &CheckedPlan,
     database: &Database,
     counts: &mut RunCounts,
 ) -> Result<Vec<u8>, Refusal>
     ensures run { (f : Option StatsForm) → IfSome f (λ _. is_wanted counts.old ≡ true)
-        → IfOk result (λ text. IsCountedRun (R.counted session.now.engine.now) f (typed_plan plan.now) database.now setting.now text.items (counts_in counts.new)) }
+        → IfOk result (λ text. IsCountedRun (R.counted services.now.engine.now) f (typed_plan plan.now) database.now setting.now text.items (counts_in counts.new)) }
     ensures refused { IfErr result (λ e. RunRefuses (resolved_of (typed_plan plan.now)) database.now setting.now e) }
 {
-    let (rt, engine, alloc) = (session.rt, session.engine, session.alloc);
+    let (rt, engine, alloc) = (services.rt, services.engine, services.alloc);
     match engine.run(rt, alloc, plan, database, setting, counts)? {
-        RunOutcome::Done(rows) => Ok(text_of(session, plan.plan(), &rows)?),
+        RunOutcome::Done(rows) => Ok(text_of(services, plan.plan(), &rows)?),
         RunOutcome::Unfinished => Err(Refusal::Unfinished),
     }
 }

@@ -12,7 +12,7 @@ ghost use Rattle.volcano_answer.specs.Stats.{if_asked, AreCountedRuns, ArePlansS
 use crate::command_line::ArgumentFault;
 use crate::files::is_input;
 use crate::plans::{AcceptedPlan, accepted_plans, catalog_under};
-use crate::session::Session;
+use crate::services::Services;
 use crate::stats::{RunReport, add_run};
 use std::alloc::{AllocError, Global};
 use std::sync::Wait;
@@ -49,20 +49,20 @@ pub fn titled(alloc: Global, path: &str, text: &[u8]) -> Result<Vec<u8>, AllocEr
 // The texts of runs of plans over one database, each behind a line with the path of its plan, and their statistics if they are asked
 // for. The first plan of which the run gives no text ends it.
 fn run_each<T: Threads + Wait + Sync, R: Runs, C: Clock>(
-    session: &Session<'_, T, R, C>,
+    services: &Services<'_, T, R, C>,
     form: Option<StatsForm>,
     setting: &Setting,
     plans: &[AcceptedPlan<'_>],
     database: &Database,
 ) -> Result<RunReport, Stopped>
-    ensures stats { IfOk result (λ k. AreCountedRuns (R.counted session.now.engine.now) form database.now setting.now plans.now k.text.items (string_bytes k.stats)) }
+    ensures stats { IfOk result (λ k. AreCountedRuns (R.counted services.now.engine.now) form database.now setting.now plans.now k.text.items (string_bytes k.stats)) }
     ensures stopped { IfErr result (λ s. StopsAt (λ p own. IsRunOver p database.now setting.now own) (λ p e. RunRefuses p database.now setting.now e) (map named_is plans.now) s.text.items s.refusal) }
 {
-    let mut text = Vec::new(session.alloc);
-    let mut stats = String::new(session.alloc);
+    let mut text = Vec::new(services.alloc);
+    let mut stats = String::new(services.alloc);
     for accepted in plans {
         match add_run(
-            session, form, setting, accepted, database, &mut text, &mut stats,
+            services, form, setting, accepted, database, &mut text, &mut stats,
         ) {
             Ok(()) => {}
             Err(refusal) => return Err(Stopped { text, refusal }),
@@ -91,7 +91,7 @@ fn push_common(
 
 /// The texts of runs of several plans, over tables that are loaded once, with their statistics if they are asked for.
 pub fn run_plans<T: Threads + Wait + Sync, R: Runs, C: Clock, F: Store, I: ByteIn>(
-    session: &Session<'_, T, R, C>,
+    services: &Services<'_, T, R, C>,
     files: &F,
     input: &mut I,
     form: Option<StatsForm>,
@@ -99,10 +99,10 @@ pub fn run_plans<T: Threads + Wait + Sync, R: Runs, C: Clock, F: Store, I: ByteI
     folder: &str,
     setting: &Setting,
 ) -> Result<RunReport, ArgumentFault>
-    ensures stats { IfOk result (λ k. ArePlansStats (R.counted session.now.engine.now) (F.holds files.now) (I.remaining input.old) form (many_are sources.now) folder.now setting.now k.text.items (string_bytes k.stats)) }
+    ensures stats { IfOk result (λ k. ArePlansStats (R.counted services.now.engine.now) (F.holds files.now) (I.remaining input.old) form (many_are sources.now) folder.now setting.now k.text.items (string_bytes k.stats)) }
     ensures refused { IfErr result (IsPlansFault (F.holds files.now) (F.is_reliable files.now) (I.remaining input.old) (I.has_failed input.new) (many_are sources.now) folder.now setting.now) }
 {
-    let (alloc, clock) = (session.alloc, session.clock);
+    let (alloc, clock) = (services.alloc, services.clock);
     let mut timer = Timer::start(alloc, clock);
     let catalog = catalog_under(alloc, files, input, sources.catalog)?;
     timer.end(clock, WorkPhase::Catalog)?;
@@ -116,15 +116,15 @@ pub fn run_plans<T: Threads + Wait + Sync, R: Runs, C: Clock, F: Store, I: ByteI
     };
     let mut loads = LoadTimer::start(alloc, clock);
     let database = load_scanned_in_threads(
-        session.rt,
-        session.loading(),
+        services.rt,
+        services.loading(),
         &catalog,
         &plans,
         &tables,
         &mut loads,
     )?;
     timer.end(clock, WorkPhase::Load)?;
-    let mut report = run_each(session, form, setting, plans.plans.as_slice(), &database)?;
+    let mut report = run_each(services, form, setting, plans.plans.as_slice(), &database)?;
     let stats = &mut report.stats;
     push_common(stats, alloc, form, &catalog, loads.times(), timer.times())?;
     Ok(report)

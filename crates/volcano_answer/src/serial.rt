@@ -5,7 +5,7 @@ ghost use Rattle.vx_plan_nodes.specs.TypedView.{resolved_of};
 ghost use Rattle.volcano_answer.specs.Commands.{IsSerial, SerialRefuses};
 
 use crate::run::text_of;
-use crate::session::Session;
+use crate::services::Services;
 use std::sync::Wait;
 use std::thread::Threads;
 use std::time::Clock;
@@ -16,10 +16,10 @@ use vx_plan::erase;
 use vx_plan_nodes::TypedPlan;
 use vx_serial::eval;
 
-/// The text of the rows of a plan without its exchanges over tables, under the names of the plan. Up to `session.threads`
+/// The text of the rows of a plan without its exchanges over tables, under the names of the plan. Up to `services.threads`
 /// threads load a table and make the text; one thread evaluates the plan.
 pub fn serial_plan<T: Threads + Wait + Sync, R: Runs, C: Clock, B: Tables>(
-    session: &Session<'_, T, R, C>,
+    services: &Services<'_, T, R, C>,
     tables: &B,
     plan: &TypedPlan,
 ) -> Result<Vec<u8>, Refusal>
@@ -27,15 +27,15 @@ pub fn serial_plan<T: Threads + Wait + Sync, R: Runs, C: Clock, B: Tables>(
     ensures refused { IfErr result (λ e. SerialRefuses (resolved_of plan.now) (B.holds tables.now) (B.lacks tables.now) e) }
 {
     let database = load_tables_in_threads(
-        session.rt,
-        session.loading(),
+        services.rt,
+        services.loading(),
         plan,
         tables,
         &mut Unobserved,
     )?;
-    let Ok(erased) = erase(session.alloc, plan) else {
+    let Ok(erased) = erase(services.alloc, plan) else {
         return Err(Refusal::NoMemory);
     };
-    let rows = eval(session.alloc, &erased, &database)?;
-    Ok(text_of(session, plan, &rows)?)
+    let rows = eval(services.alloc, &erased, &database)?;
+    Ok(text_of(services, plan, &rows)?)
 }

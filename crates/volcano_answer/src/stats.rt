@@ -21,7 +21,7 @@ use crate::files::document_from_files;
 use crate::plans::AcceptedPlan;
 use crate::run::run_over;
 use crate::runs::titled;
-use crate::session::Session;
+use crate::services::Services;
 use std::alloc::{AllocError, Global};
 use std::sync::Wait;
 use std::thread::Threads;
@@ -118,28 +118,28 @@ fn lone_stats(
 
 /// The text of a run of a plan over tables, with its statistics if they are asked for. The phases that came before are in the timer.
 pub fn run_plan<T: Threads + Wait + Sync, R: Runs, C: Clock, B: Tables>(
-    session: &Session<'_, T, R, C>,
+    services: &Services<'_, T, R, C>,
     tables: &B,
     setting: &Setting,
     plan: &CheckedPlan,
     form: Option<StatsForm>,
     timer: &mut Timer,
 ) -> Result<RunReport, Refusal>
-    ensures run { IfOk result (λ k. IsCountedPlan (R.counted session.now.engine.now) form (typed_plan plan.now) (B.holds tables.now) setting.now (phases_of (times_in timer.old)) k.text.items (string_bytes k.stats)) }
+    ensures run { IfOk result (λ k. IsCountedPlan (R.counted services.now.engine.now) form (typed_plan plan.now) (B.holds tables.now) setting.now (phases_of (times_in timer.old)) k.text.items (string_bytes k.stats)) }
     ensures refused { IfErr result (λ e. (e ≡ Refusal.NoMemory) ⊎ PlanRefuses (resolved_of (typed_plan plan.now)) (B.holds tables.now) (B.lacks tables.now) setting.now e) }
 {
-    let (alloc, clock) = (session.alloc, session.clock);
+    let (alloc, clock) = (services.alloc, services.clock);
     let mut loads = LoadTimer::start(alloc, clock);
     let database = load_tables_in_threads(
-        session.rt,
-        session.loading(),
+        services.rt,
+        services.loading(),
         plan.plan(),
         tables,
         &mut loads,
     )?;
     timer.end(clock, WorkPhase::Load)?;
     let mut counts = counts_for(alloc, form);
-    let text = run_over(session, setting, plan, &database, &mut counts)?;
+    let text = run_over(services, setting, plan, &database, &mut counts)?;
     timer.end(clock, WorkPhase::Run)?;
     let workers = counts.workers();
     let stats = lone_stats(
@@ -155,7 +155,7 @@ pub fn run_plan<T: Threads + Wait + Sync, R: Runs, C: Clock, B: Tables>(
 
 /// The same of a plan that the checker is still to accept.
 pub fn run_checked<T: Threads + Wait + Sync, R: Runs, C: Clock, B: Tables>(
-    session: &Session<'_, T, R, C>,
+    services: &Services<'_, T, R, C>,
     tables: &B,
     setting: &Setting,
     plan: TypedPlan,
@@ -163,18 +163,18 @@ pub fn run_checked<T: Threads + Wait + Sync, R: Runs, C: Clock, B: Tables>(
     timer: &mut Timer,
 ) -> Result<RunReport, Refusal>
     ensures shown { IfOk result (λ _. IsShown (resolved_of plan)) }
-    ensures stats { IfOk result (λ k. IsCountedPlan (R.counted session.now.engine.now) form plan (B.holds tables.now) setting.now (phases_of (times_in timer.old) ++ (work_phase.Check ∷ [])) k.text.items (string_bytes k.stats)) }
+    ensures stats { IfOk result (λ k. IsCountedPlan (R.counted services.now.engine.now) form plan (B.holds tables.now) setting.now (phases_of (times_in timer.old) ++ (work_phase.Check ∷ [])) k.text.items (string_bytes k.stats)) }
     ensures refused { IfErr result (λ e. CommandRefuses command.Run (resolved_of plan) (B.holds tables.now) (B.lacks tables.now) setting.now e) }
 {
     let checked = accepted(plan)?;
-    timer.end(session.clock, WorkPhase::Check)?;
-    run_plan(session, tables, setting, &checked, form, timer)
+    timer.end(services.clock, WorkPhase::Check)?;
+    run_plan(services, tables, setting, &checked, form, timer)
 }
 
 /// The text of a run of the plan at one path over the catalog at the other and the tables of a folder, with its statistics if they
 /// are asked for.
 pub fn run_task<T: Threads + Wait + Sync, R: Runs, C: Clock, F: Store, I: ByteIn>(
-    session: &Session<'_, T, R, C>,
+    services: &Services<'_, T, R, C>,
     files: &F,
     input: &mut I,
     form: Option<StatsForm>,
@@ -182,19 +182,19 @@ pub fn run_task<T: Threads + Wait + Sync, R: Runs, C: Clock, F: Store, I: ByteIn
     folder: &str,
     setting: &Setting,
 ) -> Result<RunReport, Refusal>
-    ensures stats { IfOk result (λ k. AreTaskStats (R.counted session.now.engine.now) (F.holds files.now) (I.remaining input.old) form
+    ensures stats { IfOk result (λ k. AreTaskStats (R.counted services.now.engine.now) (F.holds files.now) (I.remaining input.old) form
         (record { command = command.Run; paths = paths_are sources.entry; folder = folder.now; setting = setting.now }) k.text.items (string_bytes k.stats)) }
     ensures refused { IfErr result (λ e. TaskRefuses (F.holds files.now) (F.is_reliable files.now) (I.remaining input.old) (I.has_failed input.new)
         (record { command = command.Run; paths = paths_are sources.entry; folder = folder.now; setting = setting.now }) e) }
 {
-    let (alloc, clock) = (session.alloc, session.clock);
+    let (alloc, clock) = (services.alloc, services.clock);
     let mut timer = Timer::start(alloc, clock);
     let plan = timed_plan(clock, alloc, files, input, sources, &mut timer)?;
     let tables = Folder {
         files,
         path: folder,
     };
-    run_checked(session, &tables, setting, plan, form, &mut timer)
+    run_checked(services, &tables, setting, plan, form, &mut timer)
 }
 
 // Adds the line with the path of a plan.
@@ -226,7 +226,7 @@ fn push_stats(
 
 /// Adds the text of a run of one of several plans behind the line with the plan's path, and likewise its statistics if they are asked for.
 pub fn add_run<T: Threads + Wait + Sync, R: Runs, C: Clock>(
-    session: &Session<'_, T, R, C>,
+    services: &Services<'_, T, R, C>,
     form: Option<StatsForm>,
     setting: &Setting,
     accepted: &AcceptedPlan<'_>,
@@ -234,14 +234,14 @@ pub fn add_run<T: Threads + Wait + Sync, R: Runs, C: Clock>(
     text: &mut Vec<u8>,
     stats: &mut String,
 ) -> Result<(), Refusal>
-    ensures more { OnOk result (IsRunMore (R.counted session.now.engine.now) form database.now setting.now accepted.now text.old.items (string_bytes stats.old) text.new.items (string_bytes stats.new)) }
+    ensures more { OnOk result (IsRunMore (R.counted services.now.engine.now) form database.now setting.now accepted.now text.old.items (string_bytes stats.old) text.new.items (string_bytes stats.new)) }
     ensures kept { OnErr result (text.new.items ≡ text.old.items) }
     ensures refused { IfErr result (λ e. RunRefuses (resolved_of (typed_plan accepted.now.plan)) database.now setting.now e) }
 {
-    let (alloc, clock) = (session.alloc, session.clock);
+    let (alloc, clock) = (services.alloc, services.clock);
     let mut counts = counts_for(alloc, form);
     let mut watch = Stopwatch::start(clock);
-    let own = run_over(session, setting, &accepted.plan, database, &mut counts)?;
+    let own = run_over(services, setting, &accepted.plan, database, &mut counts)?;
     let time = watch.end(clock, WorkPhase::Run);
     push_stats(stats, alloc, form, accepted, counts.workers(), time)?;
     let answer = titled(alloc, accepted.path, own.as_slice())?;

@@ -13,7 +13,7 @@ ghost use Rattle.vx_check_options.specs.FoundKeys.{with_key, with_column, choice
 
 use crate::copies::Lists;
 use std::alloc::{AllocError, Global};
-use vx_check_rules::{Columns, KeysSeen, are_covered};
+use vx_check_rules::{ColumnsSeen, KeysSeen, are_covered};
 use vx_plan_nodes::Copying;
 
 /// So many keys of a node are looked for. A plan that claims more keeps them.
@@ -36,7 +36,7 @@ pub fn add_key(found: &mut Lists, key: Vec<usize>) -> Result<(), AllocError>
     ensures { OnOk result (map (λ k. k.items) found.new.items ≡ with_key (map (λ k. k.items) found.old.items) key.items) }
 {
     let keys = KeysSeen::Listed(found.as_slice());
-    if are_covered(keys, Columns::Listed(key.as_slice())) {
+    if are_covered(keys, ColumnsSeen::Listed(key.as_slice())) {
         return Ok(());
     }
     found.retain(|other| !is_within(key.as_slice(), other.as_slice()));
@@ -79,7 +79,7 @@ pub fn put_choices(
     choices: &mut Lists,
     copying: Copying<'_>,
     width: usize,
-    key: Columns<'_>,
+    key: ColumnsSeen<'_>,
 ) -> Result<(), AllocError>
     ensures { OnOk result (map (λ k. k.items) choices.new.items ≡ map (λ k. k.items) choices.old.items ++ choices_of (copying_of copying.entry) (first_columns width) (columns_seen key.entry)) }
 {

@@ -19,7 +19,7 @@ use crate::placing::{
 };
 use std::alloc::{AllocError, Global};
 use vx_catalog_relations::Catalog;
-use vx_check_rules::{Columns, has_one_worker, is_total};
+use vx_check_rules::{ColumnsSeen, has_one_worker, is_total};
 use vx_plan_nodes::{Binary, Claim, Copying, Exchange, TypedNode, Unary, output_types};
 
 // What the input of an operator over one input is to claim.
@@ -52,7 +52,7 @@ fn place_below(
         alloc,
         part,
         described.copying,
-        Columns::Listed(wanted),
+        ColumnsSeen::Listed(wanted),
         below.choices.as_slice(),
     )
 }
@@ -119,7 +119,7 @@ fn place_sent(
         alloc,
         part,
         Copying::WholeRows,
-        Columns::Listed(wanted),
+        ColumnsSeen::Listed(wanted),
         choices,
     )
 }
@@ -219,7 +219,7 @@ fn first_place(
         alloc,
         options.parts.first(),
         Copying::WholeRows,
-        Columns::Listed(&[]),
+        ColumnsSeen::Listed(&[]),
         choices,
     )
 }

@@ -18,7 +18,7 @@ use crate::choices::{add_choices, add_key, put_choices};
 use crate::copies::Lists;
 use std::alloc::{AllocError, Global};
 use vx_catalog_relations::Catalog;
-use vx_check_rules::{Columns, CopiedKeys, Keyed, KeysSeen, are_covered, keyed_from, show_key};
+use vx_check_rules::{ColumnsSeen, CopiedKeys, Keyed, KeysSeen, are_covered, keyed_from, show_key};
 use vx_plan_nodes::{Copying, TypedNode, output_types};
 
 // The keys of both inputs, and how many columns an output has.
@@ -35,8 +35,8 @@ impl Search<'_> {
         &self,
         alloc: Global,
         found: &mut Lists,
-        key: Columns<'_>,
-        other: Columns<'_>,
+        key: ColumnsSeen<'_>,
+        other: ColumnsSeen<'_>,
     ) -> Result<(), AllocError>
         ensures { OnOk result (Finds (IsKey (both_give (copying_of self.now.first.copying) (copying_of self.now.second.copying) (columns_seen key.entry ∷ []) (columns_seen other.entry ∷ [])) (first_columns self.now.width))
             (IsShown (both_give (copying_of self.now.first.copying) (copying_of self.now.second.copying) (columns_seen key.entry ∷ []) (columns_seen other.entry ∷ [])) (first_columns self.now.width))
@@ -46,7 +46,7 @@ impl Search<'_> {
         put_choices(alloc, &mut choices, self.first.copying, self.width, key)?;
         put_choices(alloc, &mut choices, self.second.copying, self.width, other)?;
         // A choice without columns is within no columns.
-        if are_covered(KeysSeen::Listed(choices.as_slice()), Columns::First(0)) {
+        if are_covered(KeysSeen::Listed(choices.as_slice()), ColumnsSeen::First(0)) {
             return Ok(());
         }
         add_choices(alloc, found, &[], choices.as_slice())
@@ -57,7 +57,7 @@ impl Search<'_> {
         &self,
         alloc: Global,
         found: &mut Lists,
-        key: Columns<'_>,
+        key: ColumnsSeen<'_>,
     ) -> Result<(), AllocError>
         ensures { OnOk result (Finds (IsKey (both_give (copying_of self.now.first.copying) (copying_of self.now.second.copying) (columns_seen key.entry ∷ []) (keys_seen self.now.second.keys)) (first_columns self.now.width))
             (IsShown (both_give (copying_of self.now.first.copying) (copying_of self.now.second.copying) (columns_seen key.entry ∷ []) (keys_seen self.now.second.keys)) (first_columns self.now.width))

@@ -17,7 +17,7 @@ use crate::order_choices::{OrderChoices, choices_over, may_begin, narrowed};
 use crate::parts::{only_part, parts_over};
 use std::alloc::{AllocError, Global};
 use vx_catalog_relations::Catalog;
-use vx_check_rules::{Columns, Rule, do_sizes_match, gives, has_one_worker};
+use vx_check_rules::{ColumnsSeen, Rule, do_sizes_match, gives, has_one_worker};
 use vx_plan_nodes::{Binary, Part, TypedNode};
 
 /// What a node can claim, and the first node, from it downwards, that no claims can save.
@@ -83,13 +83,13 @@ fn can_order(catalog: &Catalog, node: &TypedNode, left: &Options, right: &Option
 {
     match node {
         TypedNode::Binary(_, Binary::MergeJoin(on), _, _) => {
-            may_begin(left.choices.as_slice(), Columns::Lefts(on.as_slice()))
-                && may_begin(right.choices.as_slice(), Columns::Rights(on.as_slice()))
+            may_begin(left.choices.as_slice(), ColumnsSeen::Lefts(on.as_slice()))
+                && may_begin(right.choices.as_slice(), ColumnsSeen::Rights(on.as_slice()))
         }
         TypedNode::Exchange(_, exchange, _) => {
             may_begin(
                 left.choices.as_slice(),
-                Columns::Listed(exchange.merge.as_slice()),
+                ColumnsSeen::Listed(exchange.merge.as_slice()),
             )
         }
         _ => true,
@@ -123,7 +123,10 @@ fn unfit_at(
     if !can_order(catalog, node, left, right) {
         return Some(Rule::OrderNeeded);
     }
-    if !may_begin(choices, Columns::Listed(node.head().claim.order.as_slice())) {
+    if !may_begin(
+        choices,
+        ColumnsSeen::Listed(node.head().claim.order.as_slice()),
+    ) {
         return Some(Rule::OrderNotShown);
     }
     None
@@ -181,7 +184,7 @@ fn options_over(
         left.parts.as_slice(),
         left.choices.as_slice(),
     )?;
-    let order = Columns::Listed(node.head().claim.order.as_slice());
+    let order = ColumnsSeen::Listed(node.head().claim.order.as_slice());
     let choices = narrowed(alloc, order, here.as_slice())?;
     let lefts = parts_seen(node, left, right);
     let parts = parts_over(alloc, catalog, node, lefts, right.parts.as_slice())?;

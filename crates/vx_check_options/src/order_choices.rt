@@ -14,14 +14,14 @@ use crate::copies::{add_copies, copied};
 use crate::placing::first_rising;
 use std::alloc::{AllocError, Global};
 use vx_catalog_relations::Catalog;
-use vx_check_rules::{Columns, has_one_worker};
+use vx_check_rules::{ColumnsSeen, has_one_worker};
 use vx_plan_nodes::{Binary, Copying, Exchange, ExchangeKind, OrderAfter, Part, TypedNode, Unary};
 
 /// For each place of an order the columns that may stand there.
 pub type OrderChoices = Vec<Vec<usize>>;
 
 /// Each of these columns alone at its place.
-pub fn singles(alloc: Global, columns: Columns<'_>) -> Result<OrderChoices, AllocError>
+pub fn singles(alloc: Global, columns: ColumnsSeen<'_>) -> Result<OrderChoices, AllocError>
     ensures { IfOk result (λ v. map (λ v. v.items) v.items ≡ singles (columns_seen columns.entry)) }
 {
     let mut choices = Vec::new(alloc);
@@ -66,7 +66,7 @@ fn choices_up(
 }
 
 /// Whether an order may begin with these columns.
-pub fn may_begin(choices: &[Vec<usize>], columns: Columns<'_>) -> bool
+pub fn may_begin(choices: &[Vec<usize>], columns: ColumnsSeen<'_>) -> bool
     ensures { result ≡ is_some (narrowed (columns_seen columns.entry) (map (λ v. v.items) choices.now)) }
 {
     if choices.len() < columns.len() {
@@ -83,7 +83,7 @@ pub fn may_begin(choices: &[Vec<usize>], columns: Columns<'_>) -> bool
 /// What may stand at each place of an order that begins with these columns; no place where it may not.
 pub fn narrowed(
     alloc: Global,
-    columns: Columns<'_>,
+    columns: ColumnsSeen<'_>,
     choices: &[Vec<usize>],
 ) -> Result<OrderChoices, AllocError>
     ensures { IfOk result (λ v. map (λ v. v.items) v.items ≡ or_nowhere (narrowed (columns_seen columns.entry) (map (λ v. v.items) choices.now))) }
@@ -107,7 +107,7 @@ fn choices_over_both(
     match operator {
         Binary::Union => Ok(Vec::new(alloc)),
         Binary::HashJoin(_) => copied(alloc, choices),
-        Binary::MergeJoin(on) => narrowed(alloc, Columns::Lefts(on.as_slice()), choices),
+        Binary::MergeJoin(on) => narrowed(alloc, ColumnsSeen::Lefts(on.as_slice()), choices),
     }
 }
 
@@ -158,7 +158,7 @@ fn choices_sent(
         ExchangeKind::Route(_, _, _)
         | ExchangeKind::Round(_)
         | ExchangeKind::Broadcast(_)
-        | ExchangeKind::Gather => singles(alloc, Columns::Listed(exchange.merge.as_slice())),
+        | ExchangeKind::Gather => singles(alloc, ColumnsSeen::Listed(exchange.merge.as_slice())),
     }
 }
 
@@ -174,7 +174,7 @@ fn choices_along(
     match described.order {
         OrderAfter::Kept => choices_up(alloc, described.copying, choices),
         OrderAfter::SortedOn(columns) => {
-            let sorted = singles(alloc, Columns::Listed(columns))?;
+            let sorted = singles(alloc, ColumnsSeen::Listed(columns))?;
             choices_up(alloc, described.copying, sorted.as_slice())
         }
     }
@@ -193,13 +193,17 @@ pub fn choices_over(
     match node {
         TypedNode::Scan(_, scan) => singles(
             alloc,
-            Columns::Listed(catalog.order_of(scan.relation)),
+            ColumnsSeen::Listed(catalog.order_of(scan.relation)),
         ),
         TypedNode::Unary(_, operator, _) => choices_along(alloc, operator, choices),
         TypedNode::Binary(_, operator, _, _) => choices_over_both(alloc, operator, choices),
         TypedNode::Exchange(_, exchange, input) => {
             if has_one_worker(input) {
-                return narrowed(alloc, Columns::Listed(exchange.merge.as_slice()), choices);
+                return narrowed(
+                    alloc,
+                    ColumnsSeen::Listed(exchange.merge.as_slice()),
+                    choices,
+                );
             }
             choices_sent(alloc, exchange, parts, choices)
         }

@@ -16,7 +16,7 @@ ghost use Rattle.vx_check_options.specs.Claimed.{note};
 use crate::parts::first_two;
 use std::alloc::{AllocError, Global};
 use vx_catalog_relations::Catalog;
-use vx_check_rules::{Columns, rises_with_workers};
+use vx_check_rules::{ColumnsSeen, rises_with_workers};
 use vx_plan_nodes::{
     Binary, Claim, Copying, ExchangeKind, OrderAfter, Part, TypedNode, copied_part,
 };
@@ -37,7 +37,7 @@ impl Drop for Placement {
 // if it may stand there, and else the first that may.
 fn next_column(
     copying: Copying<'_>,
-    order: Columns<'_>,
+    order: ColumnsSeen<'_>,
     at: usize,
     place: &[usize],
 ) -> Option<usize>
@@ -57,7 +57,7 @@ fn next_column(
 fn order_along(
     alloc: Global,
     copying: Copying<'_>,
-    order: Columns<'_>,
+    order: ColumnsSeen<'_>,
     choices: &[Vec<usize>],
 ) -> Result<Vec<usize>, AllocError>
     ensures { IfOk result (λ v. v.items ≡ order_along (copying_of copying.entry) (columns_seen order.entry) (map (λ v. v.items) choices.now)) }
@@ -86,7 +86,7 @@ impl Placement {
         alloc: Global,
         part: Option<&Part>,
         copying: Copying<'_>,
-        order: Columns<'_>,
+        order: ColumnsSeen<'_>,
         choices: &[Vec<usize>],
     ) -> Result<Placement, AllocError>
         ensures part { IfOk result (λ r. part_of r.part ≡ unwrap_or (option_map (λ p. part_of p.now) part.entry) any) }
@@ -180,21 +180,21 @@ pub fn wanted_sent<'p>(
 }
 
 /// What the order of the left input of an operator over two inputs has to begin with, where it can.
-pub fn wanted_left<'p>(operator: &Binary, order: &'p [usize]) -> Columns<'p>
+pub fn wanted_left<'p>(operator: &Binary, order: &'p [usize]) -> ColumnsSeen<'p>
     ensures { (places : OrderChoices) → order_along whole_rows (columns_seen result) places ≡ left_order (binary_of operator.now) order.now places }
 {
     match operator {
-        Binary::Union => Columns::Listed(&[]),
-        Binary::HashJoin(_) | Binary::MergeJoin(_) => Columns::Listed(order),
+        Binary::Union => ColumnsSeen::Listed(&[]),
+        Binary::HashJoin(_) | Binary::MergeJoin(_) => ColumnsSeen::Listed(order),
     }
 }
 
 /// What the right one's has to begin with.
-pub fn wanted_right(operator: &Binary) -> Columns<'_>
+pub fn wanted_right(operator: &Binary) -> ColumnsSeen<'_>
     ensures { (places : OrderChoices) → order_along whole_rows (columns_seen result) places ≡ right_order (binary_of operator.now) places }
 {
     match operator {
-        Binary::MergeJoin(on) => Columns::Rights(on.as_slice()),
-        Binary::Union | Binary::HashJoin(_) => Columns::Listed(&[]),
+        Binary::MergeJoin(on) => ColumnsSeen::Rights(on.as_slice()),
+        Binary::Union | Binary::HashJoin(_) => ColumnsSeen::Listed(&[]),
     }
 }

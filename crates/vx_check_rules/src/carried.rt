@@ -11,7 +11,7 @@ ghost use Rattle.vx_check_rules.specs.WayView.{part_seen, ways_in};
 ghost use Rattle.vx_check_rules.specs.Seen.{columns_seen};
 ghost use Rattle.vx_check_rules.specs.SortedView.{sortings_in};
 
-use crate::columns::Columns;
+use crate::columns::ColumnsSeen;
 use crate::nodes::has_one_worker;
 use crate::parts::PartSeen;
 use crate::places::{have_places, put_places};
@@ -26,7 +26,7 @@ fn routed_at(
     alloc: Global,
     route: &Route,
     copying: Copying<'_>,
-    columns: Columns<'_>,
+    columns: ColumnsSeen<'_>,
 ) -> Result<Part, AllocError>
     ensures { IfOk result (λ p. part_of p ≡ routed_at (route_of route.now) (places (copying_of copying.entry) (columns_seen columns.entry))) }
 {
@@ -51,7 +51,7 @@ fn part_up(
         PartSeen::Any => Ok(Some(Part::Any)),
         PartSeen::All => Ok(Some(Part::All)),
         PartSeen::Routed(route, columns) => {
-            let part = routed_at(alloc, route, copying, Columns::Listed(columns))?;
+            let part = routed_at(alloc, route, copying, ColumnsSeen::Listed(columns))?;
             Ok(Some(part))
         }
     }
@@ -87,7 +87,11 @@ fn first_order(alloc: Global, sortings: &[Option<Sorted<'_>>]) -> Result<Vec<usi
     for sorting in sortings {
         if let Some(sorted) = *sorting {
             let mut found = Vec::new(alloc);
-            put_places(&mut found, sorted.copying, Columns::Listed(sorted.order))?;
+            put_places(
+                &mut found,
+                sorted.copying,
+                ColumnsSeen::Listed(sorted.order),
+            )?;
             return Ok(found);
         }
     }

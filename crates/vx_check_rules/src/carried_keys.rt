@@ -8,7 +8,7 @@ ghost use Rattle.vx_check_rules.specs.Behaviour.{front_places, kept_keys, first_
 ghost use Rattle.vx_check_rules.specs.KeyedView.{copied_keys, keyed_in};
 ghost use Rattle.vx_check_rules.specs.Seen.{columns_seen};
 
-use crate::columns::Columns;
+use crate::columns::ColumnsSeen;
 use crate::keyed::{CopiedKeys, Keyed, node_keyed};
 use crate::places::{have_places, put_places};
 use std::alloc::{AllocError, Global};
@@ -33,7 +33,7 @@ fn put_kept(alloc: Global, keys: &mut Keys, from: CopiedKeys<'_>) -> Result<(), 
 }
 
 // The first of them.
-fn first_kept<'p>(from: CopiedKeys<'p>) -> Option<Columns<'p>>
+fn first_kept<'p>(from: CopiedKeys<'p>) -> Option<ColumnsSeen<'p>>
     ensures { option_map (λ cols. front_places (copied_keys from.entry).0 (columns_seen cols)) result ≡ slice_get (kept_keys (copied_keys from.entry).0 (copied_keys from.entry).1) 0 }
 {
     for place in 0..from.keys.count() {

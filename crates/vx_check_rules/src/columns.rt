@@ -6,24 +6,24 @@ ghost use Rattle.vx_check_rules.specs.Seen.{columns_seen};
 
 /// The columns of a list, those of one input in the pairs of a join, or the first ones.
 #[derive(Clone, Copy)]
-pub enum Columns<'p> {
+pub enum ColumnsSeen<'p> {
     Listed(&'p [usize]),
     Lefts(&'p [(usize, usize)]),
     Rights(&'p [(usize, usize)]),
-    /// So many.
+    /// The columns from 0 up to this number.
     First(usize),
 }
 
-impl Columns<'_> {
+impl ColumnsSeen<'_> {
     /// How many they are.
     #[tactic(auto, using(crate::proofs::ColumnFacts::first_length))]
     pub fn len(self) -> usize
         ensures { result ≡ length (columns_seen self.entry) }
     {
         match self {
-            Columns::Listed(columns) => columns.len(),
-            Columns::Lefts(on) | Columns::Rights(on) => on.len(),
-            Columns::First(count) => count,
+            ColumnsSeen::Listed(columns) => columns.len(),
+            ColumnsSeen::Lefts(on) | ColumnsSeen::Rights(on) => on.len(),
+            ColumnsSeen::First(count) => count,
         }
     }
 
@@ -33,10 +33,10 @@ impl Columns<'_> {
         ensures { result ≡ slice_index_or (columns_seen self.entry) place 0 }
     {
         match self {
-            Columns::Listed(columns) => columns[place],
-            Columns::Lefts(on) => on[place].0,
-            Columns::Rights(on) => on[place].1,
-            Columns::First(_) => place,
+            ColumnsSeen::Listed(columns) => columns[place],
+            ColumnsSeen::Lefts(on) => on[place].0,
+            ColumnsSeen::Rights(on) => on[place].1,
+            ColumnsSeen::First(_) => place,
         }
     }
 

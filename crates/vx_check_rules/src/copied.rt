@@ -8,7 +8,7 @@ ghost use Rattle.vx_check_rules.specs.Behaviour.{is_column, has_copy};
 ghost use Rattle.vx_check_rules.specs.Copied.{LowCopies};
 ghost use Rattle.vx_check_rules.specs.Seen.{columns_seen};
 
-use crate::columns::Columns;
+use crate::columns::ColumnsSeen;
 use vx_plan_nodes::Copying;
 
 // How many columns have a bit.
@@ -19,7 +19,7 @@ const LOW: usize = 64;
 #[derive(Drop)]
 pub(crate) struct CopiedColumns<'a> {
     copying: Copying<'a>,
-    columns: Columns<'a>,
+    columns: ColumnsSeen<'a>,
     low: u64,
     ghost bits: { LowCopies (has_copy (copying_of copying) (columns_seen columns)) low },
 }
@@ -35,7 +35,7 @@ fn with_bit(low: u64, input: Option<usize>) -> u64
 }
 
 // A bit for each of the first input columns that has a copy.
-fn bits_of(copying: Copying<'_>, columns: Columns<'_>) -> u64
+fn bits_of(copying: Copying<'_>, columns: ColumnsSeen<'_>) -> u64
     ensures { LowCopies (has_copy (copying_of copying.entry) (columns_seen columns.entry)) result }
 {
     let mut low = 0;
@@ -57,7 +57,7 @@ fn is_column(source: Option<usize>, column: usize) -> bool
 
 impl<'a> CopiedColumns<'a> {
     /// Of which these output columns have copies.
-    pub fn of(copying: Copying<'a>, columns: Columns<'a>) -> CopiedColumns<'a>
+    pub fn of(copying: Copying<'a>, columns: ColumnsSeen<'a>) -> CopiedColumns<'a>
         ensures copying { result.copying ≡ copying.entry }
         ensures columns { result.columns ≡ columns.entry }
     {
@@ -84,7 +84,7 @@ impl<'a> CopiedColumns<'a> {
     }
 
     /// Whether each of these input columns has a copy.
-    pub fn has_all(&self, inputs: Columns<'_>) -> bool
+    pub fn has_all(&self, inputs: ColumnsSeen<'_>) -> bool
         ensures { result ≡ list_all (has_copy (copying_of self.now.copying) (columns_seen self.now.columns)) (columns_seen inputs.entry) }
     {
         for i in 0..inputs.len() {

@@ -12,7 +12,7 @@ ghost use Rattle.vx_check_rules.specs.Behaviour.{if_so, keyed_by, keyed_after, k
 ghost use Rattle.vx_check_rules.specs.KeyedView.{keys_seen, copied_keys, keyed_of, keyed_in, all_keyed_in};
 ghost use Rattle.vx_check_rules.specs.Seen.{columns_seen};
 
-use crate::columns::Columns;
+use crate::columns::ColumnsSeen;
 use crate::copied::CopiedColumns;
 use crate::nodes::claimed_keys;
 use vx_catalog_relations::{Catalog, Relation};
@@ -24,7 +24,7 @@ pub enum KeysSeen<'p> {
     Listed(&'p [Vec<usize>]),
     /// Those that a relation declares.
     Declared(&'p Relation),
-    /// The first columns, so many.
+    /// The columns from 0 up to this number.
     First(usize),
 }
 
@@ -55,21 +55,21 @@ impl<'p> KeysSeen<'p> {
     }
 
     /// The key at this place.
-    pub fn at(self, place: usize) -> Columns<'p>
+    pub fn at(self, place: usize) -> ColumnsSeen<'p>
         requires { place < length (keys_seen self) }
         ensures { columns_seen result ≡ slice_index_or (keys_seen self.entry) place (columns_seen result) }
     {
         match self {
-            KeysSeen::Listed(keys) => Columns::Listed(keys[place].as_slice()),
-            KeysSeen::Declared(relation) => Columns::Listed(relation.key(place)),
-            KeysSeen::First(count) => Columns::First(count),
+            KeysSeen::Listed(keys) => ColumnsSeen::Listed(keys[place].as_slice()),
+            KeysSeen::Declared(relation) => ColumnsSeen::Listed(relation.key(place)),
+            KeysSeen::First(count) => ColumnsSeen::First(count),
         }
     }
 }
 
 impl CopiedKeys<'_> {
     /// Whether the output columns contain copies of all columns of one of the keys.
-    pub fn have(self, columns: Columns<'_>) -> bool
+    pub fn have(self, columns: ColumnsSeen<'_>) -> bool
         ensures { result ≡ has_key (copied_keys self.entry).0 (copied_keys self.entry).1 (columns_seen columns.entry) }
     {
         let copied = CopiedColumns::of(self.copying, columns);
@@ -84,7 +84,7 @@ impl CopiedKeys<'_> {
 
 impl Keyed<'_> {
     /// Whether the output columns contain a key of each of the inputs.
-    pub fn give(self, columns: Columns<'_>) -> bool
+    pub fn give(self, columns: ColumnsSeen<'_>) -> bool
         ensures { result ≡ keys_give (keyed_of self.entry) (columns_seen columns.entry) }
     {
         if !self.first.have(columns) {
@@ -98,7 +98,7 @@ impl Keyed<'_> {
 }
 
 /// Whether the columns contain one of the keys.
-pub fn are_covered(keys: KeysSeen<'_>, columns: Columns<'_>) -> bool
+pub fn are_covered(keys: KeysSeen<'_>, columns: ColumnsSeen<'_>) -> bool
     ensures { result ≡ covers (keys_seen keys.entry) (columns_seen columns.entry) }
 {
     let copied = CopiedKeys {
@@ -196,8 +196,8 @@ fn keyed_over<'p>(
     let Some(on) = described.pairs else {
         return [None, None];
     };
-    let is_right_held = are_covered(KeysSeen::Listed(rights), Columns::Rights(on));
-    let is_left_held = are_covered(KeysSeen::Listed(lefts), Columns::Lefts(on));
+    let is_right_held = are_covered(KeysSeen::Listed(rights), ColumnsSeen::Rights(on));
+    let is_left_held = are_covered(KeysSeen::Listed(lefts), ColumnsSeen::Lefts(on));
     let behind = CopiedKeys {
         copying: described.right,
         keys: KeysSeen::Listed(rights),
@@ -251,7 +251,7 @@ fn is_given(keyed: Option<Keyed<'_>>, columns: &[usize]) -> bool
     ensures { result ≡ list_any (λ k. keys_give k columns.now) (keyed_in keyed.entry) }
 {
     match keyed {
-        Some(keyed) => keyed.give(Columns::Listed(columns)),
+        Some(keyed) => keyed.give(ColumnsSeen::Listed(columns)),
         None => false,
     }
 }

@@ -28,7 +28,7 @@ pub use carried::{node_order, node_part};
 pub use carried_keys::node_keys;
 pub use checked::CheckedPlan;
 pub use checking::check;
-pub use columns::Columns;
+pub use columns::ColumnsSeen;
 pub use inputs::do_sizes_match;
 pub use keyed::{CopiedKeys, Keyed, KeysSeen, are_covered, keyed_from, show_key};
 pub use laws::{

@@ -7,7 +7,7 @@ ghost use Rattle.vx_plan_nodes.specs.Outline.{claim_of, outline_of, plan_of};
 ghost use Rattle.vx_check_rules.specs.Rules.{covers, within, numbers_below, order_given, order_shown, is_total_order};
 ghost use Rattle.vx_plan_nodes.specs.Outputs.{HasOutputs};
 
-use crate::columns::Columns;
+use crate::columns::ColumnsSeen;
 use crate::keyed::{KeysSeen, are_covered};
 use crate::nodes::{claimed_order, width_of};
 use crate::sortings::{node_sortings, show_order};
@@ -21,11 +21,11 @@ pub fn is_order_given(node: &TypedNode) -> bool
 {
     match node {
         TypedNode::Binary(_, Binary::MergeJoin(on), left, right) => {
-            Columns::Lefts(on.as_slice()).begin(claimed_order(left))
-                && Columns::Rights(on.as_slice()).begin(claimed_order(right))
+            ColumnsSeen::Lefts(on.as_slice()).begin(claimed_order(left))
+                && ColumnsSeen::Rights(on.as_slice()).begin(claimed_order(right))
         }
         TypedNode::Exchange(_, exchange, input) => {
-            Columns::Listed(exchange.merge.as_slice()).begin(claimed_order(input))
+            ColumnsSeen::Listed(exchange.merge.as_slice()).begin(claimed_order(input))
         }
         _ => true,
     }
@@ -42,7 +42,7 @@ pub fn is_order_shown(catalog: &Catalog, node: &TypedNode) -> bool
 pub fn is_total(claim: &Claim, width: usize) -> bool
     ensures { result ≡ (covers (claim_of claim.now).keys (claim_of claim.now).order || within (numbers_below width) (claim_of claim.now).order) }
 {
-    let order = Columns::Listed(claim.order.as_slice());
+    let order = ColumnsSeen::Listed(claim.order.as_slice());
     are_covered(KeysSeen::Listed(claim.keys.as_slice()), order)
         || are_covered(KeysSeen::First(width), order)
 }

@@ -5,12 +5,12 @@ ghost use Rattle.vx_plan_nodes.specs.DescribeView.{copying_of};
 ghost use Rattle.vx_check_rules.specs.Behaviour.{places, front_places};
 ghost use Rattle.vx_check_rules.specs.Seen.{columns_seen};
 
-use crate::columns::Columns;
+use crate::columns::ColumnsSeen;
 use std::alloc::AllocError;
 use vx_plan_nodes::Copying;
 
 /// Whether each of these columns has a place.
-pub fn have_places(copying: Copying<'_>, columns: Columns<'_>) -> bool
+pub fn have_places(copying: Copying<'_>, columns: ColumnsSeen<'_>) -> bool
     ensures { result ≡ is_some (places (copying_of copying.entry) (columns_seen columns.entry)) }
 {
     for i in 0..columns.len() {
@@ -25,7 +25,7 @@ pub fn have_places(copying: Copying<'_>, columns: Columns<'_>) -> bool
 pub fn put_places(
     found: &mut Vec<usize>,
     copying: Copying<'_>,
-    columns: Columns<'_>,
+    columns: ColumnsSeen<'_>,
 ) -> Result<(), AllocError>
     ensures { OnOk result (found.new.items ≡ found.old.items ++ front_places (copying_of copying.entry) (columns_seen columns.entry)) }
 {

@@ -11,7 +11,7 @@ ghost use Rattle.vx_check_rules.specs.Rules.{rises_by, goes_on};
 ghost use Rattle.vx_check_rules.specs.Behaviour.{sorted_by, if_so, order_after, order_over, moved, behaviour, sorts};
 ghost use Rattle.vx_check_rules.specs.SortedView.{sorted_of, sorting_in, sortings_in};
 
-use crate::columns::Columns;
+use crate::columns::ColumnsSeen;
 use crate::nodes::{claimed_order, claimed_part, has_one_worker};
 use crate::sources::begin_with_copies;
 use vx_catalog_relations::Catalog;
@@ -98,7 +98,7 @@ pub fn rises_with_workers(part: &Part, order: &[usize]) -> bool
 {
     match part {
         Part::Routed(Route::Range(_), columns) => {
-            columns.len() == 1 && Columns::Listed(columns.as_slice()).begin(order)
+            columns.len() == 1 && ColumnsSeen::Listed(columns.as_slice()).begin(order)
         }
         Part::One | Part::Any | Part::All | Part::Routed(Route::Hash(_), _) => false,
     }

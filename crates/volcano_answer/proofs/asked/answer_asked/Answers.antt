@@ -29,7 +29,7 @@ returns-in_ok-report-in-Run-clause-answer g c =
     let same : asked_is c.args.asked.now ≡ run (paths_are c.in-Run.sources) c.in-Run.folder.now (given_is c.in-Run.given) = ap asked_is c.in-Run.is in
     let set : IsSetting (given_is c.in-Run.given) c.in-Some.setting = rw c.in-Some.is at c.in_ok-setting-in-Run.ensures in
     let report = c.in_ok-report-in-Run in
-    rw c.answer_of.ensures.is (one_reported (g.R.Runs.counted c.args.session.now.engine.now) (g.F.Store.holds c.args.files.now) (g.I.ByteIn.remaining c.args.input.now) c.args.form (asked_is c.args.asked.now)
+    rw c.answer_of.ensures.is (one_reported (g.R.Runs.counted c.args.services.now.engine.now) (g.F.Store.holds c.args.files.now) (g.I.ByteIn.remaining c.args.input.now) c.args.form (asked_is c.args.asked.now)
     (paths_are c.in-Run.sources) c.in-Run.folder.now (given_is c.in-Run.given) c.in-Some.setting report.report same set report.ensures.stats)
 
 pub returns-in_ok-report-in-RunPlans-clause-answer : goal.returns-in_ok-report-in-RunPlans-clause-answer
@@ -37,13 +37,13 @@ returns-in_ok-report-in-RunPlans-clause-answer g c =
     let same : asked_is c.args.asked.now ≡ run_plans (many_are c.in-RunPlans.sources) c.in-RunPlans.folder.now (given_is c.in-RunPlans.given) = ap asked_is c.in-RunPlans.is in
     let set : IsSetting (given_is c.in-RunPlans.given) c.in-Some-2.setting = rw c.in-Some-2.is at c.in_ok-setting-in-RunPlans.ensures in
     let report = c.in_ok-report-in-RunPlans in
-    rw c.answer_of-in-RunPlans.ensures.is (several_reported (g.R.Runs.counted c.args.session.now.engine.now) (g.F.Store.holds c.args.files.now) (g.I.ByteIn.remaining c.args.input.now) c.args.form
+    rw c.answer_of-in-RunPlans.ensures.is (several_reported (g.R.Runs.counted c.args.services.now.engine.now) (g.F.Store.holds c.args.files.now) (g.I.ByteIn.remaining c.args.input.now) c.args.form
     (asked_is c.args.asked.now) (many_are c.in-RunPlans.sources) c.in-RunPlans.folder.now (given_is c.in-RunPlans.given) c.in-Some-2.setting report.report same set report.ensures.stats)
 
 pub returns-in_ok-made-in-Bundle-clause-answer : goal.returns-in_ok-made-in-Bundle-clause-answer
 returns-in_ok-made-in-Bundle-clause-answer g c =
     let same : asked_is c.args.asked.now ≡ bundle = ap asked_is c.in-Bundle.is in
-    rw c.answer_made.ensures.is (bundle_reported (g.R.Runs.counted c.args.session.now.engine.now) (g.F.Store.holds c.args.files.now) (g.I.ByteIn.remaining c.args.input.now) c.args.form (asked_is c.args.asked.now)
+    rw c.answer_made.ensures.is (bundle_reported (g.R.Runs.counted c.args.services.now.engine.now) (g.F.Store.holds c.args.files.now) (g.I.ByteIn.remaining c.args.input.now) c.args.form (asked_is c.args.asked.now)
     c.in_ok-made-in-Bundle.made same c.in_ok-made-in-Bundle.ensures.text c.in_ok-made-in-Bundle.ensures.run)
 
 pub returns-in_ok-made-in-Bundle-clause-stats : goal.returns-in_ok-made-in-Bundle-clause-stats

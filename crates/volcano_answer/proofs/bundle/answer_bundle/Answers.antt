@@ -20,7 +20,7 @@ returns-clause-text g c =
 pub returns-clause-run : goal.returns-clause-run
 returns-clause-run g c =
     let run = rw (c.command-command.ensures, c.setting-setting.ensures) at c.execute.ensures.run in
-    bundle_run (g.R.Runs.counted c.args.session.now.engine.now) c.args.form c.execute.result (bundle_form c.args.bundle.now) c.in_ok-plan.plan (phases_of (times_in c.args.timer.now))
+    bundle_run (g.R.Runs.counted c.args.services.now.engine.now) c.args.form c.execute.result (bundle_form c.args.bundle.now) c.in_ok-plan.plan (phases_of (times_in c.args.timer.now))
     (phases_of (times_in c.end.new.self)) c.in_ok-plan.ensures.planned c.in_ok-end.ensures run
 
 pub returns-clause-refused : goal.returns-clause-refused

@@ -15,7 +15,7 @@ returns-in-Ok-Some-clause-answer g c =
       unrefused = rw all at c.in-Ok-Some.ensures.faults;
       asked = sym (rw (c.in-Ok-Some.field-0-is, all) at c.in-Ok-Some.ensures.asked);
     } in
-    arguments_answer (g.R.Runs.counted c.args.session.now.engine.now) (g.F.Store.holds c.args.files.now) (g.I.ByteIn.remaining c.args.input.now) arguments (asked_is c.in-Ok-Some.request.asked) c.answer_request.result asked c.answer_request.ensures.answer
+    arguments_answer (g.R.Runs.counted c.args.services.now.engine.now) (g.F.Store.holds c.args.files.now) (g.I.ByteIn.remaining c.args.input.now) arguments (asked_is c.in-Ok-Some.request.asked) c.answer_request.result asked c.answer_request.ensures.answer
 
 pub returns-in-Ok-Some-clause-refused : goal.returns-in-Ok-Some-clause-refused
 returns-in-Ok-Some-clause-refused g c =
@@ -33,7 +33,7 @@ pub returns-clause-answer : goal.returns-clause-answer
 returns-clause-answer g c =
     let arguments = map (λ a. a.now) c.args.arguments.now in
     let all : map (λ a. a.now) c.as_slice.result.now ≡ with_program_name arguments = ap (map (λ a. a.now)) c.as_slice.ensures.value ∙ c.in_ok-arguments.ensures in
-    clap_answer (g.R.Runs.counted c.args.session.now.engine.now) (g.F.Store.holds c.args.files.now) (g.I.ByteIn.remaining c.args.input.now) arguments c.in-Err.error c.help_or_fault.result
+    clap_answer (g.R.Runs.counted c.args.services.now.engine.now) (g.F.Store.holds c.args.files.now) (g.I.ByteIn.remaining c.args.input.now) arguments c.in-Err.error c.help_or_fault.result
     (rw all at c.in-Err.ensures.faults) c.help_or_fault.ensures.help
 
 pub returns-clause-refused : goal.returns-clause-refused

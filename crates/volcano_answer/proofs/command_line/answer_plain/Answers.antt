@@ -52,7 +52,7 @@ returns-in-Some-Verdict g c =
     let is : IsJob (asked_is c.args.asked.now) (asked_job.Verdict c.in-Some-Verdict.sources) = rw (c.in-Some-Verdict.is, c.in-Some-Verdict.field-0-is) at c.job_in.ensures in
     let files = g.F.Store.holds c.args.files.now in
     let input = g.I.ByteIn.remaining c.args.input.now in
-    let Answers : Ask → Type 0 = λ ask. IfOk c.answer_verdict.result (λ a. IsAskAnswer (g.R.Runs.counted c.args.session.now.engine.now) files input ask a) in
+    let Answers : Ask → Type 0 = λ ask. IfOk c.answer_verdict.result (λ a. IsAskAnswer (g.R.Runs.counted c.args.services.now.engine.now) files input ask a) in
     let Refuses : Ask → Type 0 = λ ask. IfErr c.answer_verdict.result (IsAskFault files (g.F.Store.is_reliable c.args.files.now) input (g.I.ByteIn.has_failed c.answer_verdict.new.input) ask) in
     record { answer = subst Answers (sym is) c.answer_verdict.ensures.answer; no_stats = c.answer_verdict.ensures.no_stats; refused = subst Refuses (sym is) c.answer_verdict.ensures.refused }
 
@@ -72,6 +72,6 @@ returns-in-Some-Drawing g c =
     let is : IsJob (asked_is c.args.asked.now) (asked_job.Drawing c.in-Some-Drawing.sources c.in-Some-Drawing.stats) = rw (c.in-Some-Drawing.is, c.in-Some-Drawing.field-0-is) at c.job_in.ensures in
     let files = g.F.Store.holds c.args.files.now in
     let input = g.I.ByteIn.remaining c.args.input.now in
-    let Answers : Ask → Type 0 = λ ask. IfOk c.answer_drawing.result (λ a. IsAskAnswer (g.R.Runs.counted c.args.session.now.engine.now) files input ask a) in
+    let Answers : Ask → Type 0 = λ ask. IfOk c.answer_drawing.result (λ a. IsAskAnswer (g.R.Runs.counted c.args.services.now.engine.now) files input ask a) in
     let Refuses : Ask → Type 0 = λ ask. IfErr c.answer_drawing.result (IsAskFault files (g.F.Store.is_reliable c.args.files.now) input (g.I.ByteIn.has_failed c.answer_drawing.new.input) ask) in
     record { answer = subst Answers (sym is) c.answer_drawing.ensures.answer; no_stats = c.answer_drawing.ensures.no_stats; refused = subst Refuses (sym is) c.answer_drawing.ensures.refused }

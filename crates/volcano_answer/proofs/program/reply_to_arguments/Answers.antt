@@ -103,7 +103,7 @@ returns-in-Ok-Counted-clause-stats g c = λ zero whole f ask asked run stats.
     let answers = rw c.in-Ok-Counted.field-0-is at c.in-Ok-Counted.ensures.answer in
     let form = rw c.in-Ok-Counted.field-0-is at (c.in-Ok-Counted.ensures.stats f ask asked run stats) in
     let reported = c.write_counted.ensures.stats zero whole in
-    let P : StatsForm → Type 0 = λ f. (text : List ℕ) × (stats : List ℕ) × AreStatsOf (g.R.Runs.counted c.args.session.now.engine.now) files input f arguments text stats
+    let P : StatsForm → Type 0 = λ f. (text : List ℕ) × (stats : List ℕ) × AreStatsOf (g.R.Runs.counted c.args.services.now.engine.now) files input f arguments text stats
     × Appends (g.O.ByteOut.contents c.args.out.now) (g.O.ByteOut.contents c.write_counted.new.out) text
     × Appends (g.E.ByteOut.contents c.args.err.now) (g.E.ByteOut.contents c.write_counted.new.err) stats in
     subst P form (

@@ -32,7 +32,7 @@ returns-in_ok-text_of-in-Done-clause-run g c = λ f asked.
     let p = typed_plan c.args.plan.now in
     let db = c.args.database.now in
     let setting = c.args.setting.now in
-    let Counted = g.R.Runs.counted c.args.session.now.engine.now in
+    let Counted = g.R.Runs.counted c.args.services.now.engine.now in
     let done = subst (λ (r : RunOutcome). IfDone (λ rows. (s : Sizes) × IsSetUp (resolved_of p) db setting.setup s × IsRunOf byte_route (resolved_of p) db s.worker_groups rows) r) c.in-Done.is c.in_ok-rows.ensures.promise.done in
     record {
       rows = c.in-Done.rows;

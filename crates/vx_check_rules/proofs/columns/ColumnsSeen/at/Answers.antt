@@ -1,6 +1,6 @@
 use Rattle.std.proofs.Common.{◌<◌, sym}
 use Rattle.vx_check_rules.proofs.ColumnFacts.{first_at, first_length}
-use Rattle.vx_check_rules.proofs.columns.Columns.at.Goals as goal
+use Rattle.vx_check_rules.proofs.columns.ColumnsSeen.at.Goals as goal
 
 pub returns-in-First : goal.returns-in-First
 returns-in-First c =

@@ -8,7 +8,7 @@ use vx_rows_values::KeySeed;
 
 /// What all answers of one call are made with.
 #[derive(Clone, Copy)]
-pub struct Session<'a, T, R, C> {
+pub struct Services<'a, T, R, C> {
     /// Starts threads.
     pub rt: &'a T,
     /// Runs plans.
@@ -22,7 +22,7 @@ pub struct Session<'a, T, R, C> {
     pub threads: usize,
 }
 
-impl<'a, T, R, C> Session<'a, T, R, C> {
+impl<'a, T, R, C> Services<'a, T, R, C> {
     /// Where one thread loads each table and makes the text of rows.
     pub fn new(
         rt: &'a T,
@@ -30,10 +30,10 @@ impl<'a, T, R, C> Session<'a, T, R, C> {
         clock: &'a C,
         alloc: Global,
         seed: KeySeed,
-    ) -> Session<'a, T, R, C>
+    ) -> Services<'a, T, R, C>
         ensures { result.engine.now ≡ engine.now }
     {
-        Session {
+        Services {
             rt,
             engine,
             clock,
@@ -52,11 +52,11 @@ impl<'a, T, R, C> Session<'a, T, R, C> {
         }
     }
 
-    /// The same session with up to `threads` threads.
-    pub fn with_threads(&self, threads: usize) -> Session<'a, T, R, C>
+    /// These services with up to `threads` threads.
+    pub fn with_threads(&self, threads: usize) -> Services<'a, T, R, C>
         ensures { result.engine.now ≡ self.now.engine.now }
     {
-        Session {
+        Services {
             rt: self.rt,
             engine: self.engine,
             clock: self.clock,
