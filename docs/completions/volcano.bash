@@ -1,4 +1,14 @@
 # Completion of volcano for bash. Made by tools/make-manual of the texts in crates/volcano_arguments/src/command_line.rt: change them there.
+# The sizes that the first plan of the command line declares, each with its sign.
+_volcano_sizes() {
+    local at
+    for ((at = 2; at < COMP_CWORD; at++)); do
+        [[ ${COMP_WORDS[at]} == --plan ]] || continue
+        [[ ${COMP_WORDS[at + 1]} == = ]] && at=$((at + 1))
+        tr '\n' ' ' 2> /dev/null < "${COMP_WORDS[at + 1]}" | sed -n 's/.*"sizes" *: *\[\([^]]*\)\].*/\1/p' | tr -d '" \t' | tr ',' '\n' | sed 's/$/=/'
+        return
+    done
+}
 _volcano() {
     local word=${COMP_WORDS[COMP_CWORD]} before=${COMP_WORDS[COMP_CWORD - 1]} options='' words='' option
     # `--mode=rounds` comes as three words.
@@ -13,13 +23,13 @@ _volcano() {
         return
     fi
     case ${COMP_WORDS[1]} in
-        run) options='--catalog --data --packet --morsel --slack --mode --threads --quiet --stats --verbose-errors --help' words='--plan' ;;
+        run) options='--catalog --data --packet --morsel --slack --mode --threads --quiet --stats --verbose-errors --help' words='--plan' words+=" $(_volcano_sizes)" ;;
         serial) options='--catalog --plan --data --threads --quiet --verbose-errors --help' ;;
         check) options='--catalog --plan --all --verbose-errors --help' ;;
         explain) options='--catalog --plan --format --stats --verbose-errors --help' ;;
         annotate) options='--catalog --plan --verbose-errors --help' ;;
         sql) options='--catalog --plan --dialect --verbose-errors --help' ;;
-        why) options='--help' words='C1 C2 C3 C4 C5 C6 C7 C8 C9 C10 C11 C12 K1 K2 K3 K4 K5 K6 K7 K8 K9 P1 P2 P3 P4 P5 P6 P7 P8 P9 P10 P11 P12 P13 V1 V2 V3 V4 V5 V6 X1 X2 X3 X4 X5 X6 X7 X8 X9 X10 X11 X12 X13 X14' ;;
+        why) options='--help' words='C1 C2 C3 C4 C5 C6 C7 C8 C9 C10 C11 C12 K1 K2 K3 K4 K5 K6 K7 K8 K9 P1 P2 P3 P4 P5 P6 P7 P8 P9 P10 P11 P12 P13 V1 V2 V3 V4 V5 V6 X1 X2 X3 X4 X5 X6 X7 X8 X9 X10 X11 X12 X13 X14' word=${word^^} ;;
         gen) options='--rows --help' ;;
         bundle) options='--threads --stats --help' ;;
         help) words='run serial check explain annotate sql why gen bundle' ;;
@@ -58,5 +68,9 @@ _volcano() {
         [[ " ${COMP_WORDS[*]:0:COMP_CWORD} " == *" $option "* ]] || words+=" $option"
     done
     mapfile -t COMPREPLY < <(compgen -W "$words" -- "$word")
+    # A size goes on behind its sign.
+    if [[ ${#COMPREPLY[@]} == 1 && ${COMPREPLY[0]} == *= ]]; then
+        compopt -o nospace
+    fi
 }
 complete -F _volcano volcano
