@@ -83,16 +83,16 @@ impl Sends for Collector {
                     self.takes_more = false;
                     return Err(refused);
                 }
-                Ok(())
+                return Ok(());
             }
-            Polled::Waiting => Ok(()),
+            Polled::Waiting => return Ok(()),
             Polled::End => {
                 self.takes_more = false;
-                Ok(())
+                return Ok(());
             }
             Polled::Fault(_) => {
                 self.takes_more = false;
-                Ok(())
+                return Ok(());
             }
         }
     }

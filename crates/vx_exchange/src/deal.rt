@@ -205,23 +205,23 @@ pub fn deal_rows<R: Router>(
     match deal {
         Deal::Route(_, route) => {
             deal_by_route(alloc, route, lanes, router, &rows, scratch)?;
-            Ok(())
+            return Ok(());
         }
         Deal::Round(_) => {
             deal_in_turn(alloc, next, lanes, &rows, scratch)?;
-            Ok(())
+            return Ok(());
         }
         Deal::Broadcast(_) => {
             deal_to_each(alloc, lanes, &rows)?;
-            Ok(())
+            return Ok(());
         }
         Deal::Gather => {
             deal_to_one(lanes, rows)?;
-            Ok(())
+            return Ok(());
         }
         Deal::Concat => {
             deal_to_one(lanes, rows)?;
-            Ok(())
+            return Ok(());
         }
     }
 }

@@ -106,8 +106,8 @@ impl Lane {
     {
         let packet = Packet::of_rows(self.exchange, self.place, self.consumer, rows);
         match self.ready.push_back(packet) {
-            Ok(()) => Ok(()),
-            Err(_) => Err(AllocError),
+            Ok(()) => return Ok(()),
+            Err(_) => return Err(AllocError),
         }
     }
 

@@ -107,11 +107,11 @@ impl Receiver {
         match next_unset(self.ended.as_slice(), self.next + 1) {
             Some(i) => {
                 self.next = i;
-                Polled::Waiting
+                return Polled::Waiting;
             }
             None => {
                 self.over = StreamState::Ended;
-                Polled::End
+                return Polled::End;
             }
         }
     }
@@ -137,12 +137,12 @@ impl Receiver {
         match packet.into_body() {
             Body::Rows(rows) => {
                 self.move_on();
-                Polled::Gave(rows)
+                return Polled::Gave(rows);
             }
-            Body::End(StreamEnd::Last) => self.end_producer(),
+            Body::End(StreamEnd::Last) => return self.end_producer(),
             Body::End(StreamEnd::Fault) => {
                 self.over = StreamState::Failed(Fault::Passed);
-                Polled::Fault(Fault::Passed)
+                return Polled::Fault(Fault::Passed);
             }
         }
     }

@@ -107,9 +107,11 @@ impl KeyRoute {
         match self {
             KeyRoute::Hash(name, columns) => {
                 set_key(alloc, key, chunk, i, columns.as_slice())?;
-                Ok(router.route(name.as_str(), key.as_slice(), n))
+                return Ok(router.route(name.as_str(), key.as_slice(), n));
             }
-            KeyRoute::Range(_, ranges, column) => { Ok(ranges.consumer(chunk.cell(i, *column), n)) }
+            KeyRoute::Range(_, ranges, column) => {
+                return Ok(ranges.consumer(chunk.cell(i, *column), n));
+            }
         }
     }
 

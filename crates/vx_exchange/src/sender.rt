@@ -142,17 +142,17 @@ impl Sender {
                     rows,
                 )?;
                 self.next = turn(self.next, count, self.lanes.len() as u32);
-                Ok(())
+                return Ok(());
             }
-            Polled::Waiting => Ok(()),
+            Polled::Waiting => return Ok(()),
             Polled::End => {
                 finish_lanes(&mut self.lanes)?;
                 self.stage = SenderState::Ending;
-                Ok(())
+                return Ok(());
             }
             Polled::Fault(_) => {
                 self.fail();
-                Ok(())
+                return Ok(());
             }
         }
     }
@@ -192,24 +192,24 @@ impl Sends for Sender {
 
     fn accept<R: Router>(&mut self, router: &R, polled: Polled) -> Result<(), AllocError> {
         match self.take(router, polled) {
-            Ok(()) => Ok(()),
+            Ok(()) => return Ok(()),
             Err(refused) => {
                 self.fail();
-                Err(refused)
+                return Err(refused);
             }
         }
     }
 
     fn next(&mut self) -> Option<(u32, Packet)> {
         match self.stage {
-            SenderState::Open => next_packet(&mut self.lanes),
+            SenderState::Open => return next_packet(&mut self.lanes),
             SenderState::Ending => {
                 if let Some((to, packet)) = next_packet(&mut self.lanes) {
                     return Some((to, packet));
                 }
-                close_next(&mut self.lanes, StreamEnd::Last)
+                return close_next(&mut self.lanes, StreamEnd::Last);
             }
-            SenderState::Failing => close_next(&mut self.lanes, StreamEnd::Fault),
+            SenderState::Failing => return close_next(&mut self.lanes, StreamEnd::Fault),
         }
     }
 }

@@ -26,16 +26,16 @@ fn add_lines(lines: &mut Vec<NodeCounts>, tree: &Tree<Operator>) -> Result<(), A
     match tree {
         Tree::Leaf(_, operator) => {
             lines.push(line_of(operator))?;
-            Ok(())
+            return Ok(());
         }
         Tree::One(operator, below) => {
             lines.push(line_of(operator))?;
-            add_lines(lines, below)
+            return add_lines(lines, below);
         }
         Tree::Two(operator, left, right) => {
             lines.push(line_of(operator))?;
             add_lines(lines, left)?;
-            add_lines(lines, right)
+            return add_lines(lines, right);
         }
     }
 }

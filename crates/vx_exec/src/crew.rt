@@ -87,17 +87,17 @@ fn add_below(
     ensures new { OnOk result (All (IsNew job.now) crew.new.items) }
 {
     match node {
-        TypedNode::Scan(_, _) => Ok(()),
-        TypedNode::Unary(_, _, input) => add_below(crew, alloc, job, input),
+        TypedNode::Scan(_, _) => return Ok(()),
+        TypedNode::Unary(_, _, input) => return add_below(crew, alloc, job, input),
         TypedNode::Binary(_, _, left, right) => {
             add_below(crew, alloc, job, left)?;
             add_below(crew, alloc, job, right)?;
-            Ok(())
+            return Ok(());
         }
         TypedNode::Exchange(head, exchange, input) => {
             add_producers(crew, alloc, job, head.number, &exchange.kind, input)?;
             add_below(crew, alloc, job, input)?;
-            Ok(())
+            return Ok(());
         }
     }
 }

@@ -81,9 +81,9 @@ pub fn answer_of(
     ensures { ComesTo workers.items verdict result }
 {
     match verdict {
-        RunState::Done => Ok(RunOutcome::Done(rows_of_root(workers))),
-        RunState::Unfinished => Ok(RunOutcome::Unfinished),
-        RunState::Failed(fault) => Err(fault_of(fault)),
+        RunState::Done => return Ok(RunOutcome::Done(rows_of_root(workers))),
+        RunState::Unfinished => return Ok(RunOutcome::Unfinished),
+        RunState::Failed(fault) => return Err(fault_of(fault)),
     }
 }
 
@@ -130,8 +130,8 @@ fn schedule_job<R: Router>(
     let crew = Crew::new(alloc, job)?;
     let (mut workers, mut links) = crew.into_parts();
     match judge_schedule(&mut workers, job, router, &mut links, steps) {
-        Err(index) => Err(RunFault::BadStep { index }),
-        Ok(verdict) => answer_of(workers, verdict),
+        Err(index) => return Err(RunFault::BadStep { index }),
+        Ok(verdict) => return answer_of(workers, verdict),
     }
 }
 

@@ -57,15 +57,15 @@ fn add_inputs(
     ensures sources { OnOk result (map source_of inputs.new.items ≡ map source_of inputs.old.items ++ inputs_of (worker_group_at job.now.layout.worker_groups.items) (plan_of node.now)) }
 {
     match node {
-        TypedNode::Scan(_, _) => Ok(()),
-        TypedNode::Unary(_, _, input) => add_inputs(inputs, job, input),
+        TypedNode::Scan(_, _) => return Ok(()),
+        TypedNode::Unary(_, _, input) => return add_inputs(inputs, job, input),
         TypedNode::Binary(_, _, left, right) => {
             add_inputs(inputs, job, left)?;
-            add_inputs(inputs, job, right)
+            return add_inputs(inputs, job, right);
         }
         TypedNode::Exchange(head, _, input) => {
             let count = job.workers(input.size());
-            push_inputs(inputs, head.number, count)
+            return push_inputs(inputs, head.number, count);
         }
     }
 }

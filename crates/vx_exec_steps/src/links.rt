@@ -79,9 +79,9 @@ impl Links {
                 if self.sends[producer] != exchange || producer >= self.ports.len() {
                     return None;
                 }
-                Some((producer, self.turn - above))
+                return Some((producer, self.turn - above));
             }
-            _ => None,
+            _ => return None,
         }
     }
 }
@@ -108,10 +108,10 @@ impl Wires for Links {
 
     fn take(&mut self, exchange: u32, from: u32) -> Result<Option<Packet>, AllocError> {
         match self.way(exchange, from) {
-            None => Ok(None),
+            None => return Ok(None),
             Some((producer, consumer)) => match self.ports[producer].take(consumer) {
-                None => Ok(None),
-                Some(packet) => Ok(Some(packet)),
+                None => return Ok(None),
+                Some(packet) => return Ok(Some(packet)),
             },
         }
     }

@@ -23,10 +23,10 @@ impl Station {
         ensures { StationDraws self.old worker result self.new }
     {
         match self {
-            Station::Inner => None,
-            Station::Exchange { below: _, above: _ } => None,
-            Station::Shared(scan) => scan.draw(worker),
-            Station::Whole(scan) => scan.draw(worker),
+            Station::Inner => return None,
+            Station::Exchange { below: _, above: _ } => return None,
+            Station::Shared(scan) => return scan.draw(worker),
+            Station::Whole(scan) => return scan.draw(worker),
         }
     }
 }

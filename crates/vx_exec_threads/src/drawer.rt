@@ -28,9 +28,9 @@ impl Dealer {
         match self {
             Dealer::Seat(deck, seat) => {
                 let deck = *deck;
-                decks[deck].draw(seat)
+                return decks[deck].draw(seat);
             }
-            Dealer::Hand(hand) => hand.draw(),
+            Dealer::Hand(hand) => return hand.draw(),
         }
     }
 }

@@ -118,10 +118,10 @@ impl Ends {
         ensures draws { self.new.draws ≡ self.old.draws }
     {
         match self.inlet_of(exchange, from) {
-            None => None,
+            None => return None,
             Some(k) => {
                 self.first = k.saturating_sub(from as usize);
-                self.ins[k].take(parkers)
+                return self.ins[k].take(parkers);
             }
         }
     }
@@ -163,8 +163,8 @@ impl Ends {
         ensures sits { All (Sits decks.now.items) self.new.draws.items }
     {
         match self.drawer_of(scan) {
-            None => None,
-            Some(k) => self.draws[k].draw(decks),
+            None => return None,
+            Some(k) => return self.draws[k].draw(decks),
         }
     }
 

@@ -86,12 +86,12 @@ impl Inlet {
     {
         self.queue.reserve(1)?;
         match self.pop(parkers) {
-            None => Ok(false),
+            None => return Ok(false),
             Some(packet) => {
                 let Ok(()) = self.queue.push_back(packet) else {
                     unreachable!()
                 };
-                Ok(true)
+                return Ok(true);
             }
         }
     }

@@ -71,13 +71,13 @@ impl<'d> ThreadWires<'d> {
         self.ends.wake_consumers(self.parkers);
         match self.room {
             Room::There => match self.ends.gather(self.parkers) {
-                Ok(moved) => moved,
+                Ok(moved) => return moved,
                 Err(_) => {
                     self.room = Room::Refused;
-                    true
+                    return true;
                 }
             },
-            Room::Refused | Room::Reported => false,
+            Room::Refused | Room::Reported => return false,
         }
     }
 
@@ -118,9 +118,9 @@ impl<'d> ThreadWires<'d> {
         match self.room {
             Room::Refused => {
                 self.room = Room::Reported;
-                Err(AllocError)
+                return Err(AllocError);
             }
-            Room::There | Room::Reported => Ok(()),
+            Room::There | Room::Reported => return Ok(()),
         }
     }
 }
@@ -158,8 +158,8 @@ impl<'d> Wires for ThreadWires<'d> {
             return self.ends.put(to, packet, self.parkers);
         }
         match self.report() {
-            Ok(()) => self.ends.put(to, packet, self.parkers),
-            Err(_) => Put::NoMemory(packet),
+            Ok(()) => return self.ends.put(to, packet, self.parkers),
+            Err(_) => return Put::NoMemory(packet),
         }
     }
 }

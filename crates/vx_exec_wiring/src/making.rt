@@ -145,14 +145,14 @@ impl Making {
         ensures { OnOk result (AddsSpan (counts_in morsels.now) span (made_of self.old) (made_of self.new)) }
     {
         match span {
-            NodeSpan::Inner => Ok(()),
+            NodeSpan::Inner => return Ok(()),
             NodeSpan::Exchange(exchange) => {
                 self.add_producers(alloc, exchange, slack)?;
-                Ok(())
+                return Ok(());
             }
             NodeSpan::Scan(scan) => {
                 self.add_scan(alloc, morsels, scan)?;
-                Ok(())
+                return Ok(());
             }
         }
     }

@@ -126,12 +126,12 @@ impl BuildRows {
         match self {
             BuildRows::One(chunk) => {
                 let found = Chunk::joined(alloc, left, lefts, chunk, rights)?;
-                joined.push(found)
+                return joined.push(found);
             }
             BuildRows::Several(parts) => {
                 let left = left.at(alloc, lefts)?;
                 let right = parts.rows.at(alloc, rights)?;
-                push_beside(alloc, joined, &left, &right)
+                return push_beside(alloc, joined, &left, &right);
             }
         }
     }

@@ -188,11 +188,11 @@ impl Intake {
         let ExchangeInput { exchange, from, .. } = self.inputs[place];
         self.next = place + 1;
         match wires.take(exchange, from) {
-            Err(_) => Drained::Nothing,
-            Ok(None) => Drained::Nothing,
+            Err(_) => return Drained::Nothing,
+            Ok(None) => return Drained::Nothing,
             Ok(Some(packet)) => {
                 self.note(exchange, from, &packet);
-                Drained::Dropped
+                return Drained::Dropped;
             }
         }
     }

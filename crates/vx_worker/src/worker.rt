@@ -179,9 +179,9 @@ impl<O: Source, S: Sends> Worker<O, S> {
         match self.advance(morsels, router, wires) {
             StepOutcome::Waiting => {
                 self.counts.add_wait();
-                StepOutcome::Waiting
+                return StepOutcome::Waiting;
             }
-            stepped => stepped,
+            stepped => return stepped,
         }
     }
 
@@ -247,14 +247,14 @@ impl<O: Source, S: Sends> Worker<O, S> {
         match self.sender.next() {
             Some(next) => {
                 self.pending = Some(next);
-                self.send(wires)
+                return self.send(wires);
             }
             None => {
                 if self.is_over {
                     self.phase = WorkerState::Well;
                     return StepOutcome::Ended;
                 }
-                self.pull(morsels, router, wires)
+                return self.pull(morsels, router, wires);
             }
         }
     }
@@ -283,13 +283,13 @@ impl<O: Source, S: Sends> Worker<O, S> {
             Some((to, packet)) => match wires.put(to, packet) {
                 Put::Done => {
                     self.counts.add_put();
-                    StepOutcome::Moved
+                    return StepOutcome::Moved;
                 }
                 Put::Full(packet) => {
                     self.pending = Some((to, packet));
-                    StepOutcome::Waiting
+                    return StepOutcome::Waiting;
                 }
-                Put::NoMemory(_) => self.fail(self.no_memory()),
+                Put::NoMemory(_) => return self.fail(self.no_memory()),
             },
         }
     }
@@ -320,23 +320,23 @@ impl<O: Source, S: Sends> Worker<O, S> {
     {
         let wish = self.tree.wants();
         match self.intake.fetch(wish, morsels, wires) {
-            Err(_) => self.fail(self.no_memory()),
+            Err(_) => return self.fail(self.no_memory()),
             Ok(got) => {
                 let nothing_came = matches!(got, Got::Packet(None));
                 match self.tree.turn(got) {
-                    Polled::Waiting if nothing_came => StepOutcome::Waiting,
-                    Polled::Waiting => StepOutcome::Moved,
-                    Polled::Fault(fault) => self.fail(fault),
+                    Polled::Waiting if nothing_came => return StepOutcome::Waiting,
+                    Polled::Waiting => return StepOutcome::Moved,
+                    Polled::Fault(fault) => return self.fail(fault),
                     Polled::Gave(rows) => match self.sender.accept(router, Polled::Gave(rows)) {
-                        Ok(()) => StepOutcome::Moved,
-                        Err(_) => self.fail(self.no_memory()),
+                        Ok(()) => return StepOutcome::Moved,
+                        Err(_) => return self.fail(self.no_memory()),
                     },
                     Polled::End => match self.sender.accept(router, Polled::End) {
                         Ok(()) => {
                             self.is_over = true;
-                            StepOutcome::Moved
+                            return StepOutcome::Moved;
                         }
-                        Err(_) => self.fail(self.no_memory()),
+                        Err(_) => return self.fail(self.no_memory()),
                     },
                 }
             }
@@ -390,16 +390,16 @@ impl<O: Source, S: Sends> Worker<O, S> {
         match self.next_closing() {
             None => {
                 self.phase = WorkerState::Draining(fault);
-                StepOutcome::Moved
+                return StepOutcome::Moved;
             }
             Some((to, packet)) => match wires.put(to, packet) {
                 Put::Done => {
                     self.counts.add_put();
-                    StepOutcome::Moved
+                    return StepOutcome::Moved;
                 }
                 Put::Full(refused) => {
                     self.pending = Some((to, refused));
-                    StepOutcome::Waiting
+                    return StepOutcome::Waiting;
                 }
                 Put::NoMemory(_) => unreachable!("a packet that closes is never refused"),
             },
@@ -423,10 +423,10 @@ impl<O: Source, S: Sends> Worker<O, S> {
         ensures phase { self.new.phase ≡ self.old.phase }
     {
         match self.pending.take() {
-            Some(next) => Some(next),
+            Some(next) => return Some(next),
             None => match self.closing.pop() {
-                Some(packet) => Some((packet.to(), packet)),
-                None => None,
+                Some(packet) => return Some((packet.to(), packet)),
+                None => return None,
             },
         }
     }
@@ -449,11 +449,11 @@ impl<O: Source, S: Sends> Worker<O, S> {
         ensures ended { (result ≡ StepOutcome.Ended) ↔ IsSome (outcome_of self.new) }
     {
         match self.intake.drain(wires) {
-            Drained::Dropped => StepOutcome::Moved,
-            Drained::Nothing => StepOutcome::Waiting,
+            Drained::Dropped => return StepOutcome::Moved,
+            Drained::Nothing => return StepOutcome::Waiting,
             Drained::All => {
                 self.phase = WorkerState::Failed(fault);
-                StepOutcome::Ended
+                return StepOutcome::Ended;
             }
         }
     }
