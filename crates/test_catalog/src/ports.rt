@@ -1,53 +1,78 @@
 //! Ports for bytes, over memory that fails at a byte and over readers and writers of std.
 
-use std::test::Fail;
+ghost use Rattle.std.specs.Prelude.{◌<◌, ◌≤◌, length};
+
+use crate::expect::{Wrong, expect, told};
+use std::alloc::Global;
 use vx_catalog_bytes::{
     Broken, ByteIn, ByteOut, MemoryIn, MemoryOut, ReadFault, Real, read_all, write_all,
 };
 
-#[test]
-fn bytes_are_read_whole_or_refused(rt: HostRuntime) -> Result<(), Fail> {
-    let alloc = rt.alloc();
-    let mut whole = MemoryIn::new(b"abcdef", None);
-    assert_eq!(rt;
-        read_all(alloc, &mut whole, 6)?.as_slice(),
-        b"abcdef".as_slice()
-    );
-    let mut large = MemoryIn::new(b"abcdef", None);
-    assert_eq!(rt;
-        read_all(alloc, &mut large, 5).err(),
-        Some(ReadFault::TooLarge)
-    );
-    let mut failing = MemoryIn::new(b"abcdef", Some(3));
-    assert_eq!(rt;
-        read_all(alloc, &mut failing, 6).err(),
-        Some(ReadFault::Broken)
-    );
-    assert!(rt; failing.failed());
-    assert_eq!(rt; failing.read(&mut [0]), Err(Broken));
+// Compares all bytes of the reader `reader`, of which there may be `limit`, with the text `wanted`.
+fn compare_read<R: ByteIn>(
+    alloc: Global,
+    reader: &mut R,
+    limit: usize,
+    wanted: &[u8],
+) -> Result<(), Wrong> {
+    match read_all(alloc, reader, limit) {
+        Ok(bytes) => expect(alloc, bytes.as_slice(), wanted, "read"),
+        Err(ReadFault::NoMemory) => Err(Wrong::NoMemory),
+        Err(ReadFault::Broken) => expect(alloc, b"Broken", wanted, "read"),
+        Err(ReadFault::TooLarge) => expect(alloc, b"TooLarge", wanted, "read"),
+    }
+}
+
+// A reader of the text `text` that fails after `count` bytes says so, and then in each call.
+fn compare_broken(alloc: Global, text: &[u8], count: usize) -> Result<(), Wrong> {
+    let mut reader = MemoryIn::new(text, Some(count));
+    compare_read(alloc, &mut reader, text.len(), b"Broken")?;
+    if !reader.failed() || reader.read(&mut [0]) != Err(Broken) {
+        return Err(told(alloc, "the reader goes on"));
+    }
     Ok(())
 }
 
-#[test]
-fn bytes_are_written_up_to_the_room(rt: HostRuntime) -> Result<(), Fail> {
-    let mut out = MemoryOut::new(rt.alloc(), 2, 5);
-    assert_eq!(rt; write_all(&mut out, b"abc"), Ok(()));
-    assert_eq!(rt; write_all(&mut out, b"def"), Err(Broken));
-    assert_eq!(rt; out.bytes(), b"abcde".as_slice());
-    assert_eq!(rt; out.write(b""), Err(Broken));
-    Ok(())
+/// Reads the bytes of the text `text`, which are the text `wanted`: all of them where as many are allowed, none where fewer
+/// are, or where the reader fails after some or after all.
+pub fn compare_reads(alloc: Global, text: &[u8], wanted: &[u8]) -> Result<(), Wrong> {
+    for count in 0..text.len() {
+        compare_read(alloc, &mut MemoryIn::new(text, None), count, b"TooLarge")?;
+        compare_broken(alloc, text, count)?;
+    }
+    compare_broken(alloc, text, text.len())?;
+    compare_read(alloc, &mut MemoryIn::new(text, None), text.len(), wanted)?;
+    compare_read(alloc, &mut Real::new(text), text.len(), wanted)
 }
 
-#[test]
-fn readers_and_writers_of_std_are_ports(rt: HostRuntime) -> Result<(), Fail> {
-    let alloc = rt.alloc();
-    let mut real_in = Real::new(b"abcdef".as_slice());
-    assert_eq!(rt;
-        read_all(alloc, &mut real_in, 6)?.as_slice(),
-        b"abcdef".as_slice()
-    );
-    let mut real_out = Real::new(Vec::new(alloc));
-    assert_eq!(rt; write_all(&mut real_out, b"abc"), Ok(()));
-    assert!(rt; !real_out.failed());
-    Ok(())
+// A writer with room for the first `room` bytes of the text `text` has these, says that it failed, and then says so in each
+// call.
+fn compare_room(alloc: Global, text: &[u8], room: usize) -> Result<(), Wrong>
+    requires { room ≤ length text.now }
+{
+    let mut writer = MemoryOut::new(alloc, 2, room);
+    if write_all(&mut writer, text) != Err(Broken) || !writer.failed() {
+        return Err(told(alloc, "all was written"));
+    }
+    if writer.write(b"") != Err(Broken) {
+        return Err(told(alloc, "the writer goes on"));
+    }
+    expect(alloc, writer.bytes(), &text[..room], "written")
+}
+
+/// Writes the bytes of the text `text`, which are the text `wanted`: with room for fewer the writer fails, and over a writer
+/// of std, and with room for all, it does not.
+pub fn compare_writes(alloc: Global, text: &[u8], wanted: &[u8]) -> Result<(), Wrong> {
+    for room in 0..text.len() {
+        compare_room(alloc, text, room)?;
+    }
+    let mut whole = MemoryOut::new(alloc, 2, text.len());
+    let mut real = Real::new(Vec::new(alloc));
+    if write_all(&mut whole, text) != Ok(()) || write_all(&mut real, text) != Ok(()) {
+        return Err(told(alloc, "a writer failed"));
+    }
+    if whole.failed() || real.failed() {
+        return Err(told(alloc, "a writer says that it failed"));
+    }
+    expect(alloc, whole.bytes(), wanted, "written")
 }

@@ -1,6 +1,0 @@
-use Rattle.std.proofs.Common.{◌≡◌, [], ◌∷◌}
-use Rattle.vx_rows_values.specs.declared.value.ColType.TheVariants as kind
-use Rattle.test_writing.proofs.texts.worked.Given as goal
-
-abbrev pub invariant-loop-entry : goal.invariant-loop-entry
-invariant-loop-entry l = l.rows.types ≡ kind.Int ∷ kind.Text ∷ []
