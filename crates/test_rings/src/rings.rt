@@ -1,108 +1,90 @@
-//! Packets that go through a ring.
+//! A ring in one thread, step by step.
 
+ghost use Rattle.vx_ports_rings.specs.Ends.{IsRing, SameIn, SameOut};
+
+use crate::packets::{closing, packet};
 use std::alloc::{AllocError, Global};
-use std::test::Fail;
-use vx_ports::{InPort, OutPort, Packet, Put, StreamEnd};
+use std::sync::Arc;
+use vx_ports::{InPort, OutPort, Packet, Put};
 use vx_ports_rings::{RingIn, RingOut, reunite, ring_pair};
 use vx_rows::Table;
-use vx_rows_values::{ColType, Value};
-use vx_rows_views::Rows;
 
-// What came of a put: nothing is left, or the packet of this producer was returned, or the port was closed before.
-#[derive(Clone, Copy, Debug, PartialEq, Eq)]
-enum Outcome {
-    Done,
-    Full(u32),
-    NoMemory(u32),
-    Closed,
+// The packet of a `word`, as `row2`, or as `last7` for one that closes the stream.
+fn packet_of(alloc: Global, base: &Arc<Table>, word: &str) -> Option<Packet> {
+    if let Some(number) = word.strip_prefix("last") {
+        return closing(alloc, number.parse::<u32>().ok()?);
+    }
+    let number = word.strip_prefix("row")?;
+    packet(alloc, base, number.parse::<u32>().ok()?)
 }
 
-// A packet of one row, of this producer.
-fn row(alloc: Global, from: u32) -> Result<Packet, AllocError> {
-    let mut table = Table::new(alloc, &[ColType::Int])?;
-    table.push(&[Value::Int(i64::from(from))])?;
-    let rows = Rows::of_table(alloc, table)?;
-    Ok(Packet::of_rows(0, from, 0, rows))
-}
-
-// The packet that closes the stream of this producer.
-fn last(alloc: Global, from: u32) -> Result<Packet, AllocError> {
-    let none = Rows::new(alloc, &[ColType::Int])?;
-    Ok(Packet::closing(0, from, 0, StreamEnd::Last, none))
-}
-
-fn put(out: &mut RingOut, packet: Packet) -> Outcome {
+// Puts a packet, and adds to `told` what came of it.
+fn put(out: &mut RingOut, packet: Packet, told: &mut String) -> Result<(), AllocError>
+    ensures { SameOut out.old out.new }
+{
     if out.is_closed() {
-        return Outcome::Closed;
+        return told.push_str(" closed");
     }
     match out.put(packet) {
-        Put::Done => Outcome::Done,
-        Put::Full(packet) => Outcome::Full(packet.from()),
-        Put::NoMemory(packet) => Outcome::NoMemory(packet.from()),
+        Put::Done => told.push_str(" done"),
+        Put::Full(packet) => write!(told, " full({})", packet.exchange()),
+        Put::NoMemory(packet) => write!(told, " memory({})", packet.exchange()),
     }
 }
 
-// The producer of the next packet.
-fn take(input: &mut RingIn) -> Option<u32> {
+// Takes what waits, and adds its number to `told`.
+fn take(input: &mut RingIn, told: &mut String) -> Result<(), AllocError>
+    ensures { SameIn input.old input.new }
+{
     match input.take() {
-        Some(packet) => Some(packet.from()),
-        None => None,
+        Some(packet) => write!(told, " {}", packet.exchange()),
+        None => told.push_str(" none"),
     }
 }
 
-#[test]
-fn first_put_finds_room(rt: HostRuntime) -> Result<(), Fail> {
-    let (mut out, _input) = ring_pair(rt.alloc(), 1)?;
-    let first = row(rt.alloc(), 1)?;
-    assert_eq!(rt; put(&mut out, first), Outcome::Done);
-    Ok(())
+// Adds to `told` whether the ring is half free.
+fn look(input: &RingIn, told: &mut String) -> Result<(), AllocError> {
+    told.push_str(if input.is_half_free() {
+        " half-free"
+    } else {
+        " fuller"
+    })
 }
 
-#[test]
-fn ring_of_two_places(rt: HostRuntime) -> Result<(), Fail> {
-    let alloc = rt.alloc();
-    let (mut out, mut input) = ring_pair(alloc, 2)?;
-    assert_eq!(rt; put(&mut out, row(alloc, 1)?), Outcome::Done);
-    assert_eq!(rt; put(&mut out, row(alloc, 2)?), Outcome::Done);
-    assert_eq!(rt; put(&mut out, row(alloc, 3)?), Outcome::Full(3));
-    assert_eq!(rt; take(&mut input), Some(1));
-    assert_eq!(rt; put(&mut out, row(alloc, 3)?), Outcome::Done);
-    assert_eq!(rt; take(&mut input), Some(2));
-    assert_eq!(rt; take(&mut input), Some(3));
-    assert_eq!(rt; take(&mut input), None);
-    Ok(())
-}
-
-#[test]
-fn ring_is_half_free_once_half_was_taken(rt: HostRuntime) -> Result<(), Fail> {
-    let alloc = rt.alloc();
-    let (mut out, mut input) = ring_pair(alloc, 4)?;
-    for from in 1..5 {
-        assert_eq!(rt; put(&mut out, row(alloc, from)?), Outcome::Done);
+// Makes the step of a `word`, and adds to `told` what came of it.
+fn make_step(
+    alloc: Global,
+    base: &Arc<Table>,
+    out: &mut RingOut,
+    input: &mut RingIn,
+    word: &str,
+    told: &mut String,
+) -> Option<()>
+    requires { IsRing out.old input.old }
+    ensures { IsRing out.new input.new }
+{
+    match word {
+        "take" => take(input, told).ok(),
+        "meet" => {
+            reunite(out, input);
+            told.push_str(" met").ok()
+        }
+        "look" => look(input, told).ok(),
+        word => put(out, packet_of(alloc, base, word)?, told).ok(),
     }
-    assert_eq!(rt; take(&mut input), Some(1));
-    assert_eq!(rt; input.is_half_free(), false);
-    assert_eq!(rt; take(&mut input), Some(2));
-    assert_eq!(rt; input.is_half_free(), true);
-    Ok(())
 }
 
-#[test]
-fn closing_packet_goes_as_a_packet(rt: HostRuntime) -> Result<(), Fail> {
-    let alloc = rt.alloc();
-    let (mut out, mut input) = ring_pair(alloc, 1)?;
-    assert_eq!(rt; put(&mut out, last(alloc, 7)?), Outcome::Done);
-    assert_eq!(rt; put(&mut out, row(alloc, 8)?), Outcome::Closed);
-    assert_eq!(rt; take(&mut input), Some(7));
-    Ok(())
-}
-
-#[test]
-fn ends_go_on_once_they_came_together(rt: HostRuntime) -> Result<(), Fail> {
-    let (mut out, mut input) = ring_pair(rt.alloc(), 1)?;
-    reunite(&mut out, &mut input);
-    let one = row(rt.alloc(), 1)?;
-    assert_eq!(rt; put(&mut out, one), Outcome::Done);
-    assert_eq!(rt; take(&mut input), Some(1));
-    Ok(())
+/// What comes of each step of `words` on a ring with `slack` places: 1 to 1,024. None where it cannot be read, or memory ran out.
+pub fn stepped(alloc: Global, base: &Arc<Table>, slack: u32, words: &str) -> Option<String> {
+    if slack < 1 || slack > 1_024 {
+        return None;
+    }
+    let Ok((mut out, mut input)) = ring_pair(alloc, slack) else {
+        return None;
+    };
+    let mut told = String::new(alloc);
+    for word in words.split_whitespace() {
+        make_step(alloc, base, &mut out, &mut input, word, &mut told)?;
+    }
+    Some(told)
 }

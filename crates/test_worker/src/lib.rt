@@ -1,15 +1,16 @@
 //! What no clause says of exchanges, of sorts and of workers: that small ones come to their ends.
 //!
-//! The tests stand in a crate of their own, since a crate with tests is proved twice.
+//! The cases are lines of one text, which a small interpreter reads: a further case is no further function to prove. The test stands in
+//! a crate of its own, since a crate with tests is proved twice.
 #![tactic(auto)]
 
 #[cfg(test)]
-mod batches;
+mod cases;
 #[cfg(test)]
-mod exchanges;
+mod rows;
 #[cfg(test)]
 mod senders;
 #[cfg(test)]
-mod sorts;
+mod sources;
 #[cfg(test)]
 mod workers;

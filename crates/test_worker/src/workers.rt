@@ -6,14 +6,15 @@ ghost use Rattle.vx_ops.specs.Scan.{scan_types};
 ghost use Rattle.vx_exchange.specs.Collector.{collector_post, collector_is_open, collector_has_closed};
 ghost use Rattle.vx_worker.specs.Worker.{IsReady};
 
+use crate::rows::rows_of;
+use crate::sources::{text_of_fault, text_of_rows};
 use std::alloc::{AllocError, Global};
-use std::test::Fail;
 use test_tables::ToFirst;
 use vx_exchange::Collector;
-use vx_ops::{Code, Fault, Scan};
+use vx_ops::Scan;
 use vx_ports::{Packet, Put};
 use vx_rows::Table;
-use vx_rows_values::{ColType, Value};
+use vx_rows_values::ColType;
 use vx_rows_views::Rows;
 use vx_worker::{Morsels, StepOutcome, Tree, Wires, Worker, WorkerOutcome};
 
@@ -72,21 +73,6 @@ impl Morsels for Pages {
     }
 }
 
-// Three rows of one number.
-fn three_rows(alloc: Global, refused: u64) -> Result<Pages, AllocError>
-    ensures { IfOk result (λ s. s.rows.types ≡ ExchangeKind.Int ∷ []) }
-{
-    let mut rows = Table::new(alloc, &[ColType::Int])?;
-    for i in 0..3 {
-        rows.push(&[Value::Int(i)])?;
-    }
-    Ok(Pages {
-        alloc,
-        rows,
-        refused,
-    })
-}
-
 // Steps until the worker has ended, at most twenty times.
 fn finish(worker: &mut Worker<Scan, Collector>, pages: &Pages, wires: &mut Numbers) -> StepOutcome
     requires pages { pages.now.rows.types ≡ ExchangeKind.Int ∷ [] }
@@ -100,46 +86,51 @@ fn finish(worker: &mut Worker<Scan, Collector>, pages: &Pages, wires: &mut Numbe
     StepOutcome::Waiting
 }
 
-// A worker at the root that scans, with node number 7.
-fn scanner(alloc: Global) -> Result<Worker<Scan, Collector>, AllocError>
+// A worker at the root that scans, at this node.
+fn scanner(alloc: Global, node: u32) -> Result<Worker<Scan, Collector>, AllocError>
     ensures { IfOk result (IsReady scan_types collector_post collector_is_open collector_has_closed (λ _. ExchangeKind.Int ∷ [])) }
 {
     let types = Vec::from_slice(alloc, &[ColType::Int])?;
-    let tree = Tree::Leaf(7, Scan::new(types));
+    let tree = Tree::Leaf(node, Scan::new(types));
     let sender = Collector::new(alloc, &[ColType::Int])?;
-    Ok(Worker::new(alloc, tree, sender, 7, Vec::new(alloc), Vec::new(alloc)))
+    Ok(Worker::new(alloc, tree, sender, node, Vec::new(alloc), Vec::new(alloc)))
 }
 
-#[test]
-fn scans_to_the_end(rt: HostRuntime) -> Result<(), Fail> {
-    let alloc = rt.alloc();
-    let pages = three_rows(alloc, 9)?;
-    let mut worker = scanner(alloc)?;
-    let mut wires = Numbers { next: 0, end: 4 };
-    assert_eq!(rt; finish(&mut worker, &pages, &mut wires), StepOutcome::Ended);
-    assert!(rt; matches!(worker.outcome(), Some(WorkerOutcome::Well)));
-    assert_eq!(rt; worker.into_sender().into_rows().len(), 12);
-    Ok(())
+// How a `worker` ended that drew so many numbers, and the rows that it kept, as text.
+fn text_of_end(
+    alloc: Global,
+    worker: Worker<Scan, Collector>,
+    drawn: u64,
+) -> Result<String, AllocError> {
+    let end = match worker.outcome() {
+        None => String::from_str(alloc, "running")?,
+        Some(WorkerOutcome::Well) => String::from_str(alloc, "well")?,
+        Some(WorkerOutcome::Failed(fault)) => text_of_fault(alloc, fault)?,
+    };
+    let rows = text_of_rows(alloc, &worker.into_sender().into_rows())?;
+    format!(in alloc; "{end} {drawn} {rows}")
 }
 
-#[test]
-fn fails_where_memory_is_refused(rt: HostRuntime) -> Result<(), Fail> {
-    let alloc = rt.alloc();
-    let pages = three_rows(alloc, 2)?;
-    let mut worker = scanner(alloc)?;
-    let mut wires = Numbers { next: 0, end: 4 };
-    assert_eq!(rt; finish(&mut worker, &pages, &mut wires), StepOutcome::Ended);
-    match worker.outcome() {
-        Some(
-            WorkerOutcome::Failed(
-                Fault::Own {
-                    code: Code::NoMemory,
-                    node,
-                },
-            ),
-        ) => assert_eq!(rt; node, 7),
-        _ => assert!(rt; false, "it failed"),
+/// How a worker ends that scans at the node `node`: so many `morsels` with the numbers of `word`, and no memory for the one with the number
+/// `refused`. None where the word cannot be read, or memory ran out elsewhere.
+pub fn worked(alloc: Global, node: u32, morsels: u32, refused: u32, word: &str) -> Option<String> {
+    let Ok(rows) = rows_of(alloc, word)?.gathered(alloc) else {
+        return None;
+    };
+    let pages = Pages {
+        alloc,
+        rows,
+        refused: u64::from(refused),
+    };
+    let mut wires = Numbers {
+        next: 0,
+        end: u64::from(morsels),
+    };
+    let Ok(mut worker) = scanner(alloc, node) else {
+        return None;
+    };
+    match finish(&mut worker, &pages, &mut wires) {
+        StepOutcome::Ended => text_of_end(alloc, worker, wires.next).ok(),
+        _ => None,
     }
-    assert_eq!(rt; wires.next, 3);
-    Ok(())
 }

@@ -1,6 +1,0 @@
-use Rattle.std.proofs.Common.{◌≡◌, [], ◌∷◌}
-use Rattle.vx_rows_values.specs.declared.value.ColType.TheVariants.{Int}
-use Rattle.stress_rings.proofs.numbers.Given as goal
-
-abbrev pub invariant-loop-n : goal.invariant-loop-n
-invariant-loop-n l = l.table.types ≡ Int ∷ []

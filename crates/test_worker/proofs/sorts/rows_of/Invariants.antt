@@ -1,6 +1,0 @@
-use Rattle.std.proofs.Common.{◌≡◌, [], ◌∷◌}
-use Rattle.vx_rows_values.specs.declared.value.ColType.TheVariants.{Int}
-use Rattle.test_worker.proofs.sorts.rows_of.Given as goal
-
-abbrev pub invariant-loop-number : goal.invariant-loop-number
-invariant-loop-number l = l.rows.types ≡ Int ∷ []
