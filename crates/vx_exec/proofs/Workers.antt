@@ -16,7 +16,10 @@ use Rattle.vx_worker.specs.Trace.{empty_trace}
 use Rattle.vx_worker.specs.Remaining.{Starts, TreeStarts}
 use Rattle.vx_worker.specs.Trees.{shape, TakesFrom}
 use Rattle.vx_worker.specs.Wishes.{TreeTyped}
-use Rattle.vx_worker.specs.Worker.{Role, role_of, tree_of, inputs_of as sources_in, IsReady, WorkerStands}
+use Rattle.vx_worker.specs.Worker.{Role, role_of, tree_of, inputs_of as sources_in, closing_of, IsReady, WorkerStands}
+use Rattle.vx_rows.specs.Lists.{each_below}
+use Rattle.vx_ports.specs.Packets.{PacketView, fault}
+use Rattle.vx_exchange_ends.specs.Ship.{packet_of}
 use Rattle.vx_exec_operators.specs.Operator.{OperatorStands, operator_op, operator_types, operator_most, operator_idle}
 use Rattle.vx_exec_operators.specs.Destination.{DestinationStands, task_of, post_of, bounds_of, is_open, has_closed, held_in, unclosed_in}
 use Rattle.vx_exec_operators.specs.declared.operator.Operator.{Operator}
@@ -58,6 +61,13 @@ sends-as j hash n place k p consumers types kind size many same is packet =
     ∙ ap (λ z. sends_by_ship (record { exchange = n; place = place; consumers = workers (worker_group_at j.layout.worker_groups.items) (target k); types = z; kind = kind; size = size })) same
     ∙ ap (λ z. sends_by_ship (record { exchange = n; place = place; consumers = workers (worker_group_at j.layout.worker_groups.items) (target k); types = types_of (relations j.plan.now) p; kind = z; size = size })) is
     ∙ ap (λ z. sends_by_ship (record { exchange = n; place = place; consumers = workers (worker_group_at j.layout.worker_groups.items) (target k); types = types_of (relations j.plan.now) p; kind = k; size = z })) packet
+
+-- and so are the packets that close its ports
+pub closes-as : (j : Job) (hash : List ℕ → Row → ℕ → ℕ) (n place : ℕ) (k : ExchangeKind) (p : Plan) (consumers : ℕ) (closing : List PacketView)
+    → consumers ≡ workers (worker_group_at j.layout.worker_groups.items) (target k)
+    → closing ≡ each_below consumers (λ i. packet_of (ship_of (model_of hash j) n place k p) i fault)
+    → closing ≡ closing_of (sends_by_ship (ship_of (model_of hash j) n place k p))
+closes-as j hash n place k p consumers closing many h = h ∙ ap (λ z. each_below z (λ i. packet_of (ship_of (model_of hash j) n place k p) i fault)) many
 
 -- made of this tree, over these producers, it has no more to do than its operators have, and takes of no others
 made-rested : (j : Job) (place : ℕ) (p : Plan) (tree : Tree Operator) (inputs : List (ℕ × ℕ)) (post : Post) (bounds : List Val) (w : Worker Operator Destination) → IsTreeOf j place p tree
