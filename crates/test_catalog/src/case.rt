@@ -43,16 +43,27 @@ impl<'a> Setting<'a> {
         }
     }
 
-    /// The setting of the case `case` and of those behind it: where it reads a catalog, this is theirs.
-    pub fn after(self, case: Case<'a>) -> Setting<'a> {
-        match case.call {
-            "catalog" => Setting {
+    /// The setting behind the line `line`: it may set the ways, or the catalog if it is a case of one.
+    pub fn after(self, line: &'a str) -> Setting<'a> {
+        if let Some(ways) = line.strip_prefix("ways ") {
+            return Setting {
+                catalog: self.catalog,
+                ways,
+            };
+        }
+        match Case::of(line) {
+            Some(case) if case.call == "catalog" => Setting {
                 catalog: case.given,
                 ways: self.ways,
             },
             _ => self,
         }
     }
+}
+
+/// Whether a line is a case, and neither a note nor one that sets the ways.
+pub fn is_case(line: &str) -> bool {
+    !line.starts_with('#') && !line.starts_with("ways ")
 }
 
 // How many rows the text `rows N` stands for.

@@ -17,7 +17,7 @@ mod way;
 mod writing;
 
 use anyhow::{Context, Error};
-use case::{Case, Setting, bytes_of};
+use case::{Case, Setting, bytes_of, is_case};
 use expect::{Wrong, told};
 use std::alloc::Global;
 use std::thread::Threads;
@@ -67,6 +67,22 @@ fn tell<R: Threads + Sync + Print + AllocGlobal>(
     Ok(())
 }
 
+// Shows the case that the line `line` is, if it is answered otherwise than it says. It answers how many cases the line is: one, or none
+// if it is a note or sets the ways.
+fn tell_line<R: Threads + Sync + Print + AllocGlobal>(
+    rt: &R,
+    path: &str,
+    setting: Setting<'_>,
+    line: &str,
+) -> Result<u64, Error> {
+    if !is_case(line) {
+        return Ok(0);
+    }
+    let case = Case::of(line).context(format_args!("{path}: no case: {line}"))?;
+    tell(rt, path, setting, case)?;
+    Ok(1)
+}
+
 // Shows those cases of the file `path` that are answered otherwise than they say, and how many cases its text `text` has.
 fn tell_all<R: Threads + Sync + Print + AllocGlobal>(
     rt: &R,
@@ -76,14 +92,8 @@ fn tell_all<R: Threads + Sync + Print + AllocGlobal>(
     let mut setting = Setting::new();
     let mut count = 0u64;
     for line in text.lines() {
-        if let Some(ways) = line.strip_prefix("ways ") {
-            setting.ways = ways;
-        } else if !line.starts_with('#') {
-            let case = Case::of(line).context(format_args!("{path}: no case: {line}"))?;
-            setting = setting.after(case);
-            count = count.saturating_add(1);
-            tell(rt, path, setting, case)?;
-        }
+        setting = setting.after(line);
+        count = count.saturating_add(tell_line(rt, path, setting, line)?);
     }
     println!(rt; "{path}: {count} cases")?;
     Ok(())

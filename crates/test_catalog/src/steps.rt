@@ -1,6 +1,6 @@
 //! Steps that make rows and ask of them, each a word and what stands behind it.
 
-ghost use Rattle.std.specs.Prelude.{◌≡◌, [], ◌∷◌, length};
+ghost use Rattle.std.specs.Prelude.{◌≡◌, [], ◌∷◌, length, true};
 ghost use Rattle.vx_rows_values.specs.declared.value.ColType.TheVariants as kind;
 ghost use Rattle.vx_rows.specs.View.{AreColumns};
 
@@ -9,7 +9,7 @@ use std::collections::HashMap;
 use std::mem;
 use test_tables::{TYPES, shown, three_numbers};
 use vx_rows::{OpenRows, Row, Table};
-use vx_rows_values::{Cell, Value};
+use vx_rows_values::{Cell, ColType, Value};
 
 // A number and a text, as `7 b`.
 fn entry(text: &str) -> Option<(i64, &str)> {
@@ -169,6 +169,13 @@ fn answer(alloc: Global, rows: &Table, word: &str, columns: &[usize]) -> Result<
     }
 }
 
+// Whether the rows `rows` have the columns of the usual ones: a number and a text.
+fn are_usual(rows: &Table) -> bool
+    ensures { result ≡ true → rows.now.types ≡ kind.Int ∷ kind.Text ∷ [] }
+{
+    matches!(rows.types(), [ColType::Int, ColType::Text])
+}
+
 /// What the step `step` answers. It may change `rows` and `others`; where memory ran out it changes neither.
 pub fn take_step(
     alloc: Global,
@@ -176,7 +183,7 @@ pub fn take_step(
     others: &mut Table,
     step: &str,
 ) -> Result<String, AllocError> {
-    if rows.types() != TYPES.as_slice() || others.types() != TYPES.as_slice() {
+    if !are_usual(rows) || !are_usual(others) {
         return String::from_str(alloc, "other types");
     }
     let (word, rest) = step.split_once(' ').unwrap_or((step, ""));
