@@ -1,4 +1,12 @@
 //! What is answered to what a case makes and asks, as texts.
+//!
+//! `ring 2:` is a ring of two places in one thread. Its words are steps: `row1` puts the packet of rows with the number 1, `last7` the one with
+//! the number 7 that closes the stream, `take` takes what waits, `look` asks whether the ring is half free, and `meet` brings both ends together.
+//! `deck 4 2:` is a deck of four numbers with two seats, and its words are the seats that draw; the answer ends with how many numbers were
+//! drawn. `seat` is the one seat of a deck of one number, which draws by itself.
+//!
+//! By threads, `pair` passes a closing packet on, `row 100000` passes so many packets on in a row of four threads, and `rushing 1000 4 2000` has
+//! each of four seats draw up to 2,000 numbers of a deck of 1,000. In `yielding` each seat lets others go on after a number.
 
 use crate::decks::{drawn, drawn_alone};
 use crate::loaded_decks::dealt;

@@ -31,11 +31,14 @@ fn tell<R: Threads + Wait + Sync + Print + AllocGlobal>(
     let Some((name, given, wanted)) = parts(line) else {
         return println!(rt; "this line is no case: {line}");
     };
-    match answer_to(rt, rt.alloc(), base, given) {
-        None => println!(rt; "{name}: NoMemory, or no thread, or no such case"),
-        Some(got) if got.as_str().trim() == wanted => Ok(()),
-        Some(got) => println!(rt; "{name}: answered{got}, not {wanted}"),
+    let Some(got) = answer_to(rt, rt.alloc(), base, given) else {
+        return println!(rt; "{name}: NoMemory, or no thread, or no such case");
+    };
+    let got = got.as_str().trim();
+    if got != wanted {
+        return println!(rt; "{name}: answered {got}, not {wanted}");
     }
+    Ok(())
 }
 
 // Shows those cases of a file that are answered otherwise than they say, and how many the file has.

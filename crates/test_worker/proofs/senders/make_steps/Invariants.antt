@@ -6,6 +6,6 @@ use Rattle.test_worker.proofs.senders.make_steps.Given as goal
 
 abbrev pub invariant-loop-word : goal.invariant-loop-word
 invariant-loop-word l = record {
-  open : sender_is_open l.sender ≡ true;
+  is_open : sender_is_open l.sender ≡ true;
   types : post_types (sender_post l.sender) ≡ Int ∷ [];
 }
