@@ -1,7 +1,7 @@
 //! Worked plans over small relations, and what their runs come to, for the tests of runs by rounds, by schedules and by
-//! threads (`crates/test_execution`), and for those of the whole program (`crates/test_program`).
+//! threads (`crates/test_execution`).
 //!
-//! It stands in a crate of its own, with no test in it, so that it is proved once for both.
+//! It stands in a crate of its own, with no test in it, so that it is proved once.
 #![tactic(auto)]
 
 mod cases;

@@ -1,7 +1,7 @@
 //! A plan, and the counts of a run of it, which are made by hand.
 
+use anyhow::Error;
 use std::alloc::{AllocError, Global};
-use std::test::Fail;
 use vx_catalog_relations::Catalog;
 use vx_exec_setup::{NodeCounts, OperatorCounts, StepCounts, WorkerCounts};
 use vx_plan::resolve;
@@ -17,12 +17,12 @@ const PLAN: &str =
     r#"{"sizes":["many"],"root":{"op":"exchange","kind":"gather","input":{"op":"select","where":[{"column":"v","op":"=","value":7}],"input":{"op":"scan","relation":"t","mode":"shared","size":"many"}}}}"#;
 
 /// The catalog.
-pub fn catalog(alloc: Global) -> Result<Catalog, Fail> {
+pub fn catalog(alloc: Global) -> Result<Catalog, Error> {
     Ok(Catalog::read(alloc, CATALOG.as_bytes())?)
 }
 
 /// The plan.
-pub fn plan(alloc: Global) -> Result<TypedPlan, Fail> {
+pub fn plan(alloc: Global) -> Result<TypedPlan, Error> {
     let catalog = catalog(alloc)?;
     let plan = Plan::read(alloc, PLAN.as_bytes())?;
     Ok(resolve(alloc, &plan, &catalog)?)

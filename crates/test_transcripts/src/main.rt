@@ -1,99 +1,97 @@
-//! Runs the commands of transcripts, and prints each with what came of it.
+//! Runs the commands of files, and prints or compares what came of them.
 //!
-//! The arguments name transcripts: text files in which each line that begins with `$ volcano` is a command.
-//! After that come the program's arguments, separated by spaces, and at the end there may be `< FILE`, whose bytes are its
-//! standard input; without it that is empty. Any other line is a note. For each command its line is printed, then what went
-//! to the output, what went to the errors, and the status.
+//! The arguments name text files. A line that begins with `$ volcano` is a command of a transcript: after that come the
+//! program's arguments, separated by spaces, and at the end there may be `< FILE`, whose bytes are its standard input, or `<< TEXT`,
+//! which is that itself; without them it is empty. The line is printed, then what went to the output, what went to the errors,
+//! and the status.
+//!
+//! A line `? WAY: volcano .. => TEXT` is a trial: the command is run in that way (`way.rt` has them all), and has to come to the text,
+//! which is the output, the errors and the status, with `|` between them and `\n` for the end of a line. What comes to another text is
+//! printed. `(one|other)` in such a line stands for two lines, with each of the words in its place. Behind each file with trials
+//! stands how many lines it has, and how often commands were run.
+//!
+//! Any other line is a note. Before the first file, what some calls answer is printed.
 #![tactic(auto)]
 
+mod alternatives;
+mod calls;
+mod command;
+mod cut;
+mod ports;
+mod trial;
+mod way;
+
+use alternatives::chosen;
 use anyhow::{Context, Error};
-use std::alloc::{AllocError, Global};
+use calls::show_calls;
+use command::Command;
+use ports::{Ports, run};
 use std::fs::{File, Files};
 use std::sync::Wait;
 use std::thread::Threads;
 use std::{env, fs};
-use volcano_answer::{Services, answer};
-use volcano_stats::NoClock;
-use vx_catalog_bytes::{Disk, MemoryIn, MemoryOut};
-use vx_exec_parallel::Engine;
-use vx_rows_values::KeySeed;
+use trial::try_line;
 
-// What a command may write on its output, and what it may write on its errors, in bytes.
-const ROOM: usize = 1 << 20;
-
-// A command of a transcript.
-#[derive(Drop)]
-struct Command<'a> {
-    /// Without the program's name.
-    arguments: Vec<&'a str>,
-    /// The path of what it reads as its standard input.
-    input: Option<&'a str>,
-}
-
-// The command that a line has after the program's name.
-fn command_in(alloc: Global, text: &str) -> Result<Command<'_>, AllocError> {
-    let (texts, input) = match text.split_once('<') {
-        Some((texts, path)) => (texts, Some(path.trim())),
-        None => (text, None),
-    };
-    let mut arguments = Vec::new(alloc);
-    for argument in texts.split_whitespace() {
-        arguments.push(argument)?;
-    }
-    Ok(Command { arguments, input })
-}
-
-// The bytes of a command's standard input.
-fn input_of(rt: &(impl Files + AllocGlobal), command: &Command<'_>) -> Result<Vec<u8>, Error> {
-    match command.input {
-        Some(path) => Ok(fs::read(rt, path).context(format_args!("reading {path}"))?),
-        None => Ok(Vec::new(rt.alloc())),
-    }
-}
-
-// Runs a command, and shows what came of it.
+// Runs a command of a transcript, and shows what came of it.
 fn show<R: Threads + Wait + Sync + Files<File = File> + Print + AllocGlobal>(
     rt: &R,
-    command: &Command<'_>,
+    text: &str,
 ) -> Result<(), Error> {
-    let bytes = input_of(rt, command)?;
-    let mut input = MemoryIn::new(bytes.as_slice(), None);
-    let mut out = MemoryOut::new(rt.alloc(), 4096, ROOM);
-    let mut err = MemoryOut::new(rt.alloc(), 4096, ROOM);
-    let services = Services::new(rt, &Engine, &NoClock, rt.alloc(), KeySeed::fixed());
-    let status = answer(
-        &services,
-        command.arguments.as_slice(),
-        &Disk::new(rt),
-        &mut input,
-        &mut out,
-        &mut err,
-    );
-    let out = str::from_utf8(out.bytes())?;
-    let err = str::from_utf8(err.bytes())?;
+    let command = Command::of(rt.alloc(), text)?;
+    let input = command.read_input(rt)?;
+    let ports = Ports::ample(input.as_slice());
+    let written = run(rt, command.arguments.as_slice(), &ports);
+    let out = str::from_utf8(written.out.bytes())?;
+    let err = str::from_utf8(written.err.bytes())?;
+    let status = written.status;
     println!(rt; "{out}{err}status {status}")?;
     Ok(())
 }
 
-// Runs the commands of a transcript, and shows each with what came of it.
-fn show_all<R: Threads + Wait + Sync + Files<File = File> + Print + AllocGlobal>(
+// Shows the command of a line, or tries those of each line that it stands for. The result says how often commands were tried.
+fn tell<R: Threads + Wait + Sync + Files<File = File> + Print + AllocGlobal>(
     rt: &R,
-    transcript: &str,
+    line: &str,
+) -> Result<u64, Error> {
+    if let Some(text) = line.strip_prefix("$ volcano") {
+        println!(rt; "{line}")?;
+        show(rt, text)?;
+        return Ok(0);
+    }
+    let Some(trial) = line.strip_prefix("? ") else {
+        return Ok(0);
+    };
+    let mut runs = 0u64;
+    for line in chosen(rt.alloc(), trial)? {
+        runs = runs.saturating_add(try_line(rt, line.as_str())?);
+    }
+    Ok(runs)
+}
+
+// Shows or tries the commands of the file at a path.
+fn tell_all<R: Threads + Wait + Sync + Files<File = File> + Print + AllocGlobal>(
+    rt: &R,
+    path: &str,
 ) -> Result<(), Error> {
-    for line in transcript.lines() {
-        if let Some(text) = line.strip_prefix("$ volcano") {
-            println!(rt; "{line}")?;
-            show(rt, &command_in(rt.alloc(), text)?)?;
+    let text = fs::read_to_string(rt, path).context(format_args!("reading {path}"))?;
+    let (mut lines, mut runs) = (0u64, 0u64);
+    for line in text.lines() {
+        let more = tell(rt, line)?;
+        if more > 0 {
+            lines = lines.saturating_add(1);
+            runs = runs.saturating_add(more);
         }
+    }
+    if lines > 0 {
+        println!(rt; "{path}: {lines} trials, {runs} runs")?;
     }
     Ok(())
 }
 
 fn main(rt: HostRuntime) -> Result<(), Error> {
+    show_calls(&rt)?;
     for argument in env::args(&rt)?.skip(1) {
-        let path = argument.as_str();
-        let transcript = fs::read_to_string(&rt, path).context(format_args!("reading {path}"))?;
-        show_all(&rt, transcript.as_str())?;
+        tell_all(&rt, argument.as_str())?;
     }
     Ok(())
 }
