@@ -34,31 +34,17 @@ pub struct Setting<'a> {
     pub ways: &'a str,
 }
 
-impl<'a> Setting<'a> {
-    /// No catalog, and the way of one thread.
-    pub fn new() -> Setting<'a> {
-        Setting {
-            catalog: "",
-            ways: "1",
-        }
+/// The text of the catalog behind the line `line`, if it was `catalog` before it.
+pub fn catalog_after<'a>(line: &'a str, catalog: &'a str) -> &'a str {
+    match Case::of(line) {
+        Some(case) if case.call == "catalog" => case.given,
+        _ => catalog,
     }
+}
 
-    /// The setting behind the line `line`: it may set the ways, or the catalog if it is a case of one.
-    pub fn after(self, line: &'a str) -> Setting<'a> {
-        if let Some(ways) = line.strip_prefix("ways ") {
-            return Setting {
-                catalog: self.catalog,
-                ways,
-            };
-        }
-        match Case::of(line) {
-            Some(case) if case.call == "catalog" => Setting {
-                catalog: case.given,
-                ways: self.ways,
-            },
-            _ => self,
-        }
-    }
+/// The ways behind the line `line`, if they were `ways` before it.
+pub fn ways_after<'a>(line: &'a str, ways: &'a str) -> &'a str {
+    line.strip_prefix("ways ").unwrap_or(ways)
 }
 
 /// Whether a line is a case, and neither a note nor one that sets the ways.

@@ -17,7 +17,7 @@ mod way;
 mod writing;
 
 use anyhow::{Context, Error};
-use case::{Case, Setting, bytes_of, is_case};
+use case::{Case, Setting, bytes_of, catalog_after, is_case, ways_after};
 use expect::{Wrong, told};
 use std::alloc::Global;
 use std::thread::Threads;
@@ -89,11 +89,13 @@ fn tell_all<R: Threads + Sync + Print + AllocGlobal>(
     path: &str,
     text: &str,
 ) -> Result<(), Error> {
-    let mut setting = Setting::new();
+    let mut catalog = "";
+    let mut ways = "1";
     let mut count = 0u64;
     for line in text.lines() {
-        setting = setting.after(line);
-        count = count.saturating_add(tell_line(rt, path, setting, line)?);
+        catalog = catalog_after(line, catalog);
+        ways = ways_after(line, ways);
+        count = count.saturating_add(tell_line(rt, path, Setting { catalog, ways }, line)?);
     }
     println!(rt; "{path}: {count} cases")?;
     Ok(())
