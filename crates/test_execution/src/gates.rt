@@ -1,5 +1,6 @@
-//! Gates that hold threads up until others have drawn, and that count draws.
+//! A gate that holds a thread up until another one has drawn, and that counts draws.
 
+use std::alloc::{AllocError, Global};
 use std::sync::atomic::{AtomicU64, Ordering};
 use std::thread;
 use vx_exec_threads::Gate;
@@ -7,27 +8,27 @@ use vx_exec_threads::Gate;
 // How often a thread that is held up looks whether it may go on, before it goes on anyway.
 const LOOKS: u32 = 1_000_000;
 
-/// Counts, by any threads at once.
+// Counts, by any threads at once.
 #[derive(Drop)]
-pub struct Counter {
+struct Counter {
     word: AtomicU64,
 }
 
 impl Counter {
-    /// From zero on.
-    pub fn new() -> Counter {
+    // From zero on.
+    fn new() -> Counter {
         Counter {
             word: AtomicU64::new(0),
         }
     }
 
-    /// Counts one more, and returns whether it is the first.
-    pub fn add(&self) -> bool {
+    // Counts one more, and returns whether it is the first.
+    fn add(&self) -> bool {
         self.word.fetch_add(1, Ordering::SeqCst) == 0
     }
 
-    /// How many it has counted.
-    pub fn count(&self) -> u64 {
+    // How many it has counted.
+    fn count(&self) -> u64 {
         self.word.load(Ordering::SeqCst)
     }
 
@@ -43,48 +44,70 @@ impl Counter {
     }
 }
 
-/// A fragment, and the place of one of its workers.
-pub type Spot = (u32, u32);
+// A fragment, and the place of one of its workers.
+type Spot = (u32, u32);
 
-/// Holds a worker up after its first draw until another one has drawn.
+// The number of a fragment and of a place that no plan has.
+const NONE: u32 = u32::MAX;
+
+// The worker of a text such as `2.0`: fragment 2, place 0.
+fn spot_of(text: &str) -> Spot {
+    let (fragment, place) = text.split_once('.').unwrap_or(("", ""));
+    (
+        fragment.parse::<u32>().unwrap_or(NONE),
+        place.parse::<u32>().unwrap_or(NONE),
+    )
+}
+
+/// Holds a worker up after its first draw until another one has drawn, and counts all draws.
 #[derive(Drop)]
-pub struct Meeting {
+pub struct Watch {
     held: Spot,
     awaited: Spot,
     // Whether the other one is held up in the same way.
     is_mutual: bool,
+    // Whether the other one is waited for until it found that nothing is left.
+    until_end: bool,
+    numbers: Counter,
+    ends: Counter,
     draws_of_held: Counter,
+    // Draws of the other one that may end the wait.
     draws_of_awaited: Counter,
     // How often one that was held up saw that the other had drawn.
     meetings: Counter,
+    // Numbers that were drawn after the other one had found that nothing is left, by the one that waited for that.
+    late: Counter,
 }
 
-impl Meeting {
-    // Of two workers that have not drawn.
-    fn between(held: Spot, awaited: Spot, is_mutual: bool) -> Meeting {
-        Meeting {
-            held,
-            awaited,
-            is_mutual,
+impl Watch {
+    /// Two workers are `spots`, as `1.0 1.1`. By the word `held` the first waits for the second, by `both` each for the other, and by `until` the first until
+    /// the second finds that nothing is left. Where there are no spots, no one waits.
+    pub fn of(word: &str, spots: &str) -> Watch {
+        let (held, awaited) = spots.split_once(' ').unwrap_or(("", ""));
+        Watch {
+            held: spot_of(held),
+            awaited: spot_of(awaited),
+            is_mutual: word == "both",
+            until_end: word == "until",
+            numbers: Counter::new(),
+            ends: Counter::new(),
             draws_of_held: Counter::new(),
             draws_of_awaited: Counter::new(),
             meetings: Counter::new(),
+            late: Counter::new(),
         }
     }
 
-    /// The first worker waits for the second.
-    pub fn of_one(held: Spot, awaited: Spot) -> Meeting {
-        Meeting::between(held, awaited, false)
-    }
-
-    /// Each of two workers waits for the other.
-    pub fn of_both(one: Spot, other: Spot) -> Meeting {
-        Meeting::between(one, other, true)
-    }
-
-    /// How many of those that were held up went on since the other had drawn.
-    pub fn meetings(&self) -> u64 {
-        self.meetings.count()
+    /// How many numbers were drawn, how often nothing was left, how many of those that were held up went on since the other had drawn, and how many
+    /// numbers came too late.
+    pub fn said(&self, alloc: Global) -> Result<String, AllocError> {
+        format!(in alloc;
+            "{} {} {} {}",
+            self.numbers.count(),
+            self.ends.count(),
+            self.meetings.count(),
+            self.late.count()
+        )
     }
 
     // Notes that one more was held up no longer than until the other's draw.
@@ -93,110 +116,41 @@ impl Meeting {
             self.meetings.add();
         }
     }
-}
 
-impl Gate for Meeting {
-    fn after_draw(&self, fragment: u32, place: u32, _drawn: Option<u64>) {
-        let spot = (fragment, place);
-        if spot == self.held && self.draws_of_held.add() {
+    // The worker that is held up drew a number, or found that nothing is left.
+    fn after_held(&self, is_number: bool) {
+        if self.draws_of_held.add() {
             self.note(self.draws_of_awaited.wait());
+        } else if self.until_end && is_number {
+            self.late.add();
         }
-        if spot == self.awaited && self.draws_of_awaited.add() && self.is_mutual {
+    }
+
+    // The worker that is waited for drew a number, or found that nothing is left.
+    fn after_awaited(&self, is_number: bool) {
+        if self.until_end && is_number {
+            return;
+        }
+        if self.draws_of_awaited.add() && self.is_mutual {
             self.note(self.draws_of_held.wait());
         }
     }
 }
 
-/// Holds the worker at place 0 up after its first draw until the one at place 1 found that nothing is left, and counts
-/// the numbers that each of them drew.
-#[derive(Drop)]
-pub struct UntilNothingIsLeft {
-    draws_of_first: Counter,
-    numbers_of_first: Counter,
-    numbers_of_second: Counter,
-    ends_of_second: Counter,
-}
-
-impl UntilNothingIsLeft {
-    /// Nothing was drawn.
-    pub fn new() -> UntilNothingIsLeft {
-        UntilNothingIsLeft {
-            draws_of_first: Counter::new(),
-            numbers_of_first: Counter::new(),
-            numbers_of_second: Counter::new(),
-            ends_of_second: Counter::new(),
-        }
-    }
-
-    /// How many numbers were drawn at place 0 and at place 1.
-    pub fn numbers(&self) -> (u64, u64) {
-        (
-            self.numbers_of_first.count(),
-            self.numbers_of_second.count(),
-        )
-    }
-
-    /// Whether the worker at place 1 found that nothing is left.
-    pub fn has_ended(&self) -> bool {
-        self.ends_of_second.count() > 0
-    }
-
-    fn after_first(&self, drawn: Option<u64>) {
-        if drawn.is_some() {
-            self.numbers_of_first.add();
-        }
-        if self.draws_of_first.add() {
-            self.ends_of_second.wait();
-        }
-    }
-
-    fn after_second(&self, drawn: Option<u64>) {
-        if drawn.is_some() {
-            self.numbers_of_second.add();
-        } else {
-            self.ends_of_second.add();
-        }
-    }
-}
-
-impl Gate for UntilNothingIsLeft {
-    fn after_draw(&self, _fragment: u32, place: u32, drawn: Option<u64>) {
-        if place == 0 {
-            self.after_first(drawn);
-        } else {
-            self.after_second(drawn);
-        }
-    }
-}
-
-/// Counts the draws after which it is called.
-#[derive(Drop)]
-pub struct DrawCount {
-    numbers: Counter,
-    ends: Counter,
-}
-
-impl DrawCount {
-    /// No draw yet.
-    pub fn new() -> DrawCount {
-        DrawCount {
-            numbers: Counter::new(),
-            ends: Counter::new(),
-        }
-    }
-
-    /// How many numbers were drawn, and how often nothing was left.
-    pub fn draws(&self) -> (u64, u64) {
-        (self.numbers.count(), self.ends.count())
-    }
-}
-
-impl Gate for DrawCount {
-    fn after_draw(&self, _fragment: u32, _place: u32, drawn: Option<u64>) {
-        if drawn.is_some() {
+impl Gate for Watch {
+    fn after_draw(&self, fragment: u32, place: u32, drawn: Option<u64>) {
+        let is_number = drawn.is_some();
+        if is_number {
             self.numbers.add();
         } else {
             self.ends.add();
+        }
+        let spot = (fragment, place);
+        if spot == self.held {
+            self.after_held(is_number);
+        }
+        if spot == self.awaited {
+            self.after_awaited(is_number);
         }
     }
 }

@@ -1,36 +1,36 @@
-//! What no clause says of runs: that they end with the rows of the plan, by rounds, by schedules and by threads, with each operator
+//! What no clause says of runs: that they end with the rows of the plan, serially, by rounds, by schedules and by threads, with each operator
 //! and each exchange; that threads are at work at the same time, share what they scan, and wait for none that failed; and that
 //! setups are refused with their lines.
 //!
-//! The tests stand in a crate of their own, since a crate with tests is proved twice. The plans and their rows are in `test_runs`, with
-//! what else the tests of the whole program share with these.
+//! Cases are lines of texts, so that a further one is nothing to prove: plans over rows, most of them in `test_runs`, and ways to run them, beside the
+//! tests. `cases.rt` and `ways.rt` have how such lines are read.
+//!
+//! The tests stand in a crate of their own, since a crate with tests is proved twice.
 #![tactic(auto)]
 
 #[cfg(test)]
+mod cases;
+#[cfg(test)]
 mod counts;
 #[cfg(test)]
-mod crowds;
+mod draws;
 #[cfg(test)]
 mod exchanges;
 #[cfg(test)]
-mod failing;
-#[cfg(test)]
 mod gates;
+#[cfg(test)]
+mod lines;
 #[cfg(test)]
 mod meetings;
 #[cfg(test)]
 mod queries;
 #[cfg(test)]
-mod rounds;
+mod rows;
+#[cfg(test)]
+mod runs;
 #[cfg(test)]
 mod schedules;
 #[cfg(test)]
-mod setups;
-#[cfg(test)]
-mod sizes;
-#[cfg(test)]
-mod texts;
-#[cfg(test)]
-mod threads;
+mod ways;
 #[cfg(test)]
 mod worked;

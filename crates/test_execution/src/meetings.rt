@@ -1,129 +1,44 @@
-//! What no clause says of threads: workers are at work at the same time, also those of different fragments, they share
-//! the morsels of a scan, and the gate is called after each draw of a shared scan and after no other.
+//! Threads: workers are at work at the same time, also those of different fragments, they share the morsels of a scan, the gate is called after each
+//! draw of a shared scan and after no other, and no one draws where there are fewer threads than workers.
 
-use crate::gates::{DrawCount, Meeting, UntilNothingIsLeft};
-use crate::threads::by_threads_within;
-use std::alloc::Global;
-use std::sync::Wait;
+use crate::ways::try_cases;
 use std::test::Fail;
-use std::thread::Threads;
-use test_runs::{
-    Case, JOINED_ROWS, MERGED, ROWS_OF_D, ROWS_OF_T, SELECTED, SELECTED_ROWS, SENT_TO_MEET, agrees,
-    case_of, case_of_query, setup_of,
-};
 use vx_exchange::ByteRouter;
-use vx_exec_setup::Setup;
-use vx_rows_values::limits::MAX_WORKERS;
 
-// Rows of t, one for each morsel of a scan.
-const EIGHT_ROWS: &str = "0,a,7\n1,b,7\n2,c,7\n3,d,7\n4,e,7\n5,f,7\n6,g,7\n7,h,7\n";
-
-// Each worker has all rows of the other relation.
-const SELECTED_EVERYWHERE: &str =
-    r#"{"sizes":["many"],"root":{"op":"exchange","kind":"gather","input":{"op":"join","method":"hash","on":[["k","d.k"]],"left":T_PLAIN,"right":D_EVERYWHERE}}}"#;
-
-// Whether a case comes to these rows with two workers of each group, and how many were held up at a meeting until the other came.
-fn met<T: Threads + Wait + Sync>(
-    rt: &T,
-    alloc: Global,
-    case: &Case,
-    setup: &Setup,
-    meeting: &Meeting,
-    rows: &str,
-) -> Result<(bool, u64), Fail> {
-    let text = by_threads_within(rt, alloc, case, setup, &ByteRouter, meeting, MAX_WORKERS)?;
-    Ok((
-        agrees(alloc, case, text.as_str(), rows)?,
-        meeting.meetings(),
-    ))
-}
-
-#[test]
-fn one_worker_draws_while_another_is_held_up(rt: HostRuntime) -> Result<(), Fail> {
-    let alloc = rt.alloc();
-    let case = case_of(alloc, SELECTED, ROWS_OF_T, ROWS_OF_D)?;
-    let setup = setup_of(alloc, 2, 1, 1, 4)?;
-    let meeting = Meeting::of_one((1, 0), (1, 1));
-    assert_eq!(rt;
-        met(&rt, alloc, &case, &setup, &meeting, SELECTED_ROWS)?,
-        (true, 1)
-    );
-    Ok(())
-}
+// Each morsel is drawn once, and each worker finds once that nothing is left, whether it also has a whole scan or not. The scan of the query is in the last of its
+// fragments, and has ten morsels. Three workers of each group of the sums are seven: three that group, three that scan, and the one at the root. A
+// setup is tested before the threads are counted.
+const CASES: &str =
+    r#"one worker draws while another is held up | SELECTED | T | D | 1 | 1 'b' 7;3 'c' 7;
+by held 1.0 1.1 | 1 | many=2 | 1 1 4 | rows | 4 2 1 0
+two workers wait for each other | SELECTED | T | D | 1 | 1 'b' 7;3 'c' 7;
+by both 1.0 1.1 | 1 | many=2 | 1 1 4 | rows | 4 2 2 0
+workers of a query wait for each other | QUERY 10 | - | - | - | serial 100
+by held 2.0 2.1 | 1 | many=4 | 256 1024 8 | rows | 10 4 1 0
+by both 2.0 2.1 | 1 | many=4 | 256 1024 8 | rows | 10 4 2 0
+workers of two fragments wait for each other | SENT_TO_MEET | T | D | 3 | 0 'a' 5 'a' 10;1 'b' 7 'b' 20;2 'a' -2 'a' 10;
+by both 2.0 3.0 | 1 | many=2 | 1 1 1 | rows | 6 4 2 0
+a worker takes what is left of a scan | MERGED | EIGHT | D | 1 | 0 'a' 7;1 'b' 7;2 'c' 7;3 'd' 7;4 'e' 7;5 'f' 7;6 'g' 7;7 'h' 7;
+by until 1.0 1.1 | 1 | many=2 | 1 1 8 | rows | 8 2 1 0
+the gate is called after each draw of a shared scan | SELECTED | T | D | 1 | 1 'b' 7;3 'c' 7;
+by watched | 1 | many=3 | 1 1 4 | rows | 4 3 0 0
+the gate is called after no draw of a whole scan | JOINED_EVERYWHERE | T | D | 1 | 0 'a' 5 'a' 10;1 'b' 7 'b' 20;2 'a' -2 'a' 10;
+by watched | 1 | many=3 | 1 1 4 | rows | 4 3 0 0
+no worker draws where there are fewer threads than workers | GROUPED | T | D | 2 | 'a' 3;'b' 7;'c' 7;
+by within 0 | 1 | many=65 | 1 1 4 | X2 SizeOutOfRange name=many | 0 0 0 0
+by within 0 | 1 | many=3 | 0 1 4 | X3 BadPacket | 0 0 0 0
+by within 0 | 1 | many=3 | 1 0 4 | X4 BadMorsel | 0 0 0 0
+by within 0 | 1 | many=3 | 1 1 0 | X14 BadSlack | 0 0 0 0
+by within 0 | 1 | many=3 | 1 1 4 | X9 NoThread | 0 0 0 0
+by within 1 | 1 | many=3 | 1 1 4 | X9 NoThread | 0 0 0 0
+by within 2 | 1 | many=3 | 1 1 4 | X9 NoThread | 0 0 0 0
+by within 3 | 1 | many=3 | 1 1 4 | X9 NoThread | 0 0 0 0
+by within 4 | 1 | many=3 | 1 1 4 | X9 NoThread | 0 0 0 0
+by within 5 | 1 | many=3 | 1 1 4 | X9 NoThread | 0 0 0 0
+by within 6 | 1 | many=3 | 1 1 4 | X9 NoThread | 0 0 0 0
+by within 7 | 1 | many=3 | 1 1 4 | rows | 4 3 0 0"#;
 
 #[test]
-fn two_workers_wait_for_each_other(rt: HostRuntime) -> Result<(), Fail> {
-    let alloc = rt.alloc();
-    let case = case_of(alloc, SELECTED, ROWS_OF_T, ROWS_OF_D)?;
-    let setup = setup_of(alloc, 2, 1, 1, 4)?;
-    let meeting = Meeting::of_both((1, 0), (1, 1));
-    assert_eq!(rt;
-        met(&rt, alloc, &case, &setup, &meeting, SELECTED_ROWS)?,
-        (true, 2)
-    );
-    Ok(())
-}
-
-#[test]
-fn workers_of_a_query_wait_for_each_other(rt: HostRuntime) -> Result<(), Fail> {
-    let alloc = rt.alloc();
-    let (case, rows) = case_of_query(alloc, 10)?;
-    let setup = setup_of(alloc, 4, 256, 1024, 8)?;
-    // The scan is in the last of the query's fragments.
-    let one = Meeting::of_one((2, 0), (2, 1));
-    assert_eq!(rt;
-        met(&rt, alloc, &case, &setup, &one, rows.as_str())?,
-        (true, 1)
-    );
-    let both = Meeting::of_both((2, 0), (2, 1));
-    assert_eq!(rt;
-        met(&rt, alloc, &case, &setup, &both, rows.as_str())?,
-        (true, 2)
-    );
-    Ok(())
-}
-
-#[test]
-fn workers_of_two_fragments_wait_for_each_other(rt: HostRuntime) -> Result<(), Fail> {
-    let alloc = rt.alloc();
-    let case = case_of(alloc, SENT_TO_MEET, ROWS_OF_T, ROWS_OF_D)?;
-    let setup = setup_of(alloc, 2, 1, 1, 1)?;
-    let meeting = Meeting::of_both((2, 0), (3, 0));
-    assert_eq!(rt;
-        met(&rt, alloc, &case, &setup, &meeting, JOINED_ROWS)?,
-        (true, 2)
-    );
-    Ok(())
-}
-
-#[test]
-fn a_worker_takes_what_is_left_of_a_scan(rt: HostRuntime) -> Result<(), Fail> {
-    let alloc = rt.alloc();
-    let case = case_of(alloc, MERGED, EIGHT_ROWS, ROWS_OF_D)?;
-    let setup = setup_of(alloc, 2, 1, 1, 8)?;
-    let gate = UntilNothingIsLeft::new();
-    let text = by_threads_within(&rt, alloc, &case, &setup, &ByteRouter, &gate, MAX_WORKERS)?;
-    assert_eq!(rt;
-        text.as_str(),
-        "0 'a' 7;1 'b' 7;2 'c' 7;3 'd' 7;4 'e' 7;5 'f' 7;6 'g' 7;7 'h' 7;"
-    );
-    assert!(rt; gate.has_ended());
-    let (first, second) = gate.numbers();
-    assert!(rt; first <= 1, "{first}");
-    assert_eq!(rt; first.saturating_add(second), 8);
-    Ok(())
-}
-
-#[test]
-fn the_gate_is_called_after_each_draw_of_a_shared_scan(rt: HostRuntime) -> Result<(), Fail> {
-    let alloc = rt.alloc();
-    // Four morsels, and each worker finds once that nothing is left, whether it also has a whole scan or not.
-    for document in [SELECTED, SELECTED_EVERYWHERE] {
-        let case = case_of(alloc, document, ROWS_OF_T, ROWS_OF_D)?;
-        let setup = setup_of(alloc, 3, 1, 1, 4)?;
-        let gate = DrawCount::new();
-        by_threads_within(&rt, alloc, &case, &setup, &ByteRouter, &gate, MAX_WORKERS)?;
-        assert_eq!(rt; gate.draws(), (4, 3), "{document}");
-    }
-    Ok(())
+fn workers_are_at_work_at_the_same_time(rt: HostRuntime) -> Result<(), Fail> {
+    try_cases(&rt, &ByteRouter, 10_000, CASES)
 }

@@ -1,73 +1,124 @@
-//! What no clause says of the plans to measure on: in turns and by threads, with four workers of each group, they come to the rows of
-//! their serial evaluation, and those that put rows together by hundreds to what was worked out by hand; one of them is run by threads with
-//! sizes of all kinds.
+//! The queries of `vx_wisconsin`: each way to run one comes to the rows of its serial evaluation, and those that put rows together by hundreds to what was worked
+//! out by hand. Their rows were counted by hand too.
 
-use crate::threads::wrong_runs;
-use std::alloc::Global;
-use std::sync::Wait;
+use crate::ways::{try_plan, try_plans};
 use std::test::Fail;
-use std::thread::Threads;
-use test_relations::plan_of_query;
-use test_runs::{Case, Draws, agrees, by_percent, by_rounds, case_of_query, serially, setup_of};
 use vx_exchange::ByteRouter;
 
-// How many runs with drawn sizes there are.
-const DRAWN_RUNS: u32 = 50;
+// The queries over relations of 10,000 and of 1000 rows.
+const QUERIES: &str = "query 1 | QUERY 1 | - | - | - | serial 100
+query 2 | QUERY 2 | - | - | - | serial 1000
+query 3 | QUERY 3 | - | - | - | serial 1000
+query 4 | QUERY 4 | - | - | - | serial 1000
+query 5 | QUERY 5 | - | - | - | serial 1000
+query 6 | QUERY 6 | - | - | - | serial 1000
+query 7 | QUERY 7 | - | - | - | serial 200
+query 8 | QUERY 8 | - | - | - | serial 10000
+query 9 | QUERY 9 | - | - | - | 0;
+query 10 | QUERY 10 | - | - | - | 0 0;1 1;2 2;3 3;4 4;5 5;6 6;7 7;8 8;9 9;10 10;11 11;12 12;13 13;14 14;15 15;16 16;17 17;18 18;19 19;20 20;21 21;22 22;23 23;24 24;25 25;26 26;27 27;28 28;29 29;30 30;31 31;32 32;33 33;34 34;35 35;36 36;37 37;38 38;39 39;40 40;41 41;42 42;43 43;44 44;45 45;46 46;47 47;48 48;49 49;50 50;51 51;52 52;53 53;54 54;55 55;56 56;57 57;58 58;59 59;60 60;61 61;62 62;63 63;64 64;65 65;66 66;67 67;68 68;69 69;70 70;71 71;72 72;73 73;74 74;75 75;76 76;77 77;78 78;79 79;80 80;81 81;82 82;83 83;84 84;85 85;86 86;87 87;88 88;89 89;90 90;91 91;92 92;93 93;94 94;95 95;96 96;97 97;98 98;99 99;
+query 11 | QUERY 11 | - | - | - | 0 495000;1 495100;2 495200;3 495300;4 495400;5 495500;6 495600;7 495700;8 495800;9 495900;10 496000;11 496100;12 496200;13 496300;14 496400;15 496500;16 496600;17 496700;18 496800;19 496900;20 497000;21 497100;22 497200;23 497300;24 497400;25 497500;26 497600;27 497700;28 497800;29 497900;30 498000;31 498100;32 498200;33 498300;34 498400;35 498500;36 498600;37 498700;38 498800;39 498900;40 499000;41 499100;42 499200;43 499300;44 499400;45 499500;46 499600;47 499700;48 499800;49 499900;50 500000;51 500100;52 500200;53 500300;54 500400;55 500500;56 500600;57 500700;58 500800;59 500900;60 501000;61 501100;62 501200;63 501300;64 501400;65 501500;66 501600;67 501700;68 501800;69 501900;70 502000;71 502100;72 502200;73 502300;74 502400;75 502500;76 502600;77 502700;78 502800;79 502900;80 503000;81 503100;82 503200;83 503300;84 503400;85 503500;86 503600;87 503700;88 503800;89 503900;90 504000;91 504100;92 504200;93 504300;94 504400;95 504500;96 504600;97 504700;98 504800;99 504900;
+query 12 | QUERY 12 | - | - | - | 0 495000;1 495100;2 495200;3 495300;4 495400;5 495500;6 495600;7 495700;8 495800;9 495900;10 496000;11 496100;12 496200;13 496300;14 496400;15 496500;16 496600;17 496700;18 496800;19 496900;20 497000;21 497100;22 497200;23 497300;24 497400;25 497500;26 497600;27 497700;28 497800;29 497900;30 498000;31 498100;32 498200;33 498300;34 498400;35 498500;36 498600;37 498700;38 498800;39 498900;40 499000;41 499100;42 499200;43 499300;44 499400;45 499500;46 499600;47 499700;48 499800;49 499900;50 500000;51 500100;52 500200;53 500300;54 500400;55 500500;56 500600;57 500700;58 500800;59 500900;60 501000;61 501100;62 501200;63 501300;64 501400;65 501500;66 501600;67 501700;68 501800;69 501900;70 502000;71 502100;72 502200;73 502300;74 502400;75 502500;76 502600;77 502700;78 502800;79 502900;80 503000;81 503100;82 503200;83 503300;84 503400;85 503500;86 503600;87 503700;88 503800;89 503900;90 504000;91 504100;92 504200;93 504300;94 504400;95 504500;96 504600;97 504700;98 504800;99 504900;
+query 13 | QUERY 13 | - | - | - | serial 1000";
 
-// Whether a case comes to its serial rows in turns, and in three runs by threads.
-fn is_right<T: Threads + Wait + Sync>(rt: &T, alloc: Global, case: &Case) -> Result<bool, Fail> {
-    let setup = setup_of(alloc, 4, 256, 1024, 8)?;
-    let rows = serially(alloc, case)?;
-    let text = by_rounds(alloc, case, &setup, &ByteRouter)?;
-    Ok(
-        agrees(alloc, case, text.as_str(), rows.as_str())?
-            && wrong_runs(rt, alloc, case, &setup, &ByteRouter, rows.as_str(), 3)? == 0,
-    )
+const WAYS: &str = "serial | 1 | | 1 1 1 | rows in order
+rounds | 1 | many=4 | 256 1024 8 | rows
+threads | 3 | many=4 | 256 1024 8 | rows";
+
+// The queries but the fifth over relations of 1000 and of 100 rows.
+const SMALL_QUERIES: &str = "query 1 | QUERY 1 | - | - | - | serial 100
+query 2 | QUERY 2 | - | - | - | serial 208
+query 3 | QUERY 3 | - | - | - | serial 1000
+query 4 | QUERY 4 | - | - | - | serial 100
+query 6 | QUERY 6 | - | - | - | serial 100
+query 7 | QUERY 7 | - | - | - | serial 200
+query 8 | QUERY 8 | - | - | - | serial 1000
+query 9 | QUERY 9 | - | - | - | 0;
+query 10 | QUERY 10 | - | - | - | 0 0;1 1;2 2;3 3;4 4;5 5;6 6;7 7;8 8;9 9;10 10;11 11;12 12;13 13;14 14;15 15;16 16;17 17;18 18;19 19;20 20;21 21;22 22;23 23;24 24;25 25;26 26;27 27;28 28;29 29;30 30;31 31;32 32;33 33;34 34;35 35;36 36;37 37;38 38;39 39;40 40;41 41;42 42;43 43;44 44;45 45;46 46;47 47;48 48;49 49;50 50;51 51;52 52;53 53;54 54;55 55;56 56;57 57;58 58;59 59;60 60;61 61;62 62;63 63;64 64;65 65;66 66;67 67;68 68;69 69;70 70;71 71;72 72;73 73;74 74;75 75;76 76;77 77;78 78;79 79;80 80;81 81;82 82;83 83;84 84;85 85;86 86;87 87;88 88;89 89;90 90;91 91;92 92;93 93;94 94;95 95;96 96;97 97;98 98;99 99;
+query 11 | QUERY 11 | - | - | - | 0 4500;1 4510;2 4520;3 4530;4 4540;5 4550;6 4560;7 4570;8 4580;9 4590;10 4600;11 4610;12 4620;13 4630;14 4640;15 4650;16 4660;17 4670;18 4680;19 4690;20 4700;21 4710;22 4720;23 4730;24 4740;25 4750;26 4760;27 4770;28 4780;29 4790;30 4800;31 4810;32 4820;33 4830;34 4840;35 4850;36 4860;37 4870;38 4880;39 4890;40 4900;41 4910;42 4920;43 4930;44 4940;45 4950;46 4960;47 4970;48 4980;49 4990;50 5000;51 5010;52 5020;53 5030;54 5040;55 5050;56 5060;57 5070;58 5080;59 5090;60 5100;61 5110;62 5120;63 5130;64 5140;65 5150;66 5160;67 5170;68 5180;69 5190;70 5200;71 5210;72 5220;73 5230;74 5240;75 5250;76 5260;77 5270;78 5280;79 5290;80 5300;81 5310;82 5320;83 5330;84 5340;85 5350;86 5360;87 5370;88 5380;89 5390;90 5400;91 5410;92 5420;93 5430;94 5440;95 5450;96 5460;97 5470;98 5480;99 5490;
+query 12 | QUERY 12 | - | - | - | 0 4500;1 4510;2 4520;3 4530;4 4540;5 4550;6 4560;7 4570;8 4580;9 4590;10 4600;11 4610;12 4620;13 4630;14 4640;15 4650;16 4660;17 4670;18 4680;19 4690;20 4700;21 4710;22 4720;23 4730;24 4740;25 4750;26 4760;27 4770;28 4780;29 4790;30 4800;31 4810;32 4820;33 4830;34 4840;35 4850;36 4860;37 4870;38 4880;39 4890;40 4900;41 4910;42 4920;43 4930;44 4940;45 4950;46 4960;47 4970;48 4980;49 4990;50 5000;51 5010;52 5020;53 5030;54 5040;55 5050;56 5060;57 5070;58 5080;59 5090;60 5100;61 5110;62 5120;63 5130;64 5140;65 5150;66 5160;67 5170;68 5180;69 5190;70 5200;71 5210;72 5220;73 5230;74 5240;75 5250;76 5260;77 5270;78 5280;79 5290;80 5300;81 5310;82 5320;83 5330;84 5340;85 5350;86 5360;87 5370;88 5380;89 5390;90 5400;91 5410;92 5420;93 5430;94 5440;95 5450;96 5460;97 5470;98 5480;99 5490;
+query 13 | QUERY 13 | - | - | - | serial 100";
+
+const SMALL_WAYS: &str = "serial | 1 | | 1 1 1 | rows in order
+rounds | 1 | many=1 | 16 32 2 | rows
+rounds | 1 | many=4 | 16 32 2 | rows
+rounds | 1 | many=64 | 16 32 2 | rows
+threads | 1 | many=1 | 16 32 2 | rows
+threads | 1 | many=4 | 16 32 2 | rows";
+
+const FIFTH_QUERY: &str = "query 5 | QUERY 5 | - | - | - | serial 100";
+
+// With 64 workers of each group there would be 257, one more than a run may have.
+const FIFTH_WAYS: &str = "serial | 1 | | 1 1 1 | rows in order
+rounds | 1 | many=1 | 16 32 2 | rows
+rounds | 1 | many=4 | 16 32 2 | rows
+rounds | 1 | many=63 | 16 32 2 | rows
+rounds | 1 | many=64 | 16 32 2 | X12 TooManyWorkers number=257
+threads | 1 | many=1 | 16 32 2 | rows
+threads | 1 | many=4 | 16 32 2 | rows";
+
+#[test]
+fn each_way_to_answer_a_query_has_the_same_rows(rt: HostRuntime) -> Result<(), Fail> {
+    try_plans(&rt, &ByteRouter, 1000, SMALL_QUERIES, SMALL_WAYS)?;
+    try_plan(&rt, &ByteRouter, 1000, FIFTH_QUERY, FIFTH_WAYS)
 }
+
+const TENTH_QUERY: &str = "query 10 | QUERY 10 | - | - | - | serial 100";
+
+// Sizes that were drawn, small ones as often as large ones: 1 to 16 workers, packets of up to 4096 rows, morsels of up to 10,000, a slack of up to
+// 1024.
+const DRAWN_SIZES: &str = "threads | 1 | many=1 | 1132 4 252 | rows
+threads | 1 | many=1 | 1 1 136 | rows
+threads | 1 | many=8 | 991 143 1 | rows
+threads | 1 | many=1 | 26 6 1 | rows
+threads | 1 | many=1 | 124 1654 473 | rows
+threads | 1 | many=1 | 48 51 28 | rows
+threads | 1 | many=1 | 1 2 1 | rows
+threads | 1 | many=1 | 2 1 1 | rows
+threads | 1 | many=1 | 14 1 1 | rows
+threads | 1 | many=1 | 15 2 1 | rows
+threads | 1 | many=1 | 1393 9980 1 | rows
+threads | 1 | many=1 | 3526 7 78 | rows
+threads | 1 | many=1 | 10 1672 158 | rows
+threads | 1 | many=1 | 2 2175 25 | rows
+threads | 1 | many=1 | 1823 1 2 | rows
+threads | 1 | many=1 | 22 2311 1 | rows
+threads | 1 | many=1 | 1 6 54 | rows
+threads | 1 | many=1 | 29 2476 1 | rows
+threads | 1 | many=1 | 602 54 1 | rows
+threads | 1 | many=2 | 1729 1 1 | rows
+threads | 1 | many=1 | 1 1 1 | rows
+threads | 1 | many=1 | 59 3388 18 | rows
+threads | 1 | many=1 | 28 9 226 | rows
+threads | 1 | many=2 | 1 31 38 | rows
+threads | 1 | many=2 | 1416 163 9 | rows
+threads | 1 | many=1 | 1 1 1 | rows
+threads | 1 | many=1 | 1 3 641 | rows
+threads | 1 | many=1 | 13 22 1 | rows
+threads | 1 | many=1 | 492 26 51 | rows
+threads | 1 | many=1 | 1 103 6 | rows
+threads | 1 | many=1 | 1 36 69 | rows
+threads | 1 | many=3 | 157 1240 1 | rows
+threads | 1 | many=1 | 97 1 127 | rows
+threads | 1 | many=1 | 1 17 75 | rows
+threads | 1 | many=1 | 4 1 359 | rows
+threads | 1 | many=4 | 104 418 2 | rows
+threads | 1 | many=1 | 673 1 3 | rows
+threads | 1 | many=1 | 326 1 1 | rows
+threads | 1 | many=1 | 1534 1 285 | rows
+threads | 1 | many=1 | 40 108 196 | rows
+threads | 1 | many=1 | 98 4834 1 | rows
+threads | 1 | many=1 | 5 1 1 | rows
+threads | 1 | many=1 | 37 1 1 | rows
+threads | 1 | many=1 | 4 14 1 | rows
+threads | 1 | many=3 | 349 9911 87 | rows
+threads | 1 | many=1 | 331 2 2 | rows
+threads | 1 | many=1 | 226 1 1 | rows
+threads | 1 | many=1 | 1 1 1 | rows
+threads | 1 | many=4 | 75 1335 1 | rows
+threads | 1 | many=1 | 1 167 19 | rows";
 
 #[test]
 fn queries_come_to_their_serial_rows(rt: HostRuntime) -> Result<(), Fail> {
-    let alloc = rt.alloc();
-    let (mut case, _) = case_of_query(alloc, 1)?;
-    for query in 1..14 {
-        case.plan = plan_of_query(alloc, query)?;
-        assert!(rt; is_right(&rt, alloc, &case)?, "query {query}");
-    }
-    Ok(())
-}
-
-// Whether a query comes to these rows serially, and in turns.
-fn comes_to(alloc: Global, query: u32, rows: &str) -> Result<bool, Fail> {
-    let (case, serial) = case_of_query(alloc, query)?;
-    let setup = setup_of(alloc, 4, 256, 1024, 8)?;
-    let text = by_rounds(alloc, &case, &setup, &ByteRouter)?;
-    Ok(serial.as_str() == rows && text.as_str() == rows)
-}
-
-#[test]
-fn aggregates_come_to_what_was_worked_out_by_hand(rt: HostRuntime) -> Result<(), Fail> {
-    let alloc = rt.alloc();
-    let least = by_percent(alloc, 1, 0)?;
-    assert!(rt; comes_to(alloc, 10, least.as_str())?);
-    let sums = by_percent(alloc, 100, 495_000)?;
-    assert!(rt; comes_to(alloc, 11, sums.as_str())?);
-    assert!(rt; comes_to(alloc, 12, sums.as_str())?);
-    Ok(())
-}
-
-#[test]
-fn drawn_sizes_change_no_row(rt: HostRuntime) -> Result<(), Fail> {
-    let alloc = rt.alloc();
-    let (case, rows) = case_of_query(alloc, 10)?;
-    let mut draws = Draws::from_number(1);
-    for _ in 0..DRAWN_RUNS {
-        let workers = draws.up_to(16);
-        let packet = draws.up_to(4096);
-        let morsel = draws.up_to(10_000);
-        let slack = draws.up_to(1024);
-        let setup = setup_of(alloc, workers, packet, morsel, slack)?;
-        let wrong = wrong_runs(&rt, alloc, &case, &setup, &ByteRouter, rows.as_str(), 1)?;
-        assert!(rt; wrong == 0, "{workers} {packet} {morsel} {slack}");
-    }
-    Ok(())
+    try_plans(&rt, &ByteRouter, 10_000, QUERIES, WAYS)?;
+    try_plan(&rt, &ByteRouter, 10_000, TENTH_QUERY, DRAWN_SIZES)
 }

@@ -12,6 +12,10 @@ pub const GATHERED_SUMS_IN_TWO_PHASES: &str =
 pub const JOINED_GATHERED_SUMS: &str =
     r#"{"sizes":["many"],"root":{"op":"join","method":"hash","on":[["k","d.k"]],"left":{"op":"group","by":["k"],"aggregates":[{"fn":"sum","column":"v","as":"s"}],"input":{"op":"exchange","kind":"gather","input":T_SHARED}},"right":D_WHOLE}}"#;
 
+/// Each worker joins its part of a relation with another one, of which it has all rows.
+pub const JOINED_EVERYWHERE: &str =
+    r#"{"sizes":["many"],"root":{"op":"exchange","kind":"gather","input":{"op":"join","method":"hash","on":[["k","d.k"]],"left":T_PLAIN,"right":D_EVERYWHERE}}}"#;
+
 /// Plans of each operator but joins, with one group of workers beside the one at the root. What comes of them is in the order of
 /// their serial evaluation.
 pub const OPERATOR_PLANS: &str =

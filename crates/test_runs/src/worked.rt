@@ -1,4 +1,10 @@
-//! Plans that were worked out by hand, and what comes of them. `lines.rt` has how a line of these tables is read.
+//! Plans that were worked out by hand, and what comes of them. A line of these tables has the name of a plan, its document or the name of
+//! that, the names of the rows of t and of d, how many groups of workers it has beside the worker at the root, and what comes of it: rows, or the
+//! line of a fault. `lines.rt` has the names.
+
+/// Workers scan, and the root's worker gathers.
+pub const GATHERED: &str =
+    r#"{"sizes":["many"],"root":{"op":"exchange","kind":"gather","claim":{"part":"one"},"input":T_PLAIN}}"#;
 
 /// Workers scan and select, and the root's worker gathers.
 pub const SELECTED: &str =
@@ -8,9 +14,6 @@ pub const SELECTED: &str =
 pub const MERGED: &str =
     r#"{"sizes":["many"],"total":true,"root":{"op":"exchange","kind":"gather","merge":["id"],"claim":{"part":"one","order":["id"],"keys":[["id"]]},"input":{"op":"select","where":[{"column":"v","op":"=","value":7}],"claim":{"part":"any","order":["id"],"keys":[["id"]]},"input":T_SHARED}}}"#;
 
-/// What comes of both.
-pub const SELECTED_ROWS: &str = "1 'b' 7;3 'c' 7;";
-
 /// Sums of rows that are sent by their keys, in the order of these. The group is node 2.
 pub const GROUPED: &str =
     r#"{"sizes":["many"],"total":true,"root":{"op":"exchange","kind":"gather","merge":["k"],"claim":{"part":"one","order":["k"],"keys":[["k"]]},"input":{"op":"sort","columns":["k"],"claim":{"part":{"hash":"h","columns":["k"]},"order":["k"],"keys":[["k"]]},"input":{"op":"group","by":["k"],"aggregates":[{"fn":"sum","column":"v","as":"s"}],"claim":{"part":{"hash":"h","columns":["k"]},"keys":[["k"]]},"input":{"op":"exchange","kind":"hash","route":"h","columns":["k"],"size":"many","claim":{"part":{"hash":"h","columns":["k"]}},"input":T_PLAIN}}}}}"#;
@@ -19,9 +22,6 @@ pub const GROUPED: &str =
 pub const SUMS_IN_TWO_PHASES: &str =
     r#"{"sizes":["many"],"total":true,"root":{"op":"exchange","kind":"gather","merge":["k"],"claim":{"part":"one","order":["k"],"keys":[["k"]]},"input":{"op":"sort","columns":["k"],"claim":{"part":{"hash":"h","columns":["k"]},"order":["k"],"keys":[["k"]]},"input":{"op":"group","phase":"final","claim":{"part":{"hash":"h","columns":["k"]},"keys":[["k"]]},"input":{"op":"exchange","kind":"hash","route":"h","columns":["k"],"size":"many","claim":{"part":{"hash":"h","columns":["k"]}},"input":{"op":"group","phase":"partial","by":["k"],"aggregates":[{"fn":"sum","column":"v","as":"s"}],"input":T_PLAIN}}}}}}"#;
 
-/// What comes of both.
-pub const GROUPED_ROWS: &str = "'a' 3;'b' 7;'c' 7;";
-
 /// A join with rows that each worker has.
 pub const JOINED: &str =
     r#"{"sizes":["many"],"total":true,"root":{"op":"exchange","kind":"gather","merge":["id"],"claim":{"part":"one","order":["id"],"keys":[["id"]]},"input":{"op":"join","method":"hash","on":[["k","d.k"]],"claim":{"part":"any","order":["id"],"keys":[["id"]]},"left":T_SHARED,"right":{"op":"exchange","kind":"broadcast","size":"many","claim":{"part":"all","keys":[["d.k"]]},"input":D_SHARED}}}}"#;
@@ -29,9 +29,6 @@ pub const JOINED: &str =
 /// A join of rows that are sent by one name.
 pub const SENT_TO_MEET: &str =
     r#"{"sizes":["many"],"root":{"op":"exchange","kind":"gather","input":{"op":"join","method":"hash","on":[["k","d.k"]],"left":{"op":"exchange","kind":"hash","route":"h","columns":["k"],"size":"many","claim":{"part":{"hash":"h","columns":["k"]}},"input":T_SHARED},"right":{"op":"exchange","kind":"hash","route":"h","columns":["d.k"],"size":"many","claim":{"part":{"hash":"h","columns":["d.k"]}},"input":D_SHARED}}}}"#;
-
-/// What comes of both.
-pub const JOINED_ROWS: &str = "0 'a' 5 'a' 10;1 'b' 7 'b' 20;2 'a' -2 'a' 10;";
 
 /// One worker joins sums, of node 1, with what the other relation has for the key.
 pub const JOINED_SUMS: &str =

@@ -1,8 +1,10 @@
-//! Numbers that are drawn at random; and schedules: drawn, or one worker after the other.
+//! Schedules: with steps of workers that are drawn at random, or of one worker after the other.
 
 ghost use Rattle.std.specs.Prelude.{◌<◌};
 
+use crate::lines::first_word;
 use std::alloc::{AllocError, Global};
+use std::test::Fail;
 
 // How many steps of a schedule are drawn.
 const DRAWN: u32 = 500;
@@ -29,13 +31,6 @@ impl Draws {
         (next / 65_536) as u32 % bound
     }
 
-    /// A number from 1 to this one. How many bits it has at most is drawn first, so that small ones come as often as large
-    /// ones.
-    pub fn up_to(&mut self, most: u32) -> u32 {
-        let bound = (most >> self.below(16)).max(1);
-        self.below(bound).saturating_add(1)
-    }
-
     /// 500 steps of these workers that are drawn, and then a step of each of them in turn, this many times.
     pub fn schedule(
         &mut self,
@@ -58,13 +53,21 @@ impl Draws {
     }
 }
 
-/// A schedule with `steps_of_each` steps of each of these `workers`, one worker after the other.
-pub fn in_turn(alloc: Global, workers: &[u32], steps_of_each: u32) -> Result<Vec<u32>, AllocError> {
+// Adds this many steps of a worker.
+fn push_steps(steps: &mut Vec<u32>, worker: u32, many: u32) -> Result<(), AllocError> {
+    for _ in 0..many {
+        steps.push(worker)?;
+    }
+    Ok(())
+}
+
+/// A schedule from a text that has a number, and workers, as `40 3 2 1 0`: so many steps of each of these, one worker after the other.
+pub fn in_turn(alloc: Global, text: &str) -> Result<Vec<u32>, Fail> {
+    let (many, workers) = first_word(text);
+    let many = many.parse::<u32>()?;
     let mut steps = Vec::new(alloc);
-    for worker in workers {
-        for _ in 0..steps_of_each {
-            steps.push(*worker)?;
-        }
+    for worker in workers.split_whitespace() {
+        push_steps(&mut steps, worker.parse::<u32>()?, many)?;
     }
     Ok(steps)
 }

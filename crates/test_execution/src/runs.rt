@@ -1,0 +1,107 @@
+//! What runs come to, as texts: their rows, the line of their fault, or that some worker has not ended.
+
+use crate::cases::Case;
+use std::alloc::{AllocError, Global};
+use std::sync::Wait;
+use std::test::Fail;
+use std::thread::Threads;
+use test_tables::shown;
+use vx_exec::{rounds_needed, run_rounds, run_scheduled};
+use vx_exec_parallel::{Threading, run_threads};
+use vx_exec_runs::RunOutcome;
+use vx_exec_setup::{EvalFault, RunCounts, RunFault, Setup};
+use vx_exec_threads::Gate;
+use vx_plan::erase;
+use vx_plan_nodes::Router;
+use vx_rows_views::Rows;
+use vx_serial::eval;
+
+// The rows as one text.
+fn text_of(alloc: Global, rows: &Rows) -> Result<String, AllocError> {
+    shown(alloc, &rows.gathered(alloc)?)
+}
+
+/// The text of what a run comes to.
+pub fn outcome(alloc: Global, ran: Result<RunOutcome, RunFault>) -> Result<String, AllocError> {
+    match ran {
+        Ok(RunOutcome::Done(rows)) => text_of(alloc, &rows),
+        Ok(RunOutcome::Unfinished) => String::from_str(alloc, "unfinished"),
+        Err(fault) => format!(in alloc; "{fault}"),
+    }
+}
+
+/// What a case comes to by serial evaluation, without its exchanges. An overflow has no number of a node, since the nodes of that plan are numbered
+/// otherwise.
+pub fn serially(alloc: Global, case: &Case) -> Result<String, Fail> {
+    match eval(alloc, &erase(alloc, case.plan.plan())?, &case.database) {
+        Ok(rows) => Ok(text_of(alloc, &rows)?),
+        Err(EvalFault::Overflow { node: _ }) => Ok(String::from_str(alloc, "X7 Overflow")?),
+        Err(fault) => Ok(format!(in alloc; "{fault}")?),
+    }
+}
+
+/// What a case comes to in at most `limit` rounds.
+pub fn by_rounds<R: Router>(
+    alloc: Global,
+    case: &Case,
+    setup: &Setup,
+    router: &R,
+    limit: u64,
+    counts: &mut RunCounts,
+) -> Result<String, AllocError> {
+    let (plan, database) = (&case.plan, &case.database);
+    outcome(
+        alloc,
+        run_rounds(alloc, plan, database, setup, router, limit, counts),
+    )
+}
+
+/// What a case comes to in as many rounds as it needs at most, and no more. If `needed` is not empty and not their number, that is the answer.
+pub fn by_needed_rounds<R: Router>(
+    alloc: Global,
+    case: &Case,
+    setup: &Setup,
+    router: &R,
+    needed: &str,
+) -> Result<String, Fail> {
+    let limit = match rounds_needed(alloc, &case.plan, &case.database, setup) {
+        Ok(limit) => limit,
+        Err(fault) => return Ok(outcome(alloc, Err(fault))?),
+    };
+    if !needed.is_empty() && needed.parse::<u64>()? != limit {
+        return Ok(format!(in alloc; "{limit}")?);
+    }
+    let mut unread = RunCounts::unread(alloc);
+    Ok(by_rounds(alloc, case, setup, router, limit, &mut unread)?)
+}
+
+/// What a case comes to by a schedule.
+pub fn by_steps<R: Router>(
+    alloc: Global,
+    case: &Case,
+    setup: &Setup,
+    router: &R,
+    steps: &[u32],
+) -> Result<String, AllocError> {
+    let (plan, database) = (&case.plan, &case.database);
+    outcome(
+        alloc,
+        run_scheduled(alloc, plan, database, setup, router, steps),
+    )
+}
+
+/// What a case comes to by threads.
+pub fn by_threads<T: Threads + Wait + Sync, R: Router + Sync, G: Gate + Sync>(
+    rt: &T,
+    alloc: Global,
+    case: &Case,
+    setup: &Setup,
+    threading: &Threading<'_, R, G>,
+    counts: &mut RunCounts,
+) -> Result<String, AllocError> {
+    let (plan, database) = (&case.plan, &case.database);
+    outcome(
+        alloc,
+        run_threads(rt, alloc, plan, database, setup, threading, counts),
+    )
+}
