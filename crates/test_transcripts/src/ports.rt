@@ -43,6 +43,17 @@ impl<'a> Ports<'a> {
             error_room: AMPLE,
         }
     }
+
+    /// Ports of which what is read at `path` fails after `after` bytes.
+    pub fn cut(input: &'a [u8], path: &'a str, after: usize) -> Ports<'a> {
+        Ports {
+            input,
+            cut: path,
+            after,
+            room: AMPLE,
+            error_room: AMPLE,
+        }
+    }
 }
 
 // The status of the answer to `arguments` over `files` and `input`. What it writes goes to `out` and `err`.

@@ -73,11 +73,9 @@ impl<R: Threads + Wait + Sync + Files<File = File> + Print + AllocGlobal> Trial<
             let bytes = fs::read(self.rt, path).context(format_args!("reading {path}"))?;
             bytes.len()
         };
-        let mut ports = Ports::ample(self.input);
-        ports.cut = path;
         let runs = length.saturating_add(1);
         for after in 0..runs {
-            ports.after = after;
+            let ports = Ports::cut(self.input, path, after);
             self.try_ports(&ports, self.wanted)?;
         }
         Ok(runs as u64)
