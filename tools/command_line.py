@@ -36,9 +36,9 @@ class Argument:
         return self.many
 
     def words(self):
-        """The words that the option takes where it has a default that its help names in backquotes: help names all of them so."""
-        named = re.findall(r"`(\w[\w-]*)`", self.help)
-        return list(dict.fromkeys(named)) if self.default_value in named else []
+        """The words that the option takes where its help names them in backquotes, with its default if it has one: help names all of them so."""
+        named = re.findall(r"`(\w[\w-]*)`", self.help) if self.takes_value() else []
+        return list(dict.fromkeys(named)) if not self.default_value or self.default_value in named else []
 
 
 @dataclass

@@ -23,15 +23,15 @@ _volcano() {
         return
     fi
     case ${COMP_WORDS[1]} in
-        run) options='--catalog --data --packet --morsel --slack --mode --threads --quiet --stats --verbose-errors --help' words='--plan' words+=" $(_volcano_sizes)" ;;
-        serial) options='--catalog --plan --data --threads --quiet --verbose-errors --help' ;;
-        check) options='--catalog --plan --all --verbose-errors --help' ;;
-        explain) options='--catalog --plan --format --stats --verbose-errors --help' ;;
-        annotate) options='--catalog --plan --verbose-errors --help' ;;
-        sql) options='--catalog --plan --dialect --verbose-errors --help' ;;
+        run) options='--catalog --data --packet --morsel --slack --mode --threads --quiet --stats --errors --verbose-errors --help' words='--plan' words+=" $(_volcano_sizes)" ;;
+        serial) options='--catalog --plan --data --threads --quiet --errors --verbose-errors --help' ;;
+        check) options='--catalog --plan --all --errors --verbose-errors --help' ;;
+        explain) options='--catalog --plan --format --stats --errors --verbose-errors --help' ;;
+        annotate) options='--catalog --plan --errors --verbose-errors --help' ;;
+        sql) options='--catalog --plan --dialect --errors --verbose-errors --help' ;;
         why) options='--help' words='C1 C2 C3 C4 C5 C6 C7 C8 C9 C10 C11 C12 K1 K2 K3 K4 K5 K6 K7 K8 K9 P1 P2 P3 P4 P5 P6 P7 P8 P9 P10 P11 P12 P13 V1 V2 V3 V4 V5 V6 X1 X2 X3 X4 X5 X6 X7 X8 X9 X10 X11 X12 X13 X14' word=${word^^} ;;
         gen) options='--rows --help' ;;
-        bundle) options='--threads --stats --help' ;;
+        bundle) options='--threads --stats --errors --verbose-errors --help' ;;
         help) words='run serial check explain annotate sql why gen bundle' ;;
     esac
     case "${COMP_WORDS[1]} $before" in
@@ -52,6 +52,10 @@ _volcano() {
             ;;
         'run --stats' | 'bundle --stats')
             mapfile -t COMPREPLY < <(compgen -W 'table json none' -- "$word")
+            return
+            ;;
+        *' --errors')
+            mapfile -t COMPREPLY < <(compgen -W 'short long json' -- "$word")
             return
             ;;
         *' --format')

@@ -23,8 +23,11 @@ fn words_of<'a>(alloc: Global, line: &'a str) -> Result<Vec<&'a str>, AllocError
 // What a line asks for.
 fn described(alloc: Global, request: &Request<'_>) -> Result<String, AllocError> {
     let asked = &request.asked;
-    if request.is_verbose {
-        return format!(in alloc; "{asked:?}, verbose");
+    if let Some(form) = request.errors {
+        return format!(in alloc; "{asked:?}, errors: {form:?}");
+    }
+    if let Some(word) = request.unknown_errors {
+        return format!(in alloc; "{asked:?}, unknown errors: {word}");
     }
     match request.stats {
         None | Some("none") => {}

@@ -17,6 +17,7 @@ mod alternatives;
 mod calls;
 mod command;
 mod cut;
+mod output;
 mod ports;
 mod trial;
 mod way;
@@ -41,7 +42,7 @@ fn show<R: Threads + Wait + Sync + Files<File = File> + Print + AllocGlobal>(
     let input = command.read_input(rt)?;
     let ports = Ports::ample(input.as_slice());
     let written = run(rt, command.arguments.as_slice(), &ports);
-    let out = str::from_utf8(written.out.bytes())?;
+    let out = str::from_utf8(written.out.port.bytes())?;
     let err = str::from_utf8(written.err.bytes())?;
     let status = written.status;
     println!(rt; "{out}{err}status {status}")?;

@@ -1,12 +1,14 @@
 //! Runs of the program over ports that may fail, and what comes of them.
 
 use crate::cut::CutDisk;
+use crate::output::TestOutput;
 use anyhow::Error;
 use std::alloc::Global;
 use std::fs::{File, Files};
 use std::sync::Wait;
 use std::thread::Threads;
-use volcano_answer::{Services, answer};
+use volcano_answer::{Pipe, Services, answer};
+use volcano_locations::{Reasons, Recorded, SystemFiles};
 use volcano_stats::NoClock;
 use vx_catalog_bytes::{ByteOut, Disk, MemoryIn, MemoryOut, Real, Store};
 use vx_exec_parallel::Engine;
@@ -28,6 +30,8 @@ pub struct Ports<'a> {
     pub after: usize,
     /// How many bytes the output takes.
     pub room: usize,
+    /// Whether the output is a pipe, which nobody reads once it has taken them.
+    pub is_pipe: bool,
     /// How many bytes the errors take.
     pub error_room: usize,
 }
@@ -40,6 +44,7 @@ impl<'a> Ports<'a> {
             cut: "",
             after: 0,
             room: AMPLE,
+            is_pipe: false,
             error_room: AMPLE,
         }
     }
@@ -51,6 +56,7 @@ impl<'a> Ports<'a> {
             cut: path,
             after,
             room: AMPLE,
+            is_pipe: false,
             error_room: AMPLE,
         }
     }
@@ -59,11 +65,16 @@ impl<'a> Ports<'a> {
 // The status of the answer to `arguments` over `files` and `input`. What it writes goes to `out` and `err`.
 //
 // The one place that calls the program: its contract is long, and the proof of each caller goes through it.
-fn status_of<R: Threads + Wait + Sync + AllocGlobal, F: Store, O: ByteOut, E: ByteOut>(
+fn status_of<
+    R: Threads + Wait + Sync + AllocGlobal,
+    F: Store + Reasons,
+    O: ByteOut + Pipe,
+    E: ByteOut,
+>(
     rt: &R,
     arguments: &[&str],
     files: &F,
-    input: &mut MemoryIn<'_>,
+    input: &mut Recorded<MemoryIn<'_>>,
     out: &mut O,
     err: &mut E,
 ) -> u8 {
@@ -74,7 +85,7 @@ fn status_of<R: Threads + Wait + Sync + AllocGlobal, F: Store, O: ByteOut, E: By
 /// What a run wrote, and its status.
 #[derive(Drop)]
 pub struct Written {
-    pub out: MemoryOut,
+    pub out: TestOutput<MemoryOut>,
     pub err: MemoryOut,
     pub status: u8,
 }
@@ -85,19 +96,25 @@ pub fn run<R: Threads + Wait + Sync + Files<File = File> + AllocGlobal>(
     arguments: &[&str],
     ports: &Ports<'_>,
 ) -> Written {
-    let mut out = MemoryOut::new(rt.alloc(), 3, ports.room);
+    let mut out = TestOutput {
+        port: MemoryOut::new(rt.alloc(), 3, ports.room),
+        is_pipe: ports.is_pipe,
+    };
     let mut err = MemoryOut::new(rt.alloc(), 10, ports.error_room);
-    let files = CutDisk {
-        disk: Disk::new(rt),
-        path: ports.cut,
-        after: ports.after,
+    let files = SystemFiles {
+        rt,
+        files: CutDisk {
+            disk: Disk::new(rt),
+            path: ports.cut,
+            after: ports.after,
+        },
     };
     let fails_after = if ports.cut == INPUT {
         Some(ports.after)
     } else {
         None
     };
-    let mut input = MemoryIn::new(ports.input, fails_after);
+    let mut input = Recorded::new(rt.alloc(), MemoryIn::new(ports.input, fails_after));
     let status = status_of(rt, arguments, &files, &mut input, &mut out, &mut err);
     Written { out, err, status }
 }
@@ -118,12 +135,19 @@ pub fn text_of<R: Threads + Wait + Sync + Files<File = File> + AllocGlobal>(
 ) -> Result<String, Error> {
     let mut out = Vec::<u8>::with_capacity(rt.alloc(), AMPLE)?;
     let mut err = Vec::<u8>::with_capacity(rt.alloc(), AMPLE)?;
+    let files = SystemFiles {
+        rt,
+        files: Disk::new(rt),
+    };
     let status = status_of(
         rt,
         arguments,
-        &Disk::new(rt),
-        &mut MemoryIn::new(input, None),
-        &mut Real::new(&mut out),
+        &files,
+        &mut Recorded::new(rt.alloc(), MemoryIn::new(input, None)),
+        &mut TestOutput {
+            port: Real::new(&mut out),
+            is_pipe: false,
+        },
         &mut Real::new(&mut err),
     );
     shown(rt.alloc(), out.as_slice(), err.as_slice(), status)

@@ -13,6 +13,9 @@ use std::thread::Threads;
 // What is reported of an output that fails, and the status then.
 const FULL: (&[u8], u8) = (b"volcano: V4 WriteFailed\n", 4);
 
+// What is reported of a pipe that nobody reads any more, and the status then.
+const CLOSED: (&[u8], u8) = (b"", 4);
+
 /// A command that is tried. Each of its ways is a method, which returns how often the command was run.
 #[derive(Clone, Copy)]
 struct Trial<'a, R> {
@@ -42,7 +45,7 @@ impl<R: Threads + Wait + Sync + Files<File = File> + Print + AllocGlobal> Trial<
     // Runs the command over these ports, and compares what came of it.
     fn try_ports(&self, ports: &Ports<'_>, wanted: &str) -> Result<(), Error> {
         let written = run(self.rt, self.arguments, ports);
-        let (out, err) = (written.out.bytes(), written.err.bytes());
+        let (out, err) = (written.out.port.bytes(), written.err.bytes());
         let found = shown(self.rt.alloc(), out, err, written.status)?;
         self.compare(found.as_str(), wanted)
     }
@@ -108,15 +111,16 @@ impl<R: Threads + Wait + Sync + Files<File = File> + Print + AllocGlobal> Trial<
         self.errors(&ports, out.as_bytes(), (errors.as_bytes(), status))
     }
 
-    // The output takes each number of bytes, up to all.
-    fn rooms(&self) -> Result<u64, Error> {
+    // The output takes each number of bytes, up to all. Where it takes fewer, the run ends with these errors and this status.
+    fn rooms(&self, is_pipe: bool, end: (&[u8], u8)) -> Result<u64, Error> {
         let (out, _, _) = parts_of(self.rt.alloc(), self.wanted)?;
         let out = out.as_bytes();
         let mut ports = Ports::ample(self.input);
+        ports.is_pipe = is_pipe;
         let mut runs = 1u64;
         for room in 0..out.len() {
             ports.room = room;
-            runs = runs.saturating_add(self.errors(&ports, &out[..room], FULL)?);
+            runs = runs.saturating_add(self.errors(&ports, &out[..room], end)?);
         }
         ports.room = out.len();
         self.try_ports(&ports, self.wanted)?;
@@ -129,7 +133,7 @@ impl<R: Threads + Wait + Sync + Files<File = File> + Print + AllocGlobal> Trial<
         let mut ports = Ports::ample(self.input);
         ports.room = room;
         let written = run(self.rt, self.arguments, &ports);
-        let count = written.out.bytes().len();
+        let count = written.out.port.bytes().len();
         let count = format!(in alloc; "{count} bytes")?;
         let found = shown(alloc, count.as_bytes(), written.err.bytes(), written.status)?;
         self.compare(found.as_str(), self.wanted)?;
@@ -143,7 +147,8 @@ impl<R: Threads + Wait + Sync + Files<File = File> + Print + AllocGlobal> Trial<
             Way::Units(_) => self.times(1),
             Way::Fronts => self.fronts(),
             Way::Reads(path) => self.reads(path),
-            Way::Rooms => self.rooms(),
+            Way::Rooms => self.rooms(false, FULL),
+            Way::Pipes => self.rooms(true, CLOSED),
             Way::ErrorRooms => self.error_rooms(),
             Way::Bytes(room) => self.bytes(room),
         }

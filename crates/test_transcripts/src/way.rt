@@ -13,6 +13,8 @@ pub enum Way<'a> {
     Reads(&'a str),
     /// The output takes each number of bytes, and the errors each number of bytes of the line that says so.
     Rooms,
+    /// The output is a pipe that takes each number of bytes, and then nobody reads it any more.
+    Pipes,
     /// The errors take each number of bytes.
     ErrorRooms,
     /// The output takes so many bytes, of which the number alone is compared.
@@ -28,6 +30,7 @@ pub fn way_named(text: &str) -> Option<Way<'_>> {
         "once" => Some(Way::Times(1)),
         "each front" => Some(Way::Fronts),
         "each room" => Some(Way::Rooms),
+        "each pipe" => Some(Way::Pipes),
         "each room for errors" => Some(Way::ErrorRooms),
         _ => match text.split_once(' ')? {
             (number, "times") => Some(Way::Times(number.parse::<u32>().ok()?)),

@@ -1,8 +1,10 @@
 //! The program: from arguments or a bundle to rows.
 #![tactic(auto)]
 
+mod output;
 mod stack;
 
+use crate::output::Output;
 use crate::stack::take_stack;
 use std::alloc::{AllocError, Global};
 use std::env::Env;
@@ -11,6 +13,7 @@ use std::process::ExitCode;
 use std::random::RandomSource;
 use std::{env, io};
 use volcano_answer::{Services, answer};
+use volcano_locations::{Recorded, SystemFiles};
 use volcano_progress::{Terminal, Watched, is_quiet};
 use volcano_refusals::{Refusal, report};
 use vx_catalog_bytes::{Disk, Real, write_all};
@@ -55,9 +58,14 @@ fn seed_of(rt: &impl RandomSource) -> KeySeed {
     }
 }
 
+// What is said where nothing is asked for, and a person would have to type the request.
+const NO_REQUEST: &str = "volcano: no arguments, and standard input is a terminal
+Type volcano --help for the commands; a request as JSON is read from a file or a pipe: volcano < request.json
+";
+
 fn main(rt: HostRuntime) -> ExitCode {
-    let mut input = Real::new(rt.reader());
-    let mut out = Real::new(rt.stdout());
+    let mut input = Recorded::new(rt.alloc(), Real::new(rt.reader()));
+    let mut out = Output::new(rt.stdout());
     let mut err = Real::new(rt.stderr());
     let arguments = match arguments_of(&rt) {
         Ok(arguments) => arguments,
@@ -74,6 +82,10 @@ fn main(rt: HostRuntime) -> ExitCode {
         report(&Refusal::NoMemory, &mut err);
         return ExitCode::from(4);
     };
+    if texts.is_empty() && rt.stdin().is_terminal() {
+        let _ = write_all(&mut err, NO_REQUEST.as_bytes());
+        return ExitCode::from(2);
+    }
     if take_stack(rt.alloc(), texts.len()).is_err() {
         report(&Refusal::NoMemory, &mut err);
         return ExitCode::from(4);
@@ -81,8 +93,13 @@ fn main(rt: HostRuntime) -> ExitCode {
     // Only a terminal shows how much of a table has been read.
     let terminal = Terminal::new(&rt, rt.stderr());
     let is_shown = rt.stderr().is_terminal() && !is_quiet(texts.as_slice());
-    let files = Watched::new(rt.alloc(), Disk::new(&rt), is_shown.then_some(&terminal));
-    let services = Services::new(&rt, &Engine, &rt, rt.alloc(), seed_of(&rt));
+    let files = SystemFiles {
+        rt: &rt,
+        files: Watched::new(rt.alloc(), Disk::new(&rt), is_shown.then_some(&terminal)),
+    };
+    let services = Services::new(&rt, &Engine, &rt, rt.alloc(), seed_of(&rt)).with_reader(
+        rt.stderr().is_terminal(),
+    );
     ExitCode::from(answer(
         &services,
         texts.as_slice(),

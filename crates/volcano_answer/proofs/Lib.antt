@@ -11,4 +11,6 @@ pub mod PlansFacts
 pub mod SharesFacts
 pub mod StatsFacts
 pub mod StatsTextFacts
+pub mod LoadedFacts
+pub mod PrintingFacts
 pub mod SpellingFacts

@@ -69,7 +69,7 @@ module _ (Counted : Counting) where
   counted_answers f db s [] text stats h = h.0
   counted_answers f db s (n ∷ ns) text stats h =
       let first = h.4 in
-      let is : text ≡ title n.path.now ++ (first.own ++ h.2) = h.6 ∙ ap (λ t. t ++ h.2) first.text_is ∙ append_assoc (title n.path.now) first.own h.2 in
+      let is : text ≡ title (string_bytes n.path) ++ (first.own ++ h.2) = h.6 ∙ ap (λ t. t ++ h.2) first.text_is ∙ append_assoc (title (string_bytes n.path)) first.own h.2 in
       (first.own, h.2, is_run_over f n db s first.own first.counts first.run, counted_answers f db s ns h.2 h.3 h.5, is)
 
   -- one counted run more
@@ -84,8 +84,8 @@ module _ (Counted : Counting) where
   pub counted_grow : (f : Option StatsForm) (db : Database) (s : Setting) (ns : List AcceptedPlan) (i : ℕ) (d n : AcceptedPlan) (text stats grown reported : List ℕ) → i < length ns → n ≡ get_or ns i d
       → AreCountedRuns Counted f db s (take i ns) text stats → IsRunMore Counted f db s n text stats grown reported → AreCountedRuns Counted f db s (take (i + 1) ns) grown reported
   counted_grow f db s ns i d n text stats grown reported there at h more =
-      let own = title n.path.now ++ more.own in
-      let tale = if_asked f (λ form. title n.path.now ++ plan_text form (typed_plan n.plan) more.counts more.time) in
+      let own = title (string_bytes n.path) ++ more.own in
+      let tale = if_asked f (λ form. title (string_bytes n.path) ++ plan_text form (typed_plan n.plan) more.counts more.time) in
       let alone : IsRunMore Counted f db s n [] [] own tale = record {
         own = more.own;
         counts = more.counts;

@@ -1,12 +1,12 @@
 -- Answers with statistics: what they answer, and when there are none.
-use Rattle.std.proofs.Common.{◌≡◌, ◌⊎◌, ◌∙◌, ℕ, List, map, Bool, Option, Some, None, Result, Ok, Err, [], inl, inr, refl, sym, subst, string_bytes}
+use Rattle.std.proofs.Common.{◌≡◌, ◌⊎◌, ◌∙◌, ℕ, List, map, Bool, Option, Some, None, Result, Ok, Err, [], inl, inr, refl, sym, subst, string_bytes, codes}
 use Rattle.std.specs.Prelude.{IfOk, IfErr, IfSome}
 use Rattle.clap.specs.Values.{kind_of}
 use Rattle.clap.specs.Words.{HasKind, IsAmong, Kinds}
 use Rattle.clap.specs.declared.error.Error.{Error}
 use Rattle.clap.specs.declared.error.kind.ErrorKind.{ErrorKind}
 use Rattle.clap.specs.declared.error.kind.ErrorKind.TheVariants as kind
-use Rattle.volcano_arguments.specs.Asked.{Ask, Paths, ManyPaths, Given, bundle, run, run_plans, stats_by, faults_of}
+use Rattle.volcano_arguments.specs.Asked.{Ask, Paths, ManyPaths, Given, bundle, run, run_plans, stats_by, unknown_errors_by, faults_of}
 use Rattle.volcano_bundle.specs.declared.command.Command.TheVariants as command
 use Rattle.volcano_refusals.specs.declared.refusal.Refusal.{Refusal}
 use Rattle.vx_exec_runs.specs.Promise.{Counting}
@@ -14,15 +14,16 @@ use Rattle.vx_exec_setup.specs.Setting.{Setting}
 use Rattle.vx_catalog_bytes.specs.Stored.{Stored}
 use Rattle.volcano_stats.specs.declared.text.StatsForm.{StatsForm}
 use Rattle.volcano_answer.specs.Arguments.{IsSetting}
-use Rattle.volcano_answer.specs.CommandLine.{FileCommand, IsTask, TaskRefuses, AskRefuses, with_program_name, AsksFor, for_no_stats, for_bundle, for_task, for_runs, for_asked_task, arguments_memory}
-use Rattle.volcano_answer.specs.CommandLineView.{IsHelp, IsAskAnswer, IsAskFault, IsArgumentFault}
+use Rattle.volcano_answer.specs.CommandLine.{FileCommand, IsTask, TaskRefuses, AskRefuses, with_program_name, AsksFor, for_no_stats, for_unknown_errors, for_bundle, for_task, for_runs, for_asked_task, arguments_memory}
+use Rattle.volcano_answer.specs.CommandLineView.{IsHelp, IsUsageFault, IsAskAnswer, IsAskFault, IsArgumentFault}
 use Rattle.volcano_answer.specs.Files.{input_after}
 use Rattle.volcano_answer.specs.Plans.{AnswersPlans}
 use Rattle.volcano_answer.specs.PlansView.{named_is}
 use Rattle.volcano_answer.specs.Answer.{IsAnswer, AsksForRun}
 use Rattle.volcano_answer.specs.Made.{text_in, IfRun, IsRunReport}
 use Rattle.volcano_answer.specs.Stats.{AsksForRuns, AreBundleStats, AreTaskStats, ArePlansStats, for_bundle_run, for_one, for_several}
-use Rattle.volcano_answer.specs.StatsView.{answer_with, made_with, IsCountedAs, IsUncounted, IsStatsFault}
+use Rattle.volcano_answer.specs.StatsNames.{stats_named}
+use Rattle.volcano_answer.specs.StatsView.{answer_with, made_with, IsCountedAs, IsUncounted, IsStatsFault, IsErrorsFault}
 use Rattle.volcano_answer.specs.declared.command_line.ArgumentAnswer.{ArgumentAnswer}
 use Rattle.volcano_answer.specs.declared.command_line.ArgumentAnswer.TheVariants as answer
 use Rattle.volcano_answer.specs.declared.command_line.ArgumentFault.{ArgumentFault}
@@ -53,13 +54,27 @@ help_no_stats kinds error (Ok (answer.Text text)) f none (inl memory) (inr versi
 help_no_stats kinds error (Ok (answer.Text text)) f none (inr among) h = let P : Kinds → Type 0 = λ ks. IsAmong (kind_of error) ks in absurd (subst P none among)
 help_no_stats kinds error (Ok (answer.Relation rows)) f none has h = absurd h
 help_no_stats kinds error (Ok (answer.Counted k)) f none has h = absurd h
+help_no_stats kinds error (Ok (answer.Runs l)) f none has h = absurd h
 help_no_stats kinds error (Err e) f none has h = tt
 
 pub help_uncounted : (k : ErrorKind) (r : Result ArgumentAnswer ArgumentFault) → IfOk r (IsHelp k) → IfOk r IsUncounted
 help_uncounted k (Ok (answer.Text text)) h = tt
 help_uncounted k (Ok (answer.Relation rows)) h = tt
 help_uncounted k (Ok (answer.Counted counted)) h = h
+help_uncounted k (Ok (answer.Runs l)) h = absurd h
 help_uncounted k (Err e) h = tt
+
+-- the message about a word that is no form of statistics names it
+pub stats_named_in : (word after : List ℕ) (e : ArgumentFault) → stats_named word ≡ None → IsUsageFault (codes "volcano: --stats ") word after e → IsStatsFault (Some word) e
+stats_named_in word after (fault.Usage text) none h = (word, refl, none, (after, h))
+stats_named_in word after (fault.Refused e) none h = h
+stats_named_in word after (fault.Failing lines) none h = absurd h
+
+-- and so does that about a word that is no form of refusals
+pub errors_named_in : (word after : List ℕ) (e : ArgumentFault) → IsUsageFault (codes "volcano: --errors ") word after e → IsErrorsFault (Some word) e
+errors_named_in word after (fault.Usage text) h = (word, refl, (after, h))
+errors_named_in word after (fault.Refused e) h = h
+errors_named_in word after (fault.Failing lines) h = absurd h
 
 -- a word that is no form of statistics is a wrong argument
 stats_refused : (files : List ℕ → Stored) (reliable : List ℕ → Bool) (input : Option (List ℕ)) (failed : Bool) (arguments : List (List ℕ)) (word : Option (List ℕ)) (e : ArgumentFault)
@@ -67,16 +82,23 @@ stats_refused : (files : List ℕ → Stored) (reliable : List ℕ → Bool) (in
 stats_refused files reliable input failed arguments word (fault.Usage text) none is h = for_no_stats h.0 none (sym is ∙ h.1) h.2
 stats_refused files reliable input failed arguments word (fault.Refused e) none is h = arguments_memory h
 stats_refused files reliable input failed arguments word (fault.Failing lines) none is h = absurd h
-stats_refused files reliable input failed arguments word (fault.Stopped s) none is h = absurd h
+
+-- and so is a word that is no form of refusals
+errors_refused : (files : List ℕ → Stored) (reliable : List ℕ → Bool) (input : Option (List ℕ)) (failed : Bool) (arguments : List (List ℕ)) (unknown : Option (List ℕ)) (e : ArgumentFault)
+    → faults_of (with_program_name arguments) ≡ [] → unknown ≡ unknown_errors_by (with_program_name arguments) → IsErrorsFault unknown e → IsArgumentFault files reliable input failed arguments e
+errors_refused files reliable input failed arguments unknown (fault.Usage text) none is h = for_unknown_errors h.0 none (sym is ∙ h.1)
+errors_refused files reliable input failed arguments unknown (fault.Refused e) none is h = arguments_memory h
+errors_refused files reliable input failed arguments unknown (fault.Failing lines) none is h = absurd h
 
 -- why a request is not answered is why the arguments are not
-pub request_refused : {T : Type 0} (files : List ℕ → Stored) (reliable : List ℕ → Bool) (input : Option (List ℕ)) (failed : Bool) (arguments : List (List ℕ)) (ask : Ask) (word : Option (List ℕ))
-    (r : Result T ArgumentFault) → AsksFor arguments ask → word ≡ stats_by (with_program_name arguments)
-    → IfErr r (λ e. IsAskFault files reliable input failed ask e ⊎ IsStatsFault word e) → IfErr r (IsArgumentFault files reliable input failed arguments)
-request_refused files reliable input failed arguments ask word (Ok v) asked is h = tt
-request_refused files reliable input failed arguments ask word (Err e) asked is h = elim h [
+pub request_refused : {T : Type 0} (files : List ℕ → Stored) (reliable : List ℕ → Bool) (input : Option (List ℕ)) (failed : Bool) (arguments : List (List ℕ)) (ask : Ask) (word unknown : Option (List ℕ))
+    (r : Result T ArgumentFault) → AsksFor arguments ask → word ≡ stats_by (with_program_name arguments) → unknown ≡ unknown_errors_by (with_program_name arguments)
+    → IfErr r (λ e. IsAskFault files reliable input failed ask e ⊎ (IsStatsFault word e ⊎ IsErrorsFault unknown e)) → IfErr r (IsArgumentFault files reliable input failed arguments)
+request_refused files reliable input failed arguments ask word unknown (Ok v) asked is errors_is h = tt
+request_refused files reliable input failed arguments ask word unknown (Err e) asked is errors_is h = elim h [
   | inl k ↦ arguments_refused {T = ArgumentFault} files reliable input failed arguments ask (Err e) asked k
-  | inr k ↦ stats_refused files reliable input failed arguments word e asked.unrefused is k
+  | inr (inl k) ↦ stats_refused files reliable input failed arguments word e asked.unrefused is k
+  | inr (inr k) ↦ errors_refused files reliable input failed arguments unknown e asked.unrefused errors_is k
 ]
 
 -- a run answers what is asked for, with what is reported of it
@@ -94,14 +116,6 @@ one_reported Counted files input (Some f) ask paths folder given s r same set h 
     let P : Ask → Type 0 = λ a. IsAskAnswer Counted files input a (answer_with (Some f) r) in
     let is : IsTask (run paths folder given) t = (s, set, refl) in
     subst P (sym same) (for_task t is (stats_answer Counted files input (Some f) paths folder s r.text.items (string_bytes r.stats) h), for_one t is refl h)
-
--- and so do several
-pub several_reported : (Counted : Counting) (files : List ℕ → Stored) (input : Option (List ℕ)) (f : Option StatsForm) (ask : Ask) (paths : ManyPaths) (folder : List ℕ) (given : Given) (s : Setting) (r : RunReport)
-    → ask ≡ run_plans paths folder given → IsSetting given s → ArePlansStats Counted files input f paths folder s r.text.items (string_bytes r.stats) → IsAskAnswer Counted files input ask (answer_with f r)
-several_reported Counted files input None ask paths folder given s r same set h =
-    for_runs paths folder given s same set (plans_stats Counted files input None paths folder s r.text.items (string_bytes r.stats) h)
-several_reported Counted files input (Some f) ask paths folder given s r same set h =
-    (for_runs paths folder given s same set (plans_stats Counted files input (Some f) paths folder s r.text.items (string_bytes r.stats) h), for_several paths folder given s same set h)
 
 -- and so does what the command of a bundle made
 pub bundle_reported : (Counted : Counting) (files : List ℕ → Stored) (input : Option (List ℕ)) (f : Option StatsForm) (ask : Ask) (a : CommandAnswer) → ask ≡ bundle

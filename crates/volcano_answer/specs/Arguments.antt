@@ -1,5 +1,5 @@
 -- How arguments set a run up: numbers and the mode as texts, and arguments NAME=N.
-use Rattle.std.specs.Prelude.{◌≡◌, ℕ, ◌^◌, ◌<◌, ◌==◌, ◌++◌, List, [], ◌∷◌, length, slice_index_or, Option, Some, None, SomeIff, bytes_eq, codes, if◌then◌else◌}
+use Rattle.std.specs.Prelude.{◌≡◌, ℕ, ◌^◌, ◌<◌, ◌==◌, ◌++◌, List, [], ◌∷◌, length, slice_index_or, take, Option, Some, None, SomeIff, bytes_eq, codes, if◌then◌else◌}
 use Rattle.std.specs.Str.{NoCharPasses}
 use Rattle.std.specs.Str.Parse.{IsNumeral, digits_value, without_leading_plus}
 use Rattle.volcano_arguments.specs.Asked.{Given}
@@ -36,6 +36,11 @@ AreSizes (argument ∷ arguments) (size ∷ sizes) = IsSize argument size × Are
 abbrev pub HasNoSize : List (List ℕ) → Type 0
 HasNoSize arguments = (i : ℕ) × (i < length arguments) × IsNoSize (slice_index_or arguments i [])
 
+-- the first of these arguments that is no NAME=N: those before it are
+abbrev pub IsFirstNoSize : List (List ℕ) → List ℕ → Type 0
+IsFirstNoSize arguments argument =
+    (i : ℕ) × (sizes : Named ℕ) × (i < length arguments) × (slice_index_or arguments i [] ≡ argument) × AreSizes (take i arguments) sizes × IsNoSize argument
+
 -- the mode that a text names, if it names one
 abbrev pub mode_named : List ℕ → Option Mode
 mode_named text = if bytes_eq text (codes "rounds") then Some mode.Rounds else if bytes_eq text (codes "threads") then Some mode.Threads else None
@@ -55,3 +60,11 @@ pub data IsNoSetting (given : Given) : Type 0 where
   for_slack : Numbers given.slack None → IsNoSetting given
   for_mode : mode_named given.mode ≡ None → IsNoSetting given
   for_size : HasNoSize given.sizes → IsNoSetting given
+
+-- the first part of what arguments say of a run that sets none up, behind the words that stand before it in a message
+pub data IsWrongPart (given : Given) (before argument : List ℕ) : Type 0 where
+  wrong_packet : Numbers given.packet None → before ≡ codes "volcano: --packet " → argument ≡ given.packet → IsWrongPart given before argument
+  wrong_morsel : Numbers given.morsel None → before ≡ codes "volcano: --morsel " → argument ≡ given.morsel → IsWrongPart given before argument
+  wrong_slack : Numbers given.slack None → before ≡ codes "volcano: --slack " → argument ≡ given.slack → IsWrongPart given before argument
+  wrong_mode : mode_named given.mode ≡ None → before ≡ codes "volcano: --mode " → argument ≡ given.mode → IsWrongPart given before argument
+  wrong_size : IsFirstNoSize given.sizes argument → before ≡ codes "volcano: " → IsWrongPart given before argument

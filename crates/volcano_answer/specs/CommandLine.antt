@@ -1,10 +1,12 @@
 -- What answers arguments, over files and standard input, and why arguments may have no answer. `files`, `reliable`, `input` and `failed` are as in `Files`.
-use Rattle.std.specs.Prelude.{◌≡◌, ◌≢◌, ℕ, ◌+◌, ◌<◌, ◌≤◌, ◌⊎◌, ◌++◌, List, [], ◌∷◌, length, slice_index_or, take, Bool, true, false, Option, Some, None, IfSome, bytes_eq, codes, if◌then◌else◌, ◌||◌, ◌&&◌}
+use Rattle.std.specs.Prelude.{◌≡◌, ◌≢◌, ℕ, ◌+◌, ◌<◌, ◌≤◌, ◌⊎◌, ◌++◌, List, [], ◌∷◌, length, slice_index_or, take, Bool, true, false, Option, Some, None, Ok, IfSome, bytes_eq, codes, if◌then◌else◌, ◌||◌, ◌&&◌}
 use Rattle.clap.specs.Words.{IsAmong}
 use Rattle.clap.specs.declared.error.kind.ErrorKind.{ErrorKind}
 use Rattle.clap.specs.declared.error.kind.ErrorKind.TheVariants as kind
 use Rattle.vx_plan_nodes.specs.Names.{TypedPlanView}
-use Rattle.volcano_arguments.specs.Asked.{Ask, Paths, ManyPaths, Given, bundle, check, check_all, explain, draw, annotate, sql, why, serial, run, run_plans, generate, asked_by, stats_by, faults_of}
+use Rattle.volcano_arguments.specs.Asked.{Ask, Paths, ManyPaths, Given, bundle, check, check_all, explain, draw, annotate, sql, why, serial, run, run_plans, generate, asked_by, stats_by, unknown_errors_by, faults_of}
+use Rattle.volcano_arguments.specs.declared.asked.ErrorForm.{ErrorForm}
+use Rattle.volcano_arguments.specs.declared.asked.ErrorForm.TheVariants as error_form
 use Rattle.volcano_bundle.specs.declared.command.Command.{Command}
 use Rattle.volcano_bundle.specs.declared.command.Command.TheVariants as command
 use Rattle.vx_exec_setup.specs.declared.setting.Mode.TheVariants as mode
@@ -16,12 +18,14 @@ use Rattle.volcano_refusals.specs.declared.refusal.Refusal.{Refusal}
 use Rattle.volcano_refusals.specs.declared.refusal.Refusal.TheVariants as refusal
 use Rattle.volcano_refusals.specs.Status.{status_of}
 use Rattle.volcano_tables.specs.Folder.{holds_at, LacksAt}
-use Rattle.volcano_answer.specs.Commands.{IsResultOf, CommandRefuses}
+use Rattle.volcano_answer.specs.Commands.{IsShown, IsResultOf, CommandRefuses}
 use Rattle.volcano_answer.specs.Answer.{IsAnswer, RefusedWith}
 use Rattle.volcano_answer.specs.Arguments.{IsSetting, IsNoSetting}
 use Rattle.vx_catalog_relations.specs.Relation.{Relation}
 use Rattle.vx_plan_json.specs.Document.{Document}
+use Rattle.vx_plan.specs.Resolve.{resolved}
 use Rattle.volcano_drawing.specs.Drawing.{IsDrawn}
+use Rattle.volcano_drawing.specs.Fault.{HasNoTotals}
 use Rattle.volcano_stats.specs.Words.{op_words}
 use Rattle.volcano_answer.specs.Files.{known_at, AreRead, AreNotRead, IsReadRefusal, IsFilesPlan, IsFilesRefusal}
 use Rattle.volcano_answer.specs.Forms.{form_named, IsInForm, FormRefuses}
@@ -33,8 +37,7 @@ use Rattle.volcano_answer.specs.StatsNames.{stats_named}
 use Rattle.volcano_answer.specs.Verdict.{IsAllShown, AreFailures}
 use Rattle.volcano_answer.specs.Plans.{AnswersPlans, PlansStop, PlansRefuse}
 use Rattle.volcano_answer.specs.declared.forms.PlanForm.{PlanForm}
-use Rattle.volcano_answer.specs.declared.forms.PlanForm.TheVariants as form
-use Rattle.volcano_why.specs.Codes.{is_code}
+use Rattle.volcano_why.specs.Codes.{code_of, BeginsWith}
 use Rattle.vx_wisconsin.specs.Wisconsin.{wisconsin, column_names}
 use Rattle.vx_rows_values.specs.Limits.{max_generated_rows}
 
@@ -64,16 +67,16 @@ IsTask (run paths folder given) t = (s : Setting) × IsSetting given s × (t ≡
 IsTask (run_plans paths folder given) t = ⊥
 IsTask (generate rows) t = ⊥
 
--- arguments ask for a run and set none up, for a format or a dialect that there is not, or for a code that is none; a file of statistics may be none of this plan
+-- arguments ask for a run and set none up, for a format or a dialect that there is not, or for a code that is none and names none
 abbrev pub IsNoTask : Ask → Type 0
 IsNoTask bundle = ⊥
 IsNoTask (check paths) = ⊥
 IsNoTask (check_all paths) = ⊥
 IsNoTask (explain paths format) = (bytes_eq format (codes "text") ≡ false) × (form_named format ≡ None)
-IsNoTask (draw paths stats) = Unit {0}
+IsNoTask (draw paths stats) = ⊥
 IsNoTask (annotate paths) = ⊥
 IsNoTask (sql paths dialect) = dialect_named dialect ≡ None
-IsNoTask (why code) = is_code code ≡ false
+IsNoTask (why code) = code_of code ≡ None
 IsNoTask (serial paths folder) = ⊥
 IsNoTask (run paths folder given) = IsNoSetting given
 IsNoTask (run_plans paths folder given) = IsNoSetting given
@@ -99,11 +102,21 @@ pub data FormIsRefused (files : List ℕ → Stored) (reliable : List ℕ → Bo
   for_form_planning : IsFilesRefusal files reliable input failed paths e → FormIsRefused files reliable input failed paths e
   for_form : (p : TypedPlanView) → IsFilesPlan files input paths p → FormRefuses p e → FormIsRefused files reliable input failed paths e
 
--- the text is the picture of the plan of these paths, which the checker accepts, with what the file of statistics has of each of its nodes
+-- the text is the picture of the plan of these paths, which the checker accepts, with what the file of statistics, which is of this plan, has of each of its nodes
 abbrev pub AnswersDrawing : (List ℕ → Stored) → Option (List ℕ) → Paths → List ℕ → List ℕ → Type 0
 AnswersDrawing files input paths stats text =
-    (p : TypedPlanView) × (picture : List ℕ) × (counts : List ℕ) × IsFilesPlan files input paths p × IsInForm form.Dot p picture
-    × IfBytes (known_at files (Some []) stats) (λ bytes. bytes ≡ counts) × IsDrawn (length (op_words p.root)) picture counts text
+    (p : TypedPlanView) × (counts : List ℕ) × IsFilesPlan files input paths p × IsShown p
+    × IfBytes (known_at files (Some []) stats) (λ bytes. bytes ≡ counts) × IsDrawn (op_words p.root) p counts text
+
+-- the file of statistics has none of the plan of these paths: it is not what a run writes, or its nodes are not those of the plan
+abbrev pub IsOtherStats : (List ℕ → Stored) → Option (List ℕ) → Paths → List ℕ → Type 0
+IsOtherStats files input paths stats =
+    (p : TypedPlanView) × (counts : List ℕ) × IsFilesPlan files input paths p
+    × IfBytes (known_at files (Some []) stats) (λ bytes. bytes ≡ counts) × HasNoTotals (op_words p.root) counts
+
+-- arguments ask for a picture with statistics, and the file has none of the plan
+abbrev pub LacksStats : (List ℕ → Stored) → Option (List ℕ) → Ask → Type 0
+LacksStats files input ask = (paths : Paths) × (stats : List ℕ) × (ask ≡ draw paths stats) × IsOtherStats files input paths stats
 
 -- the first reason why there is none: there is no picture, or the file of statistics has no bytes; out of memory may come anywhere
 pub data DrawingIsRefused (files : List ℕ → Stored) (reliable : List ℕ → Bool) (input : Option (List ℕ)) (failed : Bool) (paths : Paths) (stats : List ℕ) (e : Refusal) : Type 0 where
@@ -133,13 +146,14 @@ pub data AnnotationIsRefused (files : List ℕ → Stored) (reliable : List ℕ 
 abbrev pub AnswersAll : (List ℕ → Stored) → Option (List ℕ) → Paths → List ℕ → Type 0
 AnswersAll files input paths text = (p : TypedPlanView) × IsFilesPlan files input paths p × IsAllShown p text
 
--- the lines of the nodes of the plan of these paths that fail
+-- the lines of the nodes of the plan of these paths that fail, a cause before those that come of it
 abbrev pub FailsAtAll : (List ℕ → Stored) → Option (List ℕ) → Paths → List ℕ → Type 0
-FailsAtAll files input paths lines = (p : TypedPlanView) × IsFilesPlan files input paths p × AreFailures p lines
+FailsAtAll files input paths lines =
+    (relations : List Relation) × (d : Document) × (p : TypedPlanView) × AreRead files input paths relations d × (resolved d relations ≡ Ok p) × AreFailures relations d p lines
 
--- the text begins with the code, and a space
+-- the text begins with the code that a word is or names, and a space
 abbrev pub IsEntry : List ℕ → List ℕ → Type 0
-IsEntry code text = (is_code code ≡ true) × (take (length code + 1) text ≡ code ++ codes " ")
+IsEntry word text = BeginsWith (code_of word) text
 
 -- the command that arguments begin with, empty where there are none
 abbrev pub command_in : List (List ℕ) → List ℕ
@@ -201,6 +215,13 @@ pub data AskRefuses (files : List ℕ → Stored) (reliable : List ℕ → Bool)
   for_stopped : (text : List ℕ) → AskStops files input ask text e → AskRefuses files reliable input failed ask e
   for_asked_relation : (rows : ℕ) → ask ≡ generate rows → max_generated_rows < rows → e ≡ refusal.TooLarge → AskRefuses files reliable input failed ask e
 
+-- where a refusal was found is written behind it
+abbrev pub wants_place : Option ErrorForm → Bool
+wants_place None = false
+wants_place (Some error_form.Short) = false
+wants_place (Some error_form.Long) = true
+wants_place (Some error_form.Json) = true
+
 -- arguments ask for help or for the version
 abbrev pub AskForHelp : List (List ℕ) → Type 0
 AskForHelp arguments = IsAmong kind.DisplayHelp (faults_of (with_program_name arguments)) ⊎ IsAmong kind.DisplayVersion (faults_of (with_program_name arguments))
@@ -219,12 +240,14 @@ pub data AnswersArguments (files : List ℕ → Stored) (input : Option (List �
 abbrev pub IsUsageKind : ErrorKind → Type 0
 IsUsageKind k = (k ≢ kind.DisplayHelp) × (k ≢ kind.DisplayVersion) × (k ≢ kind.OutOfMemory)
 
--- wrong arguments: those that clap refuses, those that ask for nothing, and those that ask for what there is not
-pub data IsUsageError (arguments : List (List ℕ)) : Type 0 where
-  for_kind : (k : ErrorKind) → IsAmong k (faults_of (with_program_name arguments)) → IsUsageKind k → IsUsageError arguments
-  for_nothing : faults_of (with_program_name arguments) ≡ [] → asked_by (with_program_name arguments) ≡ None → IsUsageError arguments
-  for_no_task : (ask : Ask) → AsksFor arguments ask → IsNoTask ask → IsUsageError arguments
-  for_no_stats : (word : List ℕ) → faults_of (with_program_name arguments) ≡ [] → stats_by (with_program_name arguments) ≡ Some word → stats_named word ≡ None → IsUsageError arguments
+-- wrong arguments: those that clap refuses, those that ask for nothing, those that ask for what there is not, also of statistics and of refusals, and those whose file of statistics has none of their plan
+pub data IsUsageError (files : List ℕ → Stored) (input : Option (List ℕ)) (arguments : List (List ℕ)) : Type 0 where
+  for_kind : (k : ErrorKind) → IsAmong k (faults_of (with_program_name arguments)) → IsUsageKind k → IsUsageError files input arguments
+  for_nothing : faults_of (with_program_name arguments) ≡ [] → asked_by (with_program_name arguments) ≡ None → IsUsageError files input arguments
+  for_no_task : (ask : Ask) → AsksFor arguments ask → IsNoTask ask → IsUsageError files input arguments
+  for_no_stats : (word : List ℕ) → faults_of (with_program_name arguments) ≡ [] → stats_by (with_program_name arguments) ≡ Some word → stats_named word ≡ None → IsUsageError files input arguments
+  for_unknown_errors : (word : List ℕ) → faults_of (with_program_name arguments) ≡ [] → unknown_errors_by (with_program_name arguments) ≡ Some word → IsUsageError files input arguments
+  for_other_stats : (ask : Ask) → AsksFor arguments ask → LacksStats files input ask → IsUsageError files input arguments
 
 -- what arguments ask for is refused with this refusal, or memory ran out
 pub data ArgumentsRefuse (files : List ℕ → Stored) (reliable : List ℕ → Bool) (input : Option (List ℕ)) (failed : Bool) (arguments : List (List ℕ)) (e : Refusal) : Type 0 where

@@ -1,5 +1,5 @@
 -- A plan that the checker accepts in a form for other tools, and why there is none.
-use Rattle.std.specs.Prelude.{◌≡◌, ℕ, ◌++◌, List, Option, Some, None, bytes_eq, codes, if◌then◌else◌}
+use Rattle.std.specs.Prelude.{◌≡◌, ℕ, ◌++◌, List, [], Option, Some, None, bytes_eq, codes, if◌then◌else◌}
 use Rattle.serde_json.specs.Written.{compact_text}
 use Rattle.vx_plan_nodes.specs.Names.{TypedPlanView}
 use Rattle.vx_check_formats.specs.Json.{outline_json}
@@ -17,7 +17,7 @@ form_named name = if bytes_eq name (codes "json") then Some form.Json else if by
 -- the text of a plan in a form
 abbrev pub text_in_form : PlanForm → TypedPlanView → List ℕ
 text_in_form form.Json p = compact_text (outline_json p.names p.total p.root) ++ codes "\n"
-text_in_form form.Dot p = outline_dot p.names p.total p.root
+text_in_form form.Dot p = outline_dot p.names [] p.total p.root
 
 -- the text is that of an accepted plan in a form
 abbrev pub IsInForm : PlanForm → TypedPlanView → List ℕ → Type 0

@@ -11,9 +11,14 @@ pub mod Verdict
 pub mod VerdictView
 pub mod CommandLine
 pub mod CommandLineView
+pub mod Usage
+pub mod UsageView
 pub mod Case
 pub mod Plans
 pub mod PlansView
 pub mod Made
 pub mod Stats
+pub mod Loaded
+pub mod Printing
 pub mod StatsView
+pub mod Reports

@@ -1,5 +1,5 @@
 -- Statistics of runs: which arguments ask for them, and what standard error gets behind the rows. `files` and `input` are as in `Files`.
-use Rattle.std.specs.Prelude.{◌≡◌, ℕ, ◌++◌, List, [], ◌∷◌, map, Bool, true, false, Option, Some, None, IfSome, option_and_then, Ok, length, codes}
+use Rattle.std.specs.Prelude.{◌≡◌, ℕ, ◌++◌, List, [], ◌∷◌, map, Bool, true, false, Option, Some, None, IfSome, option_and_then, Ok, length, codes, string_bytes}
 use Rattle.volcano_arguments.specs.Asked.{Ask, ManyPaths, Given, bundle, run, run_plans, stats_by}
 use Rattle.volcano_bundle.specs.Bundle.{Bundle, bundle_of_text}
 use Rattle.volcano_bundle.specs.declared.command.Command.TheVariants as command
@@ -120,8 +120,8 @@ module _ (Counted : Counting) where
     pub time : PhaseTime
     pub run : IsCountedRun f (typed_plan n.plan) db setting own counts
     pub timed : time.phase ≡ work_phase.Run
-    pub text_is : grown ≡ text ++ (title n.path.now ++ own)
-    pub stats_are : reported ≡ stats ++ if_asked f (λ form. title n.path.now ++ plan_text form (typed_plan n.plan) counts time)
+    pub text_is : grown ≡ text ++ (title (string_bytes n.path) ++ own)
+    pub stats_are : reported ≡ stats ++ if_asked f (λ form. title (string_bytes n.path) ++ plan_text form (typed_plan n.plan) counts time)
 
   -- the text is that of counted runs of these plans over a database, each behind the line with its path, and so are the statistics
   abbrev pub AreCountedRuns : Option StatsForm → Database → Setting → List AcceptedPlan → List ℕ → List ℕ → Type 0

@@ -1,5 +1,5 @@
 -- Answers with statistics, as they are held.
-use Rattle.std.specs.Prelude.{◌≡◌, ℕ, List, Option, Some, None}
+use Rattle.std.specs.Prelude.{◌≡◌, ℕ, List, Option, Some, None, codes}
 use Rattle.volcano_stats.specs.declared.text.StatsForm.{StatsForm}
 use Rattle.volcano_answer.specs.declared.command_line.ArgumentAnswer.{ArgumentAnswer}
 use Rattle.volcano_answer.specs.declared.command_line.ArgumentAnswer.TheVariants as answer
@@ -7,6 +7,7 @@ use Rattle.volcano_answer.specs.declared.command_line.ArgumentFault.{ArgumentFau
 use Rattle.volcano_answer.specs.declared.command_line.ArgumentFault.TheVariants as fault
 use Rattle.volcano_refusals.specs.declared.refusal.Refusal.TheVariants as refusal
 use Rattle.volcano_answer.specs.StatsNames.{stats_named}
+use Rattle.volcano_answer.specs.Usage.{Names}
 use Rattle.volcano_answer.specs.declared.stats.RunReport.{RunReport}
 use Rattle.volcano_answer.specs.declared.command.CommandAnswer.{CommandAnswer}
 use Rattle.volcano_answer.specs.declared.command.CommandAnswer.TheVariants as made
@@ -26,16 +27,23 @@ abbrev pub IsCountedAs : StatsForm → ArgumentAnswer → Type 0
 IsCountedAs f (answer.Text text) = ⊥
 IsCountedAs f (answer.Relation rows) = ⊥
 IsCountedAs f (answer.Counted k) = k.form ≡ f
+IsCountedAs f (answer.Runs l) = l.form ≡ Some f
 
 -- an answer without statistics
 abbrev pub IsUncounted : ArgumentAnswer → Type 0
 IsUncounted (answer.Text text) = Unit {0}
 IsUncounted (answer.Relation rows) = Unit {0}
 IsUncounted (answer.Counted k) = ⊥
+IsUncounted (answer.Runs l) = l.form ≡ None
 
--- a word that is no form of statistics is a wrong argument, or memory ran out
+-- a word that is no form of statistics is a wrong argument, which the message names, or memory ran out
 abbrev pub IsStatsFault : Option (List ℕ) → ArgumentFault → Type 0
-IsStatsFault word (fault.Usage text) = (w : List ℕ) × (word ≡ Some w) × (stats_named w ≡ None)
+IsStatsFault word (fault.Usage text) = (w : List ℕ) × (word ≡ Some w) × (stats_named w ≡ None) × Names (codes "volcano: --stats ") w text.items
 IsStatsFault word (fault.Refused e) = e ≡ refusal.NoMemory
 IsStatsFault word (fault.Failing lines) = ⊥
-IsStatsFault word (fault.Stopped s) = ⊥
+
+-- a word that is no form of refusals is a wrong argument, which the message names, or memory ran out
+abbrev pub IsErrorsFault : Option (List ℕ) → ArgumentFault → Type 0
+IsErrorsFault unknown (fault.Usage text) = (w : List ℕ) × (unknown ≡ Some w) × Names (codes "volcano: --errors ") w text.items
+IsErrorsFault unknown (fault.Refused e) = e ≡ refusal.NoMemory
+IsErrorsFault unknown (fault.Failing lines) = ⊥

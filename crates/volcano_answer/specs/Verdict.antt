@@ -1,7 +1,9 @@
 -- A check of all nodes of a plan.
 use Rattle.std.specs.Prelude.{◌≡◌, ◌≢◌, ℕ, List, None}
+use Rattle.vx_catalog_relations.specs.Relation.{Relation}
+use Rattle.vx_plan_json.specs.Document.{Document}
 use Rattle.vx_plan_nodes.specs.Names.{TypedPlanView}
-use Rattle.vx_check_failures.specs.Lines.{failure_lines}
+use Rattle.vx_check_causes.specs.Grouped.{AreGrouped}
 use Rattle.vx_check.specs.Accepted.{accepted_text}
 use Rattle.volcano_answer.specs.Commands.{refusal_in, IsShown}
 
@@ -9,6 +11,6 @@ use Rattle.volcano_answer.specs.Commands.{refusal_in, IsShown}
 abbrev pub IsAllShown : TypedPlanView → List ℕ → Type 0
 IsAllShown p text = IsShown p × (text ≡ accepted_text p.total)
 
--- the checker refuses the plan, and these are the lines of the nodes that fail, one for each, with the claim that is shown there
-abbrev pub AreFailures : TypedPlanView → List ℕ → Type 0
-AreFailures p lines = (refusal_in p ≢ None) × (lines ≡ failure_lines p)
+-- the checker refuses the plan p of a document, and these are the lines of the nodes that fail, one for each, with the claim that is shown there: a cause before those that come of it
+abbrev pub AreFailures : List Relation → Document → TypedPlanView → List ℕ → Type 0
+AreFailures relations d p lines = (refusal_in p ≢ None) × AreGrouped relations d p lines

@@ -1,10 +1,11 @@
 //! How arguments set a run up.
 
-ghost use Rattle.std.specs.Prelude.{◌≡◌, map, MatchOption, IfOk};
+ghost use Rattle.std.specs.Prelude.{◌≡◌, map, MatchOption, MatchResult, IfOk};
 ghost use Rattle.volcano_arguments.specs.Asked.{given_is};
 ghost use Rattle.vx_exec_setup.specs.Setup.{entry_of};
-ghost use Rattle.volcano_answer.specs.Arguments.{Numbers, mode_named, IsSize, IsNoSize, AreSizes, HasNoSize, IsSetting, IsNoSetting};
+ghost use Rattle.volcano_answer.specs.Arguments.{Numbers, mode_named, IsSize, IsNoSize, AreSizes, IsFirstNoSize, IsSetting, IsWrongPart};
 
+use crate::usage::WrongPart;
 use std::alloc::{AllocError, Global};
 use volcano_arguments::RunArguments;
 use vx_exec_setup::{Mode, Setting, Setup};
@@ -40,41 +41,65 @@ fn size_in(alloc: Global, argument: &str) -> Result<Option<(String, u32)>, Alloc
     Ok(Some((String::from_str(alloc, name)?, workers)))
 }
 
-// The names and the numbers of arguments NAME=N.
-fn sizes_in(alloc: Global, arguments: &[&str]) -> Result<Option<Vec<(String, u32)>>, AllocError>
-    ensures { IfOk result (λ o. MatchOption o (HasNoSize (map (λ a. a.now) arguments.now)) (λ v. AreSizes (map (λ a. a.now) arguments.now) (map entry_of v.items))) }
+// The names and the numbers of arguments NAME=N, or the first that is none.
+fn sizes_in<'a>(
+    alloc: Global,
+    arguments: &[&'a str],
+) -> Result<Result<Vec<(String, u32)>, &'a str>, AllocError>
+    ensures { IfOk result (λ r. MatchResult r (λ v. AreSizes (map (λ a. a.now) arguments.now) (map entry_of v.items)) (λ a. IsFirstNoSize (map (λ a. a.now) arguments.now) a.now)) }
 {
     let mut sizes = Vec::new(alloc);
     for argument in arguments {
         let Some(size) = size_in(alloc, argument)? else {
-            return Ok(None);
+            return Ok(Err(*argument));
         };
         sizes.push(size)?;
     }
-    Ok(Some(sizes))
+    Ok(Ok(sizes))
 }
 
-/// How arguments set a run up, if they do.
-pub fn setting_in(alloc: Global, given: &RunArguments<'_>) -> Result<Option<Setting>, AllocError>
-    ensures { IfOk result (λ o. MatchOption o (IsNoSetting (given_is given.now)) (λ s. IsSetting (given_is given.now) s)) }
+const NO_NUMBER: &str = ": this is no number of 32 bits; see volcano run --help\n";
+
+const NO_MODE: &str = ": a mode is rounds or threads; see volcano run --help\n";
+
+const NO_SIZE: &str =
+    " is not NAME=N with a number of workers from 1 to 64; see volcano run --help\n";
+
+// A part of what arguments say of a run.
+fn wrong<'a>(before: &'static str, argument: &'a str, after: &'static str) -> WrongPart<'a>
+    ensures { result ≡ record { before = before.entry; argument = argument.entry; after = after.entry } }
+{
+    WrongPart {
+        before,
+        argument,
+        after,
+    }
+}
+
+/// How arguments set a run up, or the first part of them for which they set none up.
+pub fn setting_in<'a>(
+    alloc: Global,
+    given: &RunArguments<'a>,
+) -> Result<Result<Setting, WrongPart<'a>>, AllocError>
+    ensures { IfOk result (λ r. MatchResult r (λ s. IsSetting (given_is given.now) s) (λ w. IsWrongPart (given_is given.now) w.before.now w.argument.now)) }
 {
     let Some(packet) = number_in(given.packet) else {
-        return Ok(None);
+        return Ok(Err(wrong("volcano: --packet ", given.packet, NO_NUMBER)));
     };
     let Some(morsel) = number_in(given.morsel) else {
-        return Ok(None);
+        return Ok(Err(wrong("volcano: --morsel ", given.morsel, NO_NUMBER)));
     };
     let Some(slack) = number_in(given.slack) else {
-        return Ok(None);
+        return Ok(Err(wrong("volcano: --slack ", given.slack, NO_NUMBER)));
     };
     let Some(mode) = mode_named(given.mode) else {
-        return Ok(None);
+        return Ok(Err(wrong("volcano: --mode ", given.mode, NO_MODE)));
     };
     match sizes_in(alloc, given.sizes.as_slice())? {
-        Some(sizes) => {
+        Ok(sizes) => {
             let setup = Setup::new(sizes, packet, morsel, slack);
-            Ok(Some(Setting::new(setup, mode)))
+            Ok(Ok(Setting::new(setup, mode)))
         }
-        None => Ok(None),
+        Err(argument) => Ok(Err(wrong("volcano: ", argument, NO_SIZE))),
     }
 }

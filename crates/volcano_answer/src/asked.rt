@@ -10,9 +10,9 @@ ghost use Rattle.volcano_answer.specs.StatsView.{answer_with, made_with, IsCount
 
 use crate::arguments::setting_in;
 use crate::command::CommandAnswer;
-use crate::command_line::{ArgumentAnswer, ArgumentFault, answer_plain, usage_error, usage_text};
+use crate::command_line::{ArgumentAnswer, ArgumentFault, answer_plain, usage_fault};
 use crate::program::outcome_of;
-use crate::runs::run_plans;
+use crate::runs::load_plans;
 use crate::services::Services;
 use crate::stats::{CountedText, RunReport, run_task};
 use std::sync::Wait;
@@ -71,18 +71,20 @@ pub fn answer_asked<T: Threads + Wait + Sync, R: Runs, C: Clock, F: Store, I: By
             Ok(answer_made(form, made))
         }
         Asked::Run(sources, folder, given) => {
-            let Some(setting) = setting_in(alloc, given)? else {
-                return Err(usage_error(alloc, usage_text(asked)));
+            let setting = match setting_in(alloc, given)? {
+                Ok(setting) => setting,
+                Err(wrong) => return Err(usage_fault(alloc, wrong)),
             };
             let report = run_task(services, files, input, form, *sources, *folder, &setting)?;
             Ok(answer_of(form, report))
         }
         Asked::RunPlans(sources, folder, given) => {
-            let Some(setting) = setting_in(alloc, given)? else {
-                return Err(usage_error(alloc, usage_text(asked)));
+            let setting = match setting_in(alloc, given)? {
+                Ok(setting) => setting,
+                Err(wrong) => return Err(usage_fault(alloc, wrong)),
             };
-            let report = run_plans(services, files, input, form, sources, *folder, &setting)?;
-            Ok(answer_of(form, report))
+            let loaded = load_plans(services, files, input, form, sources, *folder, setting)?;
+            Ok(ArgumentAnswer::Runs(loaded))
         }
         _ => answer_plain(services, files, input, asked),
     }

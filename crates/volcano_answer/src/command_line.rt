@@ -1,25 +1,29 @@
 //! What arguments ask for, answered from files and standard input.
 
-ghost use Rattle.std.specs.Prelude.{◌≡◌, ◌⊎◌, [], slice_index_or, true, false, map, option_map, Some, None, MatchOption, IfOk, IfErr};
+ghost use Rattle.std.specs.Prelude.{◌≡◌, ◌⊎◌, [], slice_index_or, true, false, map, option_map, Some, None, MatchResult, IfOk, IfErr};
 ghost use Rattle.clap.specs.Values.{kind_of};
 ghost use Rattle.volcano_arguments.specs.Asked.{asked_is, paths_are, check_all, explain, draw, sql, why, Ask};
 ghost use Rattle.volcano_stats.specs.declared.text.StatsForm.{StatsForm};
-ghost use Rattle.volcano_answer.specs.CommandLine.{default_setting, IsTask, IsNoTask, AnswersTask, TaskRefuses, AnswersForm, FormIsRefused, AnswersStatement, StatementIsRefused, AnswersAnnotation, AnnotationIsRefused, spelled_out, with_program_name, AsksFor};
+ghost use Rattle.volcano_answer.specs.CommandLine.{default_setting, IsTask, AnswersTask, TaskRefuses, AnswersForm, FormIsRefused, AnswersStatement, StatementIsRefused, AnswersAnnotation, AnnotationIsRefused, spelled_out, with_program_name, AsksFor};
 ghost use Rattle.volcano_answer.specs.Stats.{stats_of_word, stats_asked, may_run, AsksForRuns};
-ghost use Rattle.volcano_answer.specs.StatsView.{IsCountedAs, IsUncounted, IsStatsFault};
-ghost use Rattle.volcano_answer.specs.CommandLineView.{task_is, IsJob, IsAskAnswer, IsArgumentAnswer, IsHelp, HasUsageText, IsClapFault, IsAskFault, IsArgumentFault};
+ghost use Rattle.volcano_answer.specs.StatsNames.{stats_named};
+ghost use Rattle.volcano_answer.specs.StatsView.{IsCountedAs, IsUncounted, IsStatsFault, IsErrorsFault};
+ghost use Rattle.volcano_answer.specs.UsageView.{IsUnmet};
+ghost use Rattle.volcano_answer.specs.CommandLineView.{task_is, IsJob, IsAskAnswer, IsArgumentAnswer, IsHelp, HasUsageText, IsUsageFault, IsClapFault, IsAskFault, IsArgumentFault};
 
 use crate::annotating::annotated_plan;
 use crate::asked::answer_asked;
-use crate::command::execute;
+use crate::command::{accepted, execute};
+use crate::drawing_faults::no_drawing;
 use crate::failing::{Findings, verdict_on};
-use crate::files::{bytes_at, document_from_files, plan_from_files};
+use crate::files::{all_from_files, bytes_at, document_from_files, plan_from_files};
 use crate::forms::{PlanForm, form_named, plan_in_form};
 use crate::loading::loading_threads;
-use crate::runs::Stopped;
+use crate::runs::LoadedPlans;
 use crate::services::Services;
 use crate::statement::{dialect_named, statement};
 use crate::stats::{CountedText, stats_named};
+use crate::usage::{WrongPart, usage_text};
 use clap::Error;
 use clap::error::ErrorKind;
 use std::alloc::{AllocError, Global};
@@ -28,7 +32,7 @@ use std::thread::Threads;
 use std::time::Clock;
 use volcano_arguments::{Asked, Request, Sources, asked_for};
 use volcano_bundle::Command;
-use volcano_drawing::{DrawFault, draw};
+use volcano_drawing::draw;
 use volcano_refusals::Refusal;
 use volcano_stats::{Timer, operator_words};
 use volcano_tables::Folder;
@@ -78,30 +82,19 @@ pub enum ArgumentAnswer {
     Relation(u64),
     /// A finished text, and statistics that follow it.
     Counted(CountedText),
+    /// The texts of runs of several plans, which are still to be made.
+    Runs(LoadedPlans),
 }
 
 /// Why arguments have no answer.
 #[derive(Drop)]
 pub enum ArgumentFault {
     /// They are wrong, with the text that says how.
-    Usage(String),
+    Usage(Vec<u8>),
     /// What they ask for is refused.
     Refused(Refusal),
     /// They ask for a check of all nodes of a plan, and some fail: a line for each of them.
     Failing(String),
-    /// They ask for runs of several plans, and one gives no text: the answers before it, and why.
-    Stopped(Stopped),
-}
-
-impl From<Stopped> for ArgumentFault {
-    ghost use Rattle.std.specs.Prelude.{◌≡◌};
-    ghost use Rattle.volcano_answer.specs.declared.command_line.ArgumentFault.TheVariants as fault;
-
-    ghost from_gives = { λ stopped e. e ≡ fault.Stopped stopped };
-
-    fn from(stopped: Stopped) -> ArgumentFault {
-        ArgumentFault::Stopped(stopped)
-    }
 }
 
 impl From<Refusal> for ArgumentFault {
@@ -158,61 +151,77 @@ fn plain_task<'a>(
 }
 
 // What explaining a plan in the format of this name is.
-fn explain_job<'a>(alloc: Global, sources: Sources<'a>, format: &str) -> Option<AskedJob<'a>>
-    ensures { MatchOption result (IsNoTask (explain (paths_are sources.entry) format.now)) (λ j. IsJob (explain (paths_are sources.entry) format.now) j) }
+fn explain_job<'a>(
+    alloc: Global,
+    sources: Sources<'a>,
+    format: &'a str,
+) -> Result<AskedJob<'a>, WrongPart<'a>>
+    ensures { MatchResult result (IsJob (explain (paths_are sources.entry) format.entry.now)) (IsUnmet (explain (paths_are sources.entry) format.entry.now)) }
 {
     if format == "text" {
         let task = plain_task(alloc, Command::Explain, sources, "");
-        return Some(AskedJob::Command(task));
+        return Ok(AskedJob::Command(task));
     }
     match form_named(format) {
-        Some(form) => Some(AskedJob::Form(form, sources)),
-        None => None,
+        Some(form) => Ok(AskedJob::Form(form, sources)),
+        None => Err(WrongPart {
+            before: "volcano: --format ",
+            argument: format,
+            after: ": a format is text, json or dot; see volcano explain --help\n",
+        }),
     }
 }
 
 // What printing a plan in the SQL of the dialect of this name is.
-fn sql_job<'a>(sources: Sources<'a>, dialect: &str) -> Option<AskedJob<'a>>
-    ensures { MatchOption result (IsNoTask (sql (paths_are sources.entry) dialect.now)) (λ j. IsJob (sql (paths_are sources.entry) dialect.now) j) }
+fn sql_job<'a>(sources: Sources<'a>, dialect: &'a str) -> Result<AskedJob<'a>, WrongPart<'a>>
+    ensures { MatchResult result (IsJob (sql (paths_are sources.entry) dialect.entry.now)) (IsUnmet (sql (paths_are sources.entry) dialect.entry.now)) }
 {
     match dialect_named(dialect) {
-        Some(dialect) => Some(AskedJob::Statement(dialect, sources)),
-        None => None,
+        Some(named) => Ok(AskedJob::Statement(named, sources)),
+        None => Err(WrongPart {
+            before: "volcano: --dialect ",
+            argument: dialect,
+            after: ": a dialect is sqlite, postgres or clickhouse; see volcano sql --help\n",
+        }),
     }
 }
 
 // What printing the meaning of a code is.
-fn why_job<'a>(code: &str) -> Option<AskedJob<'a>>
-    ensures { MatchOption result (IsNoTask (why code.now)) (λ j. IsJob (why code.now) j) }
+fn why_job<'a>(code: &'a str) -> Result<AskedJob<'a>, WrongPart<'a>>
+    ensures { MatchResult result (IsJob (why code.entry.now)) (IsUnmet (why code.entry.now)) }
 {
     match entry(code) {
-        Some(text) => Some(AskedJob::Entry(text)),
-        None => None,
+        Some(text) => Ok(AskedJob::Entry(text)),
+        None => Err(WrongPart {
+            before: "volcano: why ",
+            argument: code,
+            after: ": a code is C1 to C12, P1 to P13, K1 to K9, X1 to X14 or V1 to V6, or the name of one; see volcano why --help\n",
+        }),
     }
 }
 
-// The job that is asked for, which is no run: `None` if there is no such format, dialect or code.
-fn job_in<'a>(alloc: Global, asked: &Asked<'a>) -> Option<AskedJob<'a>>
+// The job that is asked for, which is no run, or the format, the dialect or the code that there is not.
+fn job_in<'a>(alloc: Global, asked: &Asked<'a>) -> Result<AskedJob<'a>, WrongPart<'a>>
     requires { may_run (asked_is asked.now) ≡ false }
-    ensures { MatchOption result (IsNoTask (asked_is asked.now)) (λ j. IsJob (asked_is asked.now) j) }
+    ensures { MatchResult result (IsJob (asked_is asked.now)) (IsUnmet (asked_is asked.now)) }
 {
     match asked {
         Asked::Check(sources) => {
             let task = plain_task(alloc, Command::Check, *sources, "");
-            Some(AskedJob::Command(task))
+            Ok(AskedJob::Command(task))
         }
-        Asked::CheckAll(sources) => Some(AskedJob::Verdict(*sources)),
-        Asked::Annotate(sources) => Some(AskedJob::Annotation(*sources)),
-        Asked::Explain(sources, format) => explain_job(alloc, *sources, format),
-        Asked::Draw(sources, stats) => Some(AskedJob::Drawing(*sources, *stats)),
-        Asked::Sql(sources, dialect) => sql_job(*sources, dialect),
-        Asked::Why(code) => why_job(code),
+        Asked::CheckAll(sources) => Ok(AskedJob::Verdict(*sources)),
+        Asked::Annotate(sources) => Ok(AskedJob::Annotation(*sources)),
+        Asked::Explain(sources, format) => explain_job(alloc, *sources, *format),
+        Asked::Draw(sources, stats) => Ok(AskedJob::Drawing(*sources, *stats)),
+        Asked::Sql(sources, dialect) => sql_job(*sources, *dialect),
+        Asked::Why(code) => why_job(*code),
         Asked::Serial(sources, folder) => {
             let task = plain_task(alloc, Command::Serial, *sources, *folder);
-            Some(AskedJob::Command(task))
+            Ok(AskedJob::Command(task))
         }
         Asked::Bundle | Asked::Run(_, _, _) | Asked::RunPlans(_, _, _) => unreachable!(),
-        Asked::Generate(rows) => Some(AskedJob::Relation(*rows)),
+        Asked::Generate(rows) => Ok(AskedJob::Relation(*rows)),
     }
 }
 
@@ -268,10 +277,6 @@ fn answer_statement<F: Store, I: ByteIn>(
     Ok(text)
 }
 
-// What is wrong with a file of statistics.
-const NO_COUNTS: &str =
-    "volcano: a file of statistics is what `run --stats=json` wrote of this plan; see volcano explain --help\n";
-
 // The picture of the plan at one path over the catalog at the other, with the statistics of the file at a third.
 fn answer_drawing<T: Threads + Wait + Sync, R: Runs, C: Clock, F: Store, I: ByteIn>(
     services: &Services<'_, T, R, C>,
@@ -287,13 +292,11 @@ fn answer_drawing<T: Threads + Wait + Sync, R: Runs, C: Clock, F: Store, I: Byte
     let alloc = services.alloc;
     let plan = plan_from_files(alloc, files, input, sources)?;
     let words = operator_words(alloc, &plan)?;
-    let nodes = words.len();
-    let picture = plan_in_form(alloc, PlanForm::Dot, plan)?;
+    let checked = accepted(plan)?;
     let counted = bytes_at(alloc, files, input, true, stats)?;
-    match draw(alloc, nodes, picture.as_slice(), counted.as_slice()) {
+    match draw(alloc, &checked, words.as_slice(), counted.as_slice()) {
         Ok(drawing) => Ok(ArgumentAnswer::Text(drawing)),
-        Err(DrawFault::NoMemory) => Err(ArgumentFault::Refused(Refusal::NoMemory)),
-        Err(DrawFault::BadStats) => Err(usage_error(alloc, NO_COUNTS)),
+        Err(fault) => Err(no_drawing(alloc, stats, words.as_slice(), fault)),
     }
 }
 
@@ -322,36 +325,29 @@ fn answer_verdict<T: Threads + Wait + Sync, R: Runs, C: Clock, F: Store, I: Byte
     ensures no_stats { IfOk result IsUncounted }
     ensures refused { IfErr result (IsAskFault (F.holds files.now) (F.is_reliable files.now) (I.remaining input.old) (I.has_failed input.new) (check_all (paths_are sources.entry))) }
 {
-    let plan = plan_from_files(services.alloc, files, input, sources)?;
-    match verdict_on(services.alloc, &plan)? {
+    let alloc = services.alloc;
+    let (catalog, document, plan) = all_from_files(alloc, files, input, sources)?;
+    match verdict_on(alloc, &catalog, document, &plan)? {
         Findings::Accepted(text) => Ok(ArgumentAnswer::Text(text)),
         Findings::Failing(lines) => Err(ArgumentFault::Failing(lines)),
     }
 }
 
-/// What is wrong with arguments that ask for what there is not.
-pub fn usage_text(asked: &Asked<'_>) -> &'static str {
-    match asked {
-        Asked::Explain(_, _) => {
-            "volcano: a format is `text`, `json` or `dot`; see volcano explain --help\n"
-        }
-        Asked::Sql(_, _) => {
-            "volcano: a dialect is `sqlite`, `postgres` or `clickhouse`; see volcano sql --help\n"
-        }
-        Asked::Why(_) => {
-            "volcano: a code is C1 to C12, P1 to P13, K1 to K9, X1 to X14 or V1 to V6; see volcano why --help\n"
-        }
-        _ => {
-            "volcano: a mode is `rounds` or `threads`, and a size is NAME=N with a number of workers; see volcano run --help\n"
-        }
+// The fault of wrong arguments, with this text.
+fn usage_error(alloc: Global, text: &str) -> ArgumentFault
+    ensures { HasUsageText text.now result }
+{
+    match Vec::from_slice(alloc, text.as_bytes()) {
+        Ok(text) => ArgumentFault::Usage(text),
+        Err(_) => ArgumentFault::Refused(Refusal::NoMemory),
     }
 }
 
-/// The fault of wrong arguments, with the text that says how they are wrong.
-pub fn usage_error(alloc: Global, text: &str) -> ArgumentFault
-    ensures { HasUsageText text.now result }
+/// The fault of a part of the command line that is wrong, with the message that names it.
+pub fn usage_fault(alloc: Global, wrong: WrongPart<'_>) -> ArgumentFault
+    ensures { IsUsageFault wrong.entry.before.now wrong.entry.argument.now wrong.entry.after.now result }
 {
-    match String::from_str(alloc, text) {
+    match usage_text(alloc, wrong) {
         Ok(text) => ArgumentFault::Usage(text),
         Err(_) => ArgumentFault::Refused(Refusal::NoMemory),
     }
@@ -371,32 +367,32 @@ pub fn answer_plain<T: Threads + Wait + Sync, R: Runs, C: Clock, F: Store, I: By
 {
     let alloc = services.alloc;
     match job_in(alloc, asked) {
-        Some(AskedJob::Command(task)) => {
+        Ok(AskedJob::Command(task)) => {
             let text = answer_task(services, files, input, &task)?;
             Ok(ArgumentAnswer::Text(text))
         }
-        Some(AskedJob::Verdict(sources)) => answer_verdict(services, files, input, sources),
-        Some(AskedJob::Annotation(sources)) => {
+        Ok(AskedJob::Verdict(sources)) => answer_verdict(services, files, input, sources),
+        Ok(AskedJob::Annotation(sources)) => {
             let text = answer_annotation(alloc, files, input, sources)?;
             Ok(ArgumentAnswer::Text(text))
         }
-        Some(AskedJob::Form(form, sources)) => {
+        Ok(AskedJob::Form(form, sources)) => {
             let text = answer_form(alloc, files, input, form, sources)?;
             Ok(ArgumentAnswer::Text(text))
         }
-        Some(AskedJob::Drawing(sources, stats)) => answer_drawing(
+        Ok(AskedJob::Drawing(sources, stats)) => answer_drawing(
             services, files, input, sources, stats,
         ),
-        Some(AskedJob::Statement(dialect, sources)) => {
+        Ok(AskedJob::Statement(dialect, sources)) => {
             let text = answer_statement(alloc, files, input, dialect, sources)?;
             Ok(ArgumentAnswer::Text(text))
         }
-        Some(AskedJob::Entry(text)) => {
+        Ok(AskedJob::Entry(text)) => {
             let text = Vec::from_slice(alloc, text.as_bytes())?;
             Ok(ArgumentAnswer::Text(text))
         }
-        Some(AskedJob::Relation(rows)) => Ok(ArgumentAnswer::Relation(rows)),
-        None => Err(usage_error(alloc, usage_text(asked))),
+        Ok(AskedJob::Relation(rows)) => Ok(ArgumentAnswer::Relation(rows)),
+        Err(wrong) => Err(usage_fault(alloc, wrong)),
     }
 }
 
@@ -440,9 +436,30 @@ pub fn with_program_name<'a>(
     Ok(all)
 }
 
-// What is wrong with a word for statistics.
-const NO_STATS: &str =
-    "volcano: statistics are `none`, `table` or `json`; see volcano run --help\n";
+// The fault of a word for statistics that is none.
+fn stats_fault(alloc: Global, word: &str) -> ArgumentFault
+    requires { stats_named word.now ≡ None }
+    ensures { IsStatsFault (Some word.now) result }
+{
+    let wrong = WrongPart {
+        before: "volcano: --stats ",
+        argument: word,
+        after: ": statistics are none, table or json; see volcano run --help\n",
+    };
+    usage_fault(alloc, wrong)
+}
+
+// The fault of a word for the form of refusals that is none.
+fn errors_fault(alloc: Global, word: &str) -> ArgumentFault
+    ensures { IsErrorsFault (Some word.now) result }
+{
+    let wrong = WrongPart {
+        before: "volcano: --errors ",
+        argument: word,
+        after: ": a refusal is written short, long or json; see volcano run --help\n",
+    };
+    usage_fault(alloc, wrong)
+}
 
 // What answers a request.
 fn answer_request<T: Threads + Wait + Sync, R: Runs, C: Clock, F: Store, I: ByteIn>(
@@ -455,13 +472,17 @@ fn answer_request<T: Threads + Wait + Sync, R: Runs, C: Clock, F: Store, I: Byte
     ensures stats { (f : StatsForm) → AsksForRuns (I.remaining input.old) (asked_is request.now.asked) → stats_of_word (option_map (λ s. s.now) request.now.stats) ≡ Some f → IfOk result (IsCountedAs f) }
     ensures no_stats { stats_of_word (option_map (λ s. s.now) request.now.stats) ≡ None → IfOk result IsUncounted }
     ensures refused { IfErr result (λ e. IsAskFault (F.holds files.now) (F.is_reliable files.now) (I.remaining input.old) (I.has_failed input.new) (asked_is request.now.asked) e
-        ⊎ IsStatsFault (option_map (λ s. s.now) request.now.stats) e) }
+        ⊎ (IsStatsFault (option_map (λ s. s.now) request.now.stats) e ⊎ IsErrorsFault (option_map (λ s. s.now) request.now.unknown_errors) e)) }
+    ensures errors { IfOk result (λ _. option_map (λ s. s.now) request.now.unknown_errors ≡ None) }
 {
+    if let Some(word) = request.unknown_errors {
+        return Err(errors_fault(services.alloc, word));
+    }
     let services = services.with_threads(loading_threads(services.rt, request.threads));
     match request.stats {
         None => answer_asked(&services, files, input, None, &request.asked),
         Some(word) => match stats_named(word) {
-            None => Err(usage_error(services.alloc, NO_STATS)),
+            None => Err(stats_fault(services.alloc, word)),
             Some(form) => answer_asked(&services, files, input, form, &request.asked),
         },
     }
@@ -478,7 +499,7 @@ fn help_or_fault(alloc: Global, error: &Error) -> Result<ArgumentAnswer, Argumen
             text.into_bytes(),
         )),
         ErrorKind::OutOfMemory => Err(ArgumentFault::Refused(Refusal::NoMemory)),
-        _ => Err(ArgumentFault::Usage(text)),
+        _ => Err(ArgumentFault::Usage(text.into_bytes())),
     }
 }
 

@@ -1,11 +1,12 @@
 //! A catalog and a plan from files and standard input.
 
-ghost use Rattle.std.specs.Prelude.{◌≡◌, true, false, IfOk, IfErr, IsErrOf};
+ghost use Rattle.std.specs.Prelude.{◌≡◌, true, false, Ok, IfOk, IfErr, IsErrOf};
 ghost use Rattle.vx_catalog_bytes.specs.Ports.{IsAll};
 ghost use Rattle.vx_plan_nodes.specs.TypedView.{resolved_of};
 ghost use Rattle.volcano_arguments.specs.Asked.{paths_are};
 ghost use Rattle.vx_catalog_bytes.specs.Stored.{IfBytes};
 ghost use Rattle.vx_plan_json.specs.PlanView.{document_of};
+ghost use Rattle.vx_plan.specs.Resolve.{resolved};
 ghost use Rattle.volcano_answer.specs.Files.{is_input, left_of, known_at, IsFileRefusal, IsInputRefusal, IsReadRefusal, AreRead, AreNotRead, IsFilesPlan, IsFilesRefusal};
 
 use std::alloc::Global;
@@ -99,6 +100,23 @@ pub fn document_from_files<F: Store, I: ByteIn>(
     Ok((catalog, plan))
 }
 
+/// The catalog at one path, the plan at the other as it was written, and that plan over the catalog.
+pub fn all_from_files<F: Store, I: ByteIn>(
+    alloc: Global,
+    files: &F,
+    input: &mut I,
+    sources: Sources<'_>,
+) -> Result<(Catalog, Plan, TypedPlan), Refusal>
+    ensures read { IfOk result (λ r. AreRead (F.holds files.now) (I.remaining input.old) (paths_are sources.entry) r.0 (document_of r.1)) }
+    ensures resolved { IfOk result (λ r. resolved (document_of r.1) r.0 ≡ Ok (resolved_of r.2)) }
+    ensures planned { IfOk result (λ r. IsFilesPlan (F.holds files.now) (I.remaining input.old) (paths_are sources.entry) (resolved_of r.2)) }
+    ensures refused { IfErr result (IsFilesRefusal (F.holds files.now) (F.is_reliable files.now) (I.remaining input.old) (I.has_failed input.new) (paths_are sources.entry)) }
+{
+    let (catalog, plan) = document_from_files(alloc, files, input, sources)?;
+    let typed = resolve(alloc, &plan, &catalog)?;
+    Ok((catalog, plan, typed))
+}
+
 /// The plan at one path, over the catalog at the other.
 pub fn plan_from_files<F: Store, I: ByteIn>(
     alloc: Global,
@@ -109,6 +127,6 @@ pub fn plan_from_files<F: Store, I: ByteIn>(
     ensures planned { IfOk result (λ p. IsFilesPlan (F.holds files.now) (I.remaining input.old) (paths_are sources.entry) (resolved_of p)) }
     ensures refused { IfErr result (IsFilesRefusal (F.holds files.now) (F.is_reliable files.now) (I.remaining input.old) (I.has_failed input.new) (paths_are sources.entry)) }
 {
-    let (catalog, plan) = document_from_files(alloc, files, input, sources)?;
-    Ok(resolve(alloc, &plan, &catalog)?)
+    let (_catalog, _plan, typed) = all_from_files(alloc, files, input, sources)?;
+    Ok(typed)
 }

@@ -23,15 +23,15 @@ use vx_plan_json::Plan;
 
 /// A plan that the checker accepts, and the path that it was read from.
 #[derive(Drop)]
-pub struct AcceptedPlan<'a> {
-    pub path: &'a str,
+pub struct AcceptedPlan {
+    pub path: String,
     pub plan: CheckedPlan,
 }
 
 /// Plans that the checker accepts, over one catalog.
 #[derive(Drop)]
-pub struct AcceptedPlans<'a> {
-    pub plans: Vec<AcceptedPlan<'a>>,
+pub struct AcceptedPlans {
+    pub plans: Vec<AcceptedPlan>,
 }
 
 /// The catalog under a path.
@@ -50,7 +50,7 @@ pub fn catalog_under<F: Store, I: ByteIn>(
 }
 
 // Whether one of the plans scans the relation with this number.
-fn any_scans(plans: &[AcceptedPlan<'_>], relation: usize) -> bool
+fn any_scans(plans: &[AcceptedPlan], relation: usize) -> bool
     ensures { result ≡ any_scans (map named_is plans.now) relation }
 {
     for accepted in plans {
@@ -61,7 +61,7 @@ fn any_scans(plans: &[AcceptedPlan<'_>], relation: usize) -> bool
     false
 }
 
-impl Scanning for AcceptedPlans<'_> {
+impl Scanning for AcceptedPlans {
     ghost use Rattle.volcano_answer.specs.Plans.{any_scans};
     ghost use Rattle.volcano_answer.specs.PlansView.{plans_are};
 
@@ -99,14 +99,14 @@ fn is_read(was_read: bool, path: &str) -> bool
 }
 
 /// The plans under these paths, in order, once the checker has accepted each. Standard input is read once.
-pub fn accepted_plans<'a, F: Store, I: ByteIn>(
+pub fn accepted_plans<F: Store, I: ByteIn>(
     alloc: Global,
     files: &F,
     input: &mut I,
     was_read: bool,
     catalog: &Catalog,
-    paths: &[&'a str],
-) -> Result<AcceptedPlans<'a>, Refusal>
+    paths: &[&str],
+) -> Result<AcceptedPlans, Refusal>
     ensures named { IfOk result (λ ps. paths_of (plans_are ps) ≡ map (λ p. p.now) paths.now) }
     ensures accepted { IfOk result (λ ps. AreAccepted (F.holds files.now) (left_of was_read (I.remaining input.old)) catalog.now (plans_are ps)) }
     ensures refused { IfErr result (AreNotAccepted (F.holds files.now) (F.is_reliable files.now) (left_of was_read (I.remaining input.old)) (I.has_failed input.new) catalog.now (map (λ p. p.now) paths.now)) }
@@ -115,7 +115,8 @@ pub fn accepted_plans<'a, F: Store, I: ByteIn>(
     let mut was_read = was_read;
     for path in paths {
         let plan = plan_under(alloc, files, input, was_read, catalog, path)?;
-        plans.push(AcceptedPlan { path, plan })?;
+        let name = String::from_str(alloc, path)?;
+        plans.push(AcceptedPlan { path: name, plan })?;
         was_read = is_read(was_read, path);
     }
     Ok(AcceptedPlans { plans })

@@ -1,19 +1,15 @@
-//! Runs of several plans over one database.
+//! Several plans over one database, which is loaded before the first of them runs.
 
-ghost use Rattle.std.specs.Prelude.{◌≡◌, ◌++◌, map, codes, string_bytes, IfOk, IfErr, OnOk};
+ghost use Rattle.std.specs.Prelude.{◌≡◌, ◌++◌, codes, string_bytes, IfOk, IfErr, OnOk};
 ghost use Rattle.volcano_arguments.specs.Asked.{many_are};
 ghost use Rattle.volcano_stats.specs.Text.{shared_text};
-ghost use Rattle.volcano_answer.specs.Commands.{IsRunOver, RunRefuses};
-ghost use Rattle.volcano_answer.specs.CommandLineView.{IsPlansFault};
-ghost use Rattle.volcano_answer.specs.Plans.{title, StopsAt};
-ghost use Rattle.volcano_answer.specs.PlansView.{named_is};
-ghost use Rattle.volcano_answer.specs.Stats.{if_asked, AreCountedRuns, ArePlansStats};
+ghost use Rattle.volcano_answer.specs.Loaded.{AreLoadedPlans};
+ghost use Rattle.volcano_answer.specs.Plans.{PlansRefuse};
+ghost use Rattle.volcano_answer.specs.Stats.{if_asked};
 
-use crate::command_line::ArgumentFault;
 use crate::files::is_input;
 use crate::plans::{AcceptedPlan, accepted_plans, catalog_under};
 use crate::services::Services;
-use crate::stats::{RunReport, add_run};
 use std::alloc::{AllocError, Global};
 use std::sync::Wait;
 use std::thread::Threads;
@@ -28,79 +24,53 @@ use vx_catalog_relations::Catalog;
 use vx_exec_runs::Runs;
 use vx_exec_setup::Setting;
 
-/// The answers before the first plan of which the run gives no text, and why it gives none.
+/// Several plans that are still to run, and all that their runs need.
 #[derive(Drop)]
-pub struct Stopped {
-    pub text: Vec<u8>,
-    pub refusal: Refusal,
+pub struct LoadedPlans {
+    /// The form in which statistics are asked for, if they are.
+    pub form: Option<StatsForm>,
+    pub setting: Setting,
+    pub plans: Vec<AcceptedPlan>,
+    /// The rows of each relation that one of the plans scans.
+    pub database: Database,
+    /// The statistics that the plans have in common; empty where none are asked for.
+    pub common: String,
+    /// How many threads make the text of rows at most.
+    pub threads: usize,
 }
 
-/// A text behind the line with the path of its plan.
-pub fn titled(alloc: Global, path: &str, text: &[u8]) -> Result<Vec<u8>, AllocError>
-    ensures { IfOk result (λ t. t.items ≡ title path.now ++ text.now) }
-{
-    let mut titled = Vec::from_slice(alloc, b"# ")?;
-    titled.extend_from_slice(path.as_bytes())?;
-    titled.extend_from_slice(b"\n")?;
-    titled.extend_from_slice(text)?;
-    Ok(titled)
-}
-
-// The texts of runs of plans over one database, each behind a line with the path of its plan, and their statistics if they are asked
-// for. The first plan of which the run gives no text ends it.
-fn run_each<T: Threads + Wait + Sync, R: Runs, C: Clock>(
-    services: &Services<'_, T, R, C>,
-    form: Option<StatsForm>,
-    setting: &Setting,
-    plans: &[AcceptedPlan<'_>],
-    database: &Database,
-) -> Result<RunReport, Stopped>
-    ensures stats { IfOk result (λ k. AreCountedRuns (R.counted services.now.engine.now) form database.now setting.now plans.now k.text.items (string_bytes k.stats)) }
-    ensures stopped { IfErr result (λ s. StopsAt (λ p own. IsRunOver p database.now setting.now own) (λ p e. RunRefuses p database.now setting.now e) (map named_is plans.now) s.text.items s.refusal) }
-{
-    let mut text = Vec::new(services.alloc);
-    let mut stats = String::new(services.alloc);
-    for accepted in plans {
-        match add_run(
-            services, form, setting, accepted, database, &mut text, &mut stats,
-        ) {
-            Ok(()) => {}
-            Err(refusal) => return Err(Stopped { text, refusal }),
-        }
-    }
-    Ok(RunReport { text, stats })
-}
-
-// Adds the statistics that several plans have in common, if they are asked for.
-fn push_common(
-    stats: &mut String,
+// The statistics that several plans have in common, if they are asked for.
+fn common_stats(
     alloc: Global,
     form: Option<StatsForm>,
     catalog: &Catalog,
     loads: &[LoadTime],
     times: &[PhaseTime],
-) -> Result<(), AllocError>
-    ensures { OnOk result (string_bytes stats.new ≡ string_bytes stats.old ++ if_asked form (λ f. codes "# all plans\n" ++ shared_text f catalog.now loads.now times.now)) }
+) -> Result<String, AllocError>
+    ensures { IfOk result (λ s. string_bytes s ≡ if_asked form (λ f. codes "# all plans\n" ++ shared_text f catalog.now loads.now times.now)) }
 {
+    let mut stats = String::new(alloc);
     if let Some(form) = form {
         stats.push_str("# all plans\n")?;
-        push_shared(stats, alloc, form, catalog, loads, times)?;
+        push_shared(&mut stats, alloc, form, catalog, loads, times)?;
     }
-    Ok(())
+    Ok(stats)
 }
 
-/// The texts of runs of several plans, over tables that are loaded once, with their statistics if they are asked for.
-pub fn run_plans<T: Threads + Wait + Sync, R: Runs, C: Clock, F: Store, I: ByteIn>(
+/// Several plans that are accepted, and the tables that they scan, each loaded once.
+pub fn load_plans<T: Threads + Wait + Sync, R: Runs, C: Clock, F: Store, I: ByteIn>(
     services: &Services<'_, T, R, C>,
     files: &F,
     input: &mut I,
     form: Option<StatsForm>,
     sources: &ManySources<'_>,
     folder: &str,
-    setting: &Setting,
-) -> Result<RunReport, ArgumentFault>
-    ensures stats { IfOk result (λ k. ArePlansStats (R.counted services.now.engine.now) (F.holds files.now) (I.remaining input.old) form (many_are sources.now) folder.now setting.now k.text.items (string_bytes k.stats)) }
-    ensures refused { IfErr result (IsPlansFault (F.holds files.now) (F.is_reliable files.now) (I.remaining input.old) (I.has_failed input.new) (many_are sources.now) folder.now setting.now) }
+    setting: Setting,
+) -> Result<LoadedPlans, Refusal>
+    ensures loaded { IfOk result (AreLoadedPlans (F.holds files.now) (I.remaining input.old) (many_are sources.now) folder.now) }
+    ensures form { IfOk result (λ l. l.form ≡ form) }
+    ensures setting { IfOk result (λ l. l.setting ≡ setting) }
+    ensures refused { IfErr result (PlansRefuse (F.holds files.now) (F.is_reliable files.now) (I.remaining input.old) (I.has_failed input.new) (many_are sources.now) folder.now) }
 {
     let (alloc, clock) = (services.alloc, services.clock);
     let mut timer = Timer::start(alloc, clock);
@@ -114,18 +84,17 @@ pub fn run_plans<T: Threads + Wait + Sync, R: Runs, C: Clock, F: Store, I: ByteI
         files,
         path: folder,
     };
+    let (rt, loading) = (services.rt, services.loading());
     let mut loads = LoadTimer::start(alloc, clock);
-    let database = load_scanned_in_threads(
-        services.rt,
-        services.loading(),
-        &catalog,
-        &plans,
-        &tables,
-        &mut loads,
-    )?;
+    let database = load_scanned_in_threads(rt, loading, &catalog, &plans, &tables, &mut loads)?;
     timer.end(clock, WorkPhase::Load)?;
-    let mut report = run_each(services, form, setting, plans.plans.as_slice(), &database)?;
-    let stats = &mut report.stats;
-    push_common(stats, alloc, form, &catalog, loads.times(), timer.times())?;
-    Ok(report)
+    let common = common_stats(alloc, form, &catalog, loads.times(), timer.times())?;
+    Ok(LoadedPlans {
+        form,
+        setting,
+        plans: plans.plans,
+        database,
+        common,
+        threads: services.threads,
+    })
 }

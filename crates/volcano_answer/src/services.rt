@@ -20,10 +20,12 @@ pub struct Services<'a, T, R, C> {
     pub seed: KeySeed,
     /// How many threads load a table at most, and make the text of rows.
     pub threads: usize,
+    /// Whether a person reads what is said of refusals, as on a terminal.
+    pub is_read: bool,
 }
 
 impl<'a, T, R, C> Services<'a, T, R, C> {
-    /// Where one thread loads each table and makes the text of rows.
+    /// Where one thread loads each table and makes the text of rows, and no person reads what is said of refusals.
     pub fn new(
         rt: &'a T,
         engine: &'a R,
@@ -40,6 +42,7 @@ impl<'a, T, R, C> Services<'a, T, R, C> {
             alloc,
             seed,
             threads: 1,
+            is_read: false,
         }
     }
 
@@ -63,6 +66,23 @@ impl<'a, T, R, C> Services<'a, T, R, C> {
             alloc: self.alloc,
             seed: self.seed,
             threads,
+            is_read: self.is_read,
+        }
+    }
+
+    /// These services, where a person reads what is said of refusals, or not.
+    pub fn with_reader(&self, is_read: bool) -> Services<'a, T, R, C>
+        ensures engine { result.engine.now ≡ self.now.engine.now }
+        ensures read { result.is_read ≡ is_read }
+    {
+        Services {
+            rt: self.rt,
+            engine: self.engine,
+            clock: self.clock,
+            alloc: self.alloc,
+            seed: self.seed,
+            threads: self.threads,
+            is_read,
         }
     }
 }

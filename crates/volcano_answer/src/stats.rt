@@ -1,6 +1,6 @@
 //! Runs of plans over tables, counted and timed where statistics are asked for.
 
-ghost use Rattle.std.specs.Prelude.{◌≡◌, ◌⊎◌, ◌++◌, ◌∷◌, [], true, Some, string_bytes, IfSome, IfOk, IfErr, OnOk, OnErr};
+ghost use Rattle.std.specs.Prelude.{◌≡◌, ◌⊎◌, ◌++◌, ◌∷◌, [], true, Some, string_bytes, IfSome, IfOk, IfErr, OnOk};
 ghost use Rattle.vx_exec_setup.specs.Counts.{is_wanted};
 ghost use Rattle.volcano_stats.specs.Text.{lone_text, plan_text};
 ghost use Rattle.vx_plan_nodes.specs.TypedView.{resolved_of};
@@ -20,7 +20,6 @@ use crate::command::accepted;
 use crate::files::document_from_files;
 use crate::plans::AcceptedPlan;
 use crate::run::run_over;
-use crate::runs::titled;
 use crate::services::Services;
 use std::alloc::{AllocError, Global};
 use std::sync::Wait;
@@ -211,31 +210,29 @@ fn push_stats(
     stats: &mut String,
     alloc: Global,
     form: Option<StatsForm>,
-    accepted: &AcceptedPlan<'_>,
+    accepted: &AcceptedPlan,
     workers: &[WorkerCounts],
     time: PhaseTime,
 ) -> Result<(), AllocError>
-    ensures { OnOk result (string_bytes stats.new ≡ string_bytes stats.old ++ if_asked form (λ f. title accepted.now.path.now ++ plan_text f (typed_plan accepted.now.plan) workers.now time)) }
+    ensures { OnOk result (string_bytes stats.new ≡ string_bytes stats.old ++ if_asked form (λ f. title (string_bytes accepted.now.path) ++ plan_text f (typed_plan accepted.now.plan) workers.now time)) }
 {
     if let Some(form) = form {
-        push_title(stats, accepted.path)?;
+        push_title(stats, accepted.path.as_str())?;
         push_plan(stats, alloc, form, accepted.plan.plan(), workers, time)?;
     }
     Ok(())
 }
 
-/// Adds the text of a run of one of several plans behind the line with the plan's path, and likewise its statistics if they are asked for.
-pub fn add_run<T: Threads + Wait + Sync, R: Runs, C: Clock>(
+/// The text of a run of one of several plans. Its statistics are added behind the line with the plan's path, if they are asked for.
+pub fn run_one<T: Threads + Wait + Sync, R: Runs, C: Clock>(
     services: &Services<'_, T, R, C>,
     form: Option<StatsForm>,
     setting: &Setting,
-    accepted: &AcceptedPlan<'_>,
+    accepted: &AcceptedPlan,
     database: &Database,
-    text: &mut Vec<u8>,
     stats: &mut String,
-) -> Result<(), Refusal>
-    ensures more { OnOk result (IsRunMore (R.counted services.now.engine.now) form database.now setting.now accepted.now text.old.items (string_bytes stats.old) text.new.items (string_bytes stats.new)) }
-    ensures kept { OnErr result (text.new.items ≡ text.old.items) }
+) -> Result<Vec<u8>, Refusal>
+    ensures run { IfOk result (λ own. IsRunMore (R.counted services.now.engine.now) form database.now setting.now accepted.now [] (string_bytes stats.old) (title (string_bytes accepted.now.path) ++ own.items) (string_bytes stats.new)) }
     ensures refused { IfErr result (λ e. RunRefuses (resolved_of (typed_plan accepted.now.plan)) database.now setting.now e) }
 {
     let (alloc, clock) = (services.alloc, services.clock);
@@ -244,7 +241,5 @@ pub fn add_run<T: Threads + Wait + Sync, R: Runs, C: Clock>(
     let own = run_over(services, setting, &accepted.plan, database, &mut counts)?;
     let time = watch.end(clock, WorkPhase::Run);
     push_stats(stats, alloc, form, accepted, counts.workers(), time)?;
-    let answer = titled(alloc, accepted.path, own.as_slice())?;
-    text.extend_from_slice(answer.as_slice())?;
-    Ok(())
+    Ok(own)
 }

@@ -1,6 +1,6 @@
 -- What the command-line arguments ask for: the commands and options that the program has, and what each comes to.
-use Rattle.std.specs.Prelude.{ℕ, pos, List, [], ◌∷◌, Option, Some, None, map, option_map, option_and_then, bytes_eq, codes, Bool, true, false, if◌then◌else◌}
-use Rattle.std.specs.Option.{option_map_or}
+use Rattle.std.specs.Prelude.{ℕ, pos, List, [], ◌∷◌, Option, Some, None, map, option_map, option_and_then, bytes_eq, codes, true, false, if◌then◌else◌}
+use Rattle.std.specs.Option.{option_map_or, is_some}
 use Rattle.std.specs.Str.Parse.{digits_value, without_leading_plus}
 use Rattle.clap.specs.Lexer.{usize_max}
 use Rattle.clap.specs.Words.{App, Kinds, Row, Rule, Text, all_of, fault_of, first_of, new_app, new_rule, subcommand_of, with_rule, with_subcommand}
@@ -11,6 +11,8 @@ use Rattle.clap.specs.declared.builder.value_parser.ValueParser.TheVariants as p
 use Rattle.volcano_arguments.specs.declared.asked.Sources.{Sources}
 use Rattle.volcano_arguments.specs.declared.asked.ManySources.{ManySources}
 use Rattle.volcano_arguments.specs.declared.asked.RunArguments.{RunArguments}
+use Rattle.volcano_arguments.specs.declared.asked.ErrorForm.{ErrorForm}
+use Rattle.volcano_arguments.specs.declared.asked.ErrorForm.TheVariants as form
 use Rattle.volcano_arguments.specs.declared.asked.Asked.{Asked}
 use Rattle.volcano_arguments.specs.declared.asked.Asked.TheVariants as asked
 
@@ -59,9 +61,17 @@ reading_app name = with_rule (new_app name) (path_rule (codes "catalog"))
 abbrev pub judging_app : Text → App
 judging_app name = with_rule (reading_app name) (path_rule (codes "plan"))
 
--- a refusal is followed by a line that says where it was found
+-- a word for how a refusal is written, which need not be given
+abbrev pub errors_rule : Rule
+errors_rule = named_rule (codes "errors")
+
+-- the same as the word `long`
 abbrev pub verbose_rule : Rule
 verbose_rule = flag_rule (codes "verbose-errors")
+
+-- a command with both, which say how a refusal is written
+abbrev pub with_reports : App → App
+with_reports app = with_rule (with_rule app errors_rule) verbose_rule
 
 -- how many threads load each table
 abbrev pub threads_rule : Rule
@@ -72,34 +82,34 @@ abbrev pub drawn_rule : Rule
 drawn_rule = record (new_rule (codes "drawn")) { long = Some (codes "stats"); value_names = 1 }
 
 abbrev pub serial_app : App
-serial_app = with_rule (with_rule (with_rule (with_rule (judging_app (codes "serial")) (path_rule (codes "data"))) threads_rule) (flag_rule (codes "quiet"))) verbose_rule
+serial_app = with_reports (with_rule (with_rule (with_rule (judging_app (codes "serial")) (path_rule (codes "data"))) threads_rule) (flag_rule (codes "quiet")))
 
 abbrev pub run_app : App
 run_app =
-    with_rule (with_rule (with_rule (with_rule (with_rule (with_rule (with_rule (with_rule (with_rule (with_rule (with_rule (reading_app (codes "run")) plans_rule) (path_rule (codes "data")))
+    with_rule (with_reports (with_rule (with_rule (with_rule (with_rule (with_rule (with_rule (with_rule (with_rule (with_rule (reading_app (codes "run")) plans_rule) (path_rule (codes "data")))
     (number_rule (codes "packet") (codes "256"))) (number_rule (codes "morsel") (codes "1024"))) (number_rule (codes "slack") (codes "8"))) (word_rule (codes "mode") (codes "rounds")))
-    threads_rule) (flag_rule (codes "quiet"))) (word_rule (codes "stats") (codes "none"))) verbose_rule) sizes_rule
+    threads_rule) (flag_rule (codes "quiet"))) (word_rule (codes "stats") (codes "none")))) sizes_rule
 
 abbrev pub gen_app : App
 gen_app = with_rule (new_app (codes "gen")) rows_rule
 
 abbrev pub check_app : App
-check_app = with_rule (with_rule (judging_app (codes "check")) (flag_rule (codes "all"))) verbose_rule
+check_app = with_reports (with_rule (judging_app (codes "check")) (flag_rule (codes "all")))
 
 abbrev pub explain_app : App
-explain_app = with_rule (with_rule (with_rule (judging_app (codes "explain")) (word_rule (codes "format") (codes "text"))) drawn_rule) verbose_rule
+explain_app = with_reports (with_rule (with_rule (judging_app (codes "explain")) (word_rule (codes "format") (codes "text"))) drawn_rule)
 
 abbrev pub annotate_app : App
-annotate_app = with_rule (judging_app (codes "annotate")) verbose_rule
+annotate_app = with_reports (judging_app (codes "annotate"))
 
 abbrev pub sql_app : App
-sql_app = with_rule (with_rule (judging_app (codes "sql")) (word_rule (codes "dialect") (codes "sqlite"))) verbose_rule
+sql_app = with_reports (with_rule (judging_app (codes "sql")) (word_rule (codes "dialect") (codes "sqlite")))
 
 abbrev pub why_app : App
 why_app = with_rule (new_app (codes "why")) code_rule
 
 abbrev pub bundle_app : App
-bundle_app = with_rule (with_rule (new_app (codes "bundle")) threads_rule) (word_rule (codes "stats") (codes "none"))
+bundle_app = with_reports (with_rule (with_rule (new_app (codes "bundle")) threads_rule) (word_rule (codes "stats") (codes "none")))
 
 -- the program without its commands, which has a version
 abbrev pub program_app : App
@@ -204,10 +214,27 @@ ask_of (Some p) =
     else if bytes_eq p.0 (codes "bundle") then Some bundle
     else None
 
--- whether a subcommand with these matches is to say where what it refuses was found
-abbrev pub verbose_of : Option (Text × List Row) → Bool
-verbose_of None = false
-verbose_of (Some p) = option_map_or (λ v. bytes_eq v (codes "true")) (first_of (codes "verbose-errors") p.1) false
+-- how a refusal is written, by its name, if there is such a form
+abbrev pub error_form_named : Text → Option ErrorForm
+error_form_named word = if bytes_eq word (codes "short") then Some form.Short else if bytes_eq word (codes "long") then Some form.Long else if bytes_eq word (codes "json") then Some form.Json else None
+
+-- in full if the flag is given
+abbrev pub verbose_form : List Row → Option ErrorForm
+verbose_form rows = if option_map_or (λ v. bytes_eq v (codes "true")) (first_of (codes "verbose-errors") rows) false then Some form.Long else None
+
+-- how a subcommand with these matches is to write a refusal: as the word says, or the flag where there is no word
+abbrev pub errors_of : Option (Text × List Row) → Option ErrorForm
+errors_of None = None
+errors_of (Some p) = option_map_or error_form_named (first_of (codes "errors") p.1) (verbose_form p.1)
+
+-- a word that names no form
+abbrev pub unless_named : Text → Option Text
+unless_named word = if is_some (error_form_named word) then None else Some word
+
+-- the word for how a refusal is written that these matches of a subcommand have, if it names no form
+abbrev pub unknown_errors_of : Option (Text × List Row) → Option Text
+unknown_errors_of None = None
+unknown_errors_of (Some p) = option_and_then unless_named (first_of (codes "errors") p.1)
 
 -- how many threads a subcommand with these matches is to load with, where it loads
 abbrev pub threads_of : Option (Text × List Row) → Option ℕ
@@ -223,9 +250,13 @@ stats_of (Some p) = first_of (codes "stats") p.1
 unfoldable pub asked_by : List Text → Option Ask
 asked_by arguments = ask_of (subcommand_of volcano_app arguments)
 
--- whether they ask where what is refused was found
-unfoldable pub verbose_by : List Text → Bool
-verbose_by arguments = verbose_of (subcommand_of volcano_app arguments)
+-- how they ask for a refusal to be written
+unfoldable pub errors_by : List Text → Option ErrorForm
+errors_by arguments = errors_of (subcommand_of volcano_app arguments)
+
+-- their word for that, if it names no form
+unfoldable pub unknown_errors_by : List Text → Option Text
+unknown_errors_by arguments = unknown_errors_of (subcommand_of volcano_app arguments)
 
 -- how many threads they ask to load with
 unfoldable pub threads_by : List Text → Option ℕ

@@ -1,8 +1,8 @@
 //! What the command-line arguments ask for.
 
-ghost use Rattle.std.specs.Prelude.{◌≡◌, IfOk, IfSome, false, map, option_map, option_and_then, codes};
+ghost use Rattle.std.specs.Prelude.{◌≡◌, IfOk, IfSome, map, option_map, option_and_then, codes};
 ghost use Rattle.clap.specs.Words.{FailsBy, fault_of, rows_of, found_of, first_of, all_of, subcommand_of, subcommand_rows_of};
-ghost use Rattle.volcano_arguments.specs.Asked.{volcano_app, paths_of, given_of, sizes_of, serial_of, check_of, explain_of, sql_of, run_for, run_of, number_of, generate_of, ask_of, asked_by, verbose_of, verbose_by, threads_of, threads_by, stats_of, stats_by, faults_of, paths_are, given_is, asked_is};
+ghost use Rattle.volcano_arguments.specs.Asked.{volcano_app, paths_of, given_of, sizes_of, serial_of, check_of, explain_of, sql_of, run_for, run_of, number_of, generate_of, ask_of, asked_by, error_form_named, verbose_form, errors_of, errors_by, unless_named, unknown_errors_of, unknown_errors_by, threads_of, threads_by, stats_of, stats_by, faults_of, paths_are, given_is, asked_is};
 
 use crate::command_line::command;
 use clap::{ArgMatches, Error};
@@ -60,12 +60,25 @@ pub enum Asked<'a> {
     Generate(u64),
 }
 
+/// How a refusal is written.
+#[derive(Clone, Copy, Debug, PartialEq, Eq)]
+pub enum ErrorForm {
+    /// One line.
+    Short,
+    /// With where in the files it was found.
+    Long,
+    /// An object of JSON.
+    Json,
+}
+
 /// What the arguments ask for, and what they say of loading and of reports.
 #[derive(Drop)]
 pub struct Request<'a> {
     pub asked: Asked<'a>,
-    /// Whether a refusal is followed by a line that says where it was found.
-    pub is_verbose: bool,
+    /// How a refusal is written, where they say it.
+    pub errors: Option<ErrorForm>,
+    /// What they say of that, where it is the name of no form.
+    pub unknown_errors: Option<&'a str>,
     /// How many threads load each table, where the command loads any; 0 is one for each processor.
     pub threads: Option<u64>,
     /// The format of a run's statistics: `none`, `table` or `json`, if it is one of them.
@@ -255,14 +268,55 @@ fn asked_in<'a>(alloc: Global, matches: &ArgMatches<'a>) -> Result<Option<Asked<
     }
 }
 
-// Whether matches ask where what is refused was found.
-fn is_verbose(matches: &ArgMatches<'_>) -> bool
-    ensures { result ≡ verbose_of (subcommand_rows_of matches.now) }
+// The form of a name, if it is one.
+fn error_form_named(word: &str) -> Option<ErrorForm>
+    ensures { result ≡ error_form_named word.now }
 {
-    match matches.subcommand() {
-        Some((_, found)) => matches!(value(found, "verbose-errors"), Some("true")),
-        None => false,
+    match word {
+        "short" => Some(ErrorForm::Short),
+        "long" => Some(ErrorForm::Long),
+        "json" => Some(ErrorForm::Json),
+        _ => None,
     }
+}
+
+// How the flag asks for refusals to be written.
+fn verbose_form(found: &ArgMatches<'_>) -> Option<ErrorForm>
+    ensures { result ≡ verbose_form (rows_of (found_of found.now)) }
+{
+    match value(found, "verbose-errors") {
+        Some("true") => Some(ErrorForm::Long),
+        _ => None,
+    }
+}
+
+// How matches ask for refusals to be written.
+fn errors_in(matches: &ArgMatches<'_>) -> Option<ErrorForm>
+    ensures { result ≡ errors_of (subcommand_rows_of matches.now) }
+{
+    let (_, found) = matches.subcommand()?;
+    match value(found, "errors") {
+        Some(word) => error_form_named(word),
+        None => verbose_form(found),
+    }
+}
+
+// A word that names no form.
+fn unless_named(word: &str) -> Option<&str>
+    ensures { option_map (λ s. s.now) result ≡ unless_named word.entry.now }
+{
+    match error_form_named(word) {
+        Some(_) => None,
+        None => Some(word),
+    }
+}
+
+// The word in matches for how refusals are written, if it names no form.
+fn unknown_errors_in<'a>(matches: &ArgMatches<'a>) -> Option<&'a str>
+    ensures { option_map (λ s. s.now) result ≡ unknown_errors_of (subcommand_rows_of matches.now) }
+{
+    let (_, found) = matches.subcommand()?;
+    unless_named(value(found, "errors")?)
 }
 
 // How many threads matches ask for.
@@ -282,22 +336,25 @@ fn stats_in<'a>(matches: &ArgMatches<'a>) -> Option<&'a str>
 }
 
 /// What the arguments ask for, the program's name first. An `Err` is running out of memory, a usage error, or help.
-#[tactic(auto, unfolding(crate::specs::Asked::asked_by, crate::specs::Asked::verbose_by, crate::specs::Asked::threads_by, crate::specs::Asked::stats_by, crate::specs::Asked::faults_of))]
+#[tactic(auto, unfolding(crate::specs::Asked::asked_by, crate::specs::Asked::errors_by, crate::specs::Asked::unknown_errors_by, crate::specs::Asked::threads_by, crate::specs::Asked::stats_by, crate::specs::Asked::faults_of))]
 pub fn asked_for<'a>(alloc: Global, arguments: &'a [&'a str]) -> Result<Option<Request<'a>>, Error>
     ensures asked { IfOk result (λ o. option_map (λ r. asked_is r.asked) o ≡ asked_by (map (λ w. w.now) arguments.entry.now)) }
-    ensures verbose { IfOk result (λ o. IfSome o (λ r. r.is_verbose ≡ verbose_by (map (λ w. w.now) arguments.entry.now))) }
+    ensures errors { IfOk result (λ o. IfSome o (λ r. r.errors ≡ errors_by (map (λ w. w.now) arguments.entry.now))) }
+    ensures unknown_errors { IfOk result (λ o. IfSome o (λ r. option_map (λ s. s.now) r.unknown_errors ≡ unknown_errors_by (map (λ w. w.now) arguments.entry.now))) }
     ensures threads { IfOk result (λ o. IfSome o (λ r. r.threads ≡ threads_by (map (λ w. w.now) arguments.entry.now))) }
     ensures stats { IfOk result (λ o. IfSome o (λ r. option_map (λ s. s.now) r.stats ≡ stats_by (map (λ w. w.now) arguments.entry.now))) }
     ensures faults { FailsBy (faults_of (map (λ w. w.now) arguments.entry.now)) result }
 {
     let matches = matches_in(alloc, arguments)?;
-    let is_verbose = is_verbose(&matches);
+    let errors = errors_in(&matches);
+    let unknown_errors = unknown_errors_in(&matches);
     let threads = threads_in(&matches);
     let stats = stats_in(&matches);
     match asked_in(alloc, &matches)? {
         Some(asked) => Ok(Some(Request {
             asked,
-            is_verbose,
+            errors,
+            unknown_errors,
             threads,
             stats,
         })),

@@ -3,7 +3,7 @@
 ghost use Rattle.std.specs.Prelude.{◌≡◌, IfOk, false, codes};
 ghost use Rattle.clap.specs.Words.{App, Rule, app_of, rule_of, new_app, with_rule, with_subcommand};
 ghost use Rattle.clap.specs.declared.builder.command.Command.TheViews.{out-Command as fields_of};
-ghost use Rattle.volcano_arguments.specs.Asked.{named_rule, path_rule, plans_rule, number_rule, rows_rule, word_rule, flag_rule, code_rule, sizes_rule, verbose_rule, drawn_rule, reading_app, judging_app, serial_app, run_app, check_app, explain_app, annotate_app, sql_app, why_app, gen_app, bundle_app, program_app, volcano_app};
+ghost use Rattle.volcano_arguments.specs.Asked.{named_rule, path_rule, plans_rule, number_rule, rows_rule, word_rule, flag_rule, code_rule, sizes_rule, verbose_rule, errors_rule, drawn_rule, with_reports, reading_app, judging_app, serial_app, run_app, check_app, explain_app, annotate_app, sql_app, why_app, gen_app, bundle_app, program_app, volcano_app};
 ghost use Rattle.volcano_arguments.specs.Planned.{IsOption, IsCommand};
 
 use clap::{Arg, ArgAction, Command, value_parser};
@@ -124,15 +124,23 @@ fn all_option<'a>(alloc: Global) -> Arg<'a>
     )
 }
 
+fn errors_option<'a>(alloc: Global) -> Arg<'a>
+    ensures rule { rule_of result ≡ errors_rule }
+    ensures own { result.global ≡ false }
+{
+    named_option(
+        alloc,
+        "errors",
+        "FORM",
+        "How a refusal is written: `short`, one line; `long`, with where it was found; or `json`, an object. If left out, it is long on a terminal and else short",
+    )
+}
+
 fn verbose_option<'a>(alloc: Global) -> Arg<'a>
     ensures rule { rule_of result ≡ verbose_rule }
     ensures own { result.global ≡ false }
 {
-    flag_option(
-        alloc,
-        "verbose-errors",
-        "Behind a refusal, a line that says where in the files it was found",
-    )
+    flag_option(alloc, "verbose-errors", "The same as `--errors=long`")
 }
 
 fn stats_option<'a>(alloc: Global) -> Arg<'a>
@@ -189,7 +197,7 @@ fn code_argument<'a>(alloc: Global) -> Arg<'a>
 {
     Arg::new(alloc, "code")
         .value_name("CODE")
-        .help("The code that a refusal begins with, such as K4")
+        .help("The code that a refusal begins with, such as K4, or the name behind it, in any case")
         .required(true)
 }
 
@@ -262,6 +270,17 @@ fn with_option<'a>(
     command?.arg(option)
 }
 
+// The command with both options that say how a refusal is written, where there was memory for the command.
+fn with_reports<'a>(
+    alloc: Global,
+    command: Result<Command<'a>, AllocError>,
+) -> Result<Command<'a>, AllocError>
+    ensures { (app : App) → IsCommand app command.entry → IsCommand (with_reports app) result }
+{
+    let command = with_option(command, errors_option(alloc));
+    with_option(command, verbose_option(alloc))
+}
+
 // A command without options.
 fn bare<'a>(alloc: Global, name: &'a str, about: &'a str, example: &'a str) -> Command<'a>
     ensures app { app_of result ≡ new_app name.entry.now }
@@ -308,7 +327,7 @@ fn serial<'a>(alloc: Global) -> Result<Command<'a>, AllocError>
     let command = with_option(command, data_option(alloc));
     let command = with_option(command, threads_option(alloc));
     let command = with_option(command, quiet_option(alloc));
-    with_option(command, verbose_option(alloc))
+    with_reports(alloc, command)
 }
 
 fn packet_option<'a>(alloc: Global) -> Arg<'a>
@@ -365,7 +384,7 @@ fn run<'a>(alloc: Global) -> Result<Command<'a>, AllocError>
     let command = with_option(command, threads_option(alloc));
     let command = with_option(command, quiet_option(alloc));
     let command = with_option(command, stats_option(alloc));
-    let command = with_option(command, verbose_option(alloc));
+    let command = with_reports(alloc, command);
     with_option(command, sizes_argument(alloc))
 }
 
@@ -379,7 +398,7 @@ fn check<'a>(alloc: Global) -> Result<Command<'a>, AllocError>
         "Example: volcano check --catalog catalog.json --plan plan.json",
     );
     let command = with_option(command, all_option(alloc));
-    with_option(command, verbose_option(alloc))
+    with_reports(alloc, command)
 }
 
 fn explain<'a>(alloc: Global) -> Result<Command<'a>, AllocError>
@@ -393,7 +412,7 @@ fn explain<'a>(alloc: Global) -> Result<Command<'a>, AllocError>
     );
     let command = with_option(command, format_option(alloc));
     let command = with_option(command, drawn_option(alloc));
-    with_option(command, verbose_option(alloc))
+    with_reports(alloc, command)
 }
 
 fn annotate<'a>(alloc: Global) -> Result<Command<'a>, AllocError>
@@ -405,7 +424,7 @@ fn annotate<'a>(alloc: Global) -> Result<Command<'a>, AllocError>
         "Prints the plan, as JSON, with the claims that follow at each node in place of its own",
         "Example: volcano annotate --catalog catalog.json --plan plan.json",
     );
-    with_option(command, verbose_option(alloc))
+    with_reports(alloc, command)
 }
 
 fn sql<'a>(alloc: Global) -> Result<Command<'a>, AllocError>
@@ -418,7 +437,7 @@ fn sql<'a>(alloc: Global) -> Result<Command<'a>, AllocError>
         "Example: volcano sql --catalog catalog.json --plan plan.json --dialect postgres",
     );
     let command = with_option(command, dialect_option(alloc));
-    with_option(command, verbose_option(alloc))
+    with_reports(alloc, command)
 }
 
 fn why<'a>(alloc: Global) -> Result<Command<'a>, AllocError>
@@ -427,7 +446,7 @@ fn why<'a>(alloc: Global) -> Result<Command<'a>, AllocError>
     let command = bare(
         alloc,
         "why",
-        "Says what a refusal of this code means, its usual causes and its cure",
+        "Says what a refusal of this code or name means, its usual causes and its cure",
         "Example: volcano why K4",
     );
     with_option(Ok(command), code_argument(alloc))
@@ -455,7 +474,8 @@ fn bundle<'a>(alloc: Global) -> Result<Command<'a>, AllocError>
         "Example: volcano bundle --stats < request.json",
     );
     let command = with_option(Ok(command), threads_option(alloc));
-    with_option(command, stats_option(alloc))
+    let command = with_option(command, stats_option(alloc));
+    with_reports(alloc, command)
 }
 
 // The program without its commands. `tools/install` writes the commit over the words in brackets of its version, in as many bytes.

@@ -4,4 +4,4 @@
 mod asked;
 mod command_line;
 
-pub use asked::{Asked, ManySources, Request, RunArguments, Sources, asked_for};
+pub use asked::{Asked, ErrorForm, ManySources, Request, RunArguments, Sources, asked_for};

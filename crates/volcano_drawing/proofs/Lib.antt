@@ -1,1 +1,1 @@
-pub mod CountFacts
+pub mod TotalsFacts

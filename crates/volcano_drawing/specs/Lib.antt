@@ -1,3 +1,4 @@
+pub mod Entries
+pub mod Totals
 pub mod Fault
-pub mod Counts
 pub mod Drawing

@@ -2,7 +2,9 @@
 #![tactic(auto)]
 
 mod drawing;
-mod node_counts;
+mod entries;
+mod fault;
+mod totals;
 
 pub use drawing::draw;
-pub use node_counts::DrawFault;
+pub use fault::{Difference, DrawFault};

@@ -1,6 +1,6 @@
 pub mod Lines
 pub mod Paths
 pub mod Records
-pub mod Shown
 pub mod Spots
 pub mod Stages
+pub mod WithInput

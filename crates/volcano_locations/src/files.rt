@@ -1,4 +1,4 @@
-//! Files that are read once more, after a refusal.
+//! Files that are read once more, after a refusal. What stands for standard input is read from what the store keeps of it.
 
 ghost use Rattle.std.specs.Prelude.{◌≡◌, IfOk, IfSome};
 ghost use Rattle.vx_catalog_bytes.specs.Stored.{IfBytes};
@@ -7,25 +7,29 @@ use crate::fault::PlaceFault;
 use std::alloc::Global;
 use vx_catalog_bytes::{ReadFault, Store, read_all};
 use vx_catalog_relations::{Catalog, CatalogFault};
-use vx_plan::resolve;
 use vx_plan_json::{Plan, PlanFault};
 use vx_rows_values::limits::MAX_TEXT_BYTES;
 
-// The path of standard input, which is not read again.
+// The path of standard input.
 const INPUT: &str = "-";
 
-/// Whether a path is that of standard input.
-pub fn is_input(path: &str) -> bool {
-    path == INPUT
+/// How a file is named to people.
+pub fn shown_name(path: &str) -> &str {
+    if path == INPUT {
+        "standard input"
+    } else {
+        path
+    }
 }
 
-// All bytes of the file at a path, if there is one.
-fn bytes_at<F: Store>(alloc: Global, files: &F, path: &str) -> Result<Option<Vec<u8>>, PlaceFault>
+/// All bytes of the file at a path, if there is one.
+pub fn bytes_at<F: Store>(
+    alloc: Global,
+    files: &F,
+    path: &str,
+) -> Result<Option<Vec<u8>>, PlaceFault>
     ensures { IfOk result (λ o. IfSome o (λ v. IfBytes (F.holds files.now path.now) (λ bytes. bytes ≡ v.items))) }
 {
-    if is_input(path) {
-        return Ok(None);
-    }
     let Some(mut file) = files.open(path) else {
         return Ok(None);
     };
@@ -61,22 +65,5 @@ pub fn plan_at<F: Store>(alloc: Global, files: &F, path: &str) -> Result<Option<
         Ok(plan) => Ok(Some(plan)),
         Err(PlanFault::NoMemory) => Err(PlaceFault::NoMemory),
         Err(_) => Ok(None),
-    }
-}
-
-/// Whether the plan at a path is one that fits a catalog.
-pub fn is_resolved<F: Store>(
-    alloc: Global,
-    files: &F,
-    catalog: &Catalog,
-    path: &str,
-) -> Result<bool, PlaceFault> {
-    let Some(plan) = plan_at(alloc, files, path)? else {
-        return Ok(false);
-    };
-    match resolve(alloc, &plan, catalog) {
-        Ok(_) => Ok(true),
-        Err(PlanFault::NoMemory) => Err(PlaceFault::NoMemory),
-        Err(_) => Ok(false),
     }
 }

@@ -27,7 +27,7 @@ pub struct CellAt {
 pub struct FaultSpot {
     /// The line on which the row begins, counted from 1; a text without a header has none.
     pub line: Option<u64>,
-    /// The line of the row with the same key.
+    /// The line of the row with the same key, or of the greater row before it.
     pub earlier: Option<u64>,
     /// How many fields the row has, if that is the fault.
     pub width: Option<usize>,
@@ -239,10 +239,18 @@ fn order_spot(
 ) -> Result<Option<FaultSpot>, PlaceFault>
     ensures { IfOk result (λ o. IfSome o (λ s. s.line ≡ Some found.now.line)) }
 {
-    match falling_column(relation, &before.fields, &found.fields) {
-        Some(column) => cell_spot(alloc, found, column),
-        None => Ok(None),
-    }
+    let Some(column) = falling_column(relation, &before.fields, &found.fields) else {
+        return Ok(None);
+    };
+    let mut cells = Vec::new(alloc);
+    push_cell(alloc, &mut cells, &before.fields, column)?;
+    push_cell(alloc, &mut cells, &found.fields, column)?;
+    Ok(Some(FaultSpot {
+        line: Some(found.line),
+        earlier: Some(before.line),
+        width: None,
+        cells,
+    }))
 }
 
 // Where a record is at fault so, together with an earlier one.

@@ -8,7 +8,7 @@ use Rattle.vx_catalog.specs.declared.fault.LoadFault.TheVariants as load
 use Rattle.volcano_refusals.specs.declared.refusal.Refusal.TheVariants as refusal
 use Rattle.vx_catalog_bytes.specs.Stored.{Stored, silent, absent, present, IfBytes, MayBePresent, OpensAs}
 use Rattle.vx_catalog.specs.Folder.{path_in}
-use Rattle.volcano_tables.specs.Folder.{LacksAt, for_reading, for_text}
+use Rattle.volcano_tables.specs.Folder.{leads_out, LacksAt, for_reading, for_text}
 
 -- what failed was not reliable
 pub may_fail : (reliable failed : Bool) → (reliable ≡ true → failed ≡ false) → failed ≡ true → reliable ≡ false
@@ -34,16 +34,16 @@ is_fault : {T : Type 0} (fault : LoadFault) → fault ≡ load.ReadFailed → Is
 is_fault fault h = ap Err h
 
 -- a file that failed while it was read, or whose text does not hold the rows
-lacks_by : {T : Type 0} (failed : Bool) (known : Option (List ℕ)) (files : List ℕ → Stored) (reliable : List ℕ → Bool) (folder : List ℕ) (relation : Relation) (fault : LoadFault)
+lacks_by : {T : Type 0} (failed : Bool) (known : Option (List ℕ)) (files : List ℕ → Stored) (reliable : List ℕ → Bool) (folder : List ℕ) (relation : Relation) (fault : LoadFault) → leads_out relation.name ≡ false
     → OpensAs (files (path_in folder relation.name)) known → (failed ≡ true → reliable (path_in folder relation.name) ≡ false) → (failed ≡ false → IfSome known (λ bytes. Fails fault (load_of relation bytes)))
     → (IsErrOf {T = T} (Err fault) load.ReadFailed → failed ≡ true) → (failed ≡ true → IsErrOf {T = T} (Err fault) load.ReadFailed) → LacksAt files reliable folder relation (refusal.Load fault)
-lacks_by true known files reliable folder relation fault there may reported read broken = for_reading (ap refusal.Load (fault_is fault (broken refl))) (may refl) (opened_may (files (path_in folder relation.name)) known there)
-lacks_by false known files reliable folder relation fault there may reported read broken =
+lacks_by true known files reliable folder relation fault inside there may reported read broken = for_reading (ap refusal.Load (fault_is fault (broken refl))) inside (may refl) (opened_may (files (path_in folder relation.name)) known there)
+lacks_by false known files reliable folder relation fault inside there may reported read broken =
     let P : List ℕ → Type 0 = λ bytes. Fails fault (load_of relation bytes) in
-    for_text fault refl (λ h. let bad = read (is_fault fault h) in cc) (opened_bytes (files (path_in folder relation.name)) known P there (reported refl))
+    for_text fault refl (λ h. let bad = read (is_fault fault h) in cc) inside (opened_bytes (files (path_in folder relation.name)) known P there (reported refl))
 
-pub lacks_read : {T : Type 0} (failed : Bool) (known : Option (List ℕ)) (files : List ℕ → Stored) (reliable : List ℕ → Bool) (folder : List ℕ) (relation : Relation) (fault : LoadFault)
+pub lacks_read : {T : Type 0} (failed : Bool) (known : Option (List ℕ)) (files : List ℕ → Stored) (reliable : List ℕ → Bool) (folder : List ℕ) (relation : Relation) (fault : LoadFault) → leads_out relation.name ≡ false
     → OpensAs (files (path_in folder relation.name)) known → (reliable (path_in folder relation.name) ≡ true → failed ≡ false) → (failed ≡ false → IfSome known (λ bytes. Fails fault (load_of relation bytes)))
     → (IsErrOf {T = T} (Err fault) load.ReadFailed → failed ≡ true) → (failed ≡ true → IsErrOf {T = T} (Err fault) load.ReadFailed) → LacksAt files reliable folder relation (refusal.Load fault)
-lacks_read failed known files reliable folder relation fault there never reported read broken =
-    lacks_by failed known files reliable folder relation fault there (may_fail (reliable (path_in folder relation.name)) failed never) reported read broken
+lacks_read failed known files reliable folder relation fault inside there never reported read broken =
+    lacks_by failed known files reliable folder relation fault inside there (may_fail (reliable (path_in folder relation.name)) failed never) reported read broken

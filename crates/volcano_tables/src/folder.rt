@@ -4,7 +4,7 @@ ghost use Rattle.std.specs.Prelude.{◌≡◌, ◌<◌, length, true, false, IfO
 ghost use Rattle.vx_catalog_relations.specs.Catalog.{relation_at};
 ghost use Rattle.vx_catalog_bytes.specs.Stored.{OpensAs};
 ghost use Rattle.vx_catalog.specs.Folder.{path_in};
-ghost use Rattle.volcano_tables.specs.Folder.{LacksAt};
+ghost use Rattle.volcano_tables.specs.Folder.{leads_out, LacksAt};
 
 use crate::tables::Tables;
 use std::alloc::Global;
@@ -22,7 +22,14 @@ pub struct Folder<'f, F> {
     pub path: &'f str,
 }
 
-// Opens the file that has the text of a relation.
+// Whether a part of a relation's name between slashes is `..`, so that its file may lie outside the folder.
+fn leads_out(name: &str) -> bool
+    ensures { result ≡ leads_out name.now }
+{
+    name.split('/').any(|part| part == "..")
+}
+
+// Opens the file that has the text of a relation. A name that leads out of the folder is refused, and nothing is opened.
 fn open_table<F: Store>(
     alloc: Global,
     folder: &Folder<'_, F>,
@@ -31,11 +38,16 @@ fn open_table<F: Store>(
 ) -> Result<F::In, Refusal>
     requires { relation < length catalog.now }
     ensures bytes { IfOk result (λ file. OpensAs (F.holds folder.now.files.now (path_in folder.now.path.now (relation_at catalog.now relation).name)) (F.In.remaining file)) }
+    ensures inside { IfOk result (λ _. leads_out (relation_at catalog.now relation).name ≡ false) }
     ensures whole { IfOk result (λ file. F.In.has_failed file ≡ false) }
     ensures reliable { IfOk result (λ file. F.is_reliable folder.now.files.now (path_in folder.now.path.now (relation_at catalog.now relation).name) ≡ true → F.In.is_reliable file ≡ true) }
     ensures refused { IfErr result (LacksAt (F.holds folder.now.files.now) (F.is_reliable folder.now.files.now) folder.now.path.now (relation_at catalog.now relation)) }
 {
-    let path = path_in(alloc, folder.path, catalog.get(relation).name())?;
+    let name = catalog.get(relation).name();
+    let path = path_in(alloc, folder.path, name)?;
+    if leads_out(name) {
+        return Err(Refusal::FileUnreadable { path });
+    }
     match folder.files.open(path.as_str()) {
         Some(file) => Ok(file),
         None => Err(Refusal::FileUnreadable { path }),

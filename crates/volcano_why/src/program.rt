@@ -23,14 +23,16 @@ Example: `./volcano < DIR`, where DIR is a folder.
 
 V3 FileUnreadable path=d/t.csv
 What happened: the file does not open; or it is the file of a catalog, a plan or the statistics of a run and fails
-while it is read, or has over 2^40 bytes (for a table's file these are `C10` and `C12`).
+while it is read, or has over 2^40 bytes (for a table's file these are `C10` and `C12`); or a relation's name has the
+part `..` between slashes, so that its file might lie outside the folder: then nothing is opened.
 Usual cause, and cure: a wrong path, a folder without the table of a scanned relation, or no right to read it.
 Example: `--data d`, and the folder d has no file `t.csv`.
 "#;
 
 const V4: &str = r#"V4 WriteFailed
-What happened: standard output failed.
-Usual cause, and cure: a full disk, or a closed pipe.
+What happened: standard output failed. In a pipe that nobody reads any more, as in `./volcano gen .. | head`, that is no
+fault: no line is printed, and the status is 4.
+Usual cause, and cure: a full disk.
 Example: `./volcano run .. > /dev/full`.
 "#;
 

@@ -1,5 +1,5 @@
 -- The first failure is what the checker refuses.
-use Rattle.std.proofs.Common.{◌≡◌, ◌≢◌, ◌∙◌, ℕ, ◌++◌, Bool, false, nat_eq, length, map, List, [], ◌∷◌, Option, Some, None, slice_get, append_assoc, refl, sym, ap, ap₂, Result, Ok, Err}
+use Rattle.std.proofs.Common.{◌≡◌, ◌∙◌, ℕ, ◌++◌, Bool, List, [], ◌∷◌, Option, Some, None, slice_get, append_assoc, refl, sym, ap, ap₂, Result, Ok, Err}
 use Rattle.std.specs.Prelude.{OnOk}
 use Rattle.vx_catalog_relations.specs.Relation.{Relation}
 use Rattle.vx_plan_nodes.specs.Plan.{Plan, scan, unary, binary, exchange, number}
@@ -68,8 +68,3 @@ in-below catalog (exchange n c k m p) = refl
 pub below-own : (catalog : ℕ → Relation) (p : Plan) (new old : List (ℕ × Rule)) (own : Option (ℕ × Rule)) → new ≡ old ++ (failures_below catalog p ++ listed own) → own ≡ refused_at (number p) (node_tests catalog p)
     → new ≡ old ++ failures_in catalog p
 below-own catalog p new old own put is = put ∙ ap (λ o. old ++ (failures_below catalog p ++ listed o)) is ∙ ap (λ fs. old ++ fs) (in-below catalog p)
-
--- a list that is not empty has a first member
-pub has_first : {X Y : Type 0} (f : X → Y) (xs : List X) → nat_eq (length xs) 0 ≡ false → slice_get (map f xs) 0 ≢ None
-has_first f [] h = cc
-has_first f (x ∷ xs) h = λ e. cc

@@ -1,3 +1,4 @@
 pub mod FailureFacts
 pub mod FindingFacts
+pub mod GroupFacts
 pub mod ShownFacts

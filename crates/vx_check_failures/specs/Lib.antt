@@ -1,4 +1,5 @@
 pub mod Failures
 pub mod Shown
 pub mod Lines
+pub mod Grouped
 pub mod FailureView

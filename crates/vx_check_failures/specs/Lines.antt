@@ -11,7 +11,6 @@ use Rattle.vx_plan_json.specs.Written.{claim_members}
 use Rattle.vx_plan.specs.ByName.{claim_by_name}
 use Rattle.vx_check_rules.specs.Refusal.{Rule, or_else}
 use Rattle.vx_check_rules.specs.RuleView.{rule_text}
-use Rattle.vx_check_failures.specs.Failures.{failures}
 use Rattle.vx_check_failures.specs.Shown.{shown_claim}
 
 -- the node with this number, at the top or else below it
@@ -42,7 +41,3 @@ line_of p f = codes "volcano: " ++ (rule_text f.1 ++ (codes " node=" ++ (decimal
 abbrev pub lines_of : TypedPlanView → List (ℕ × Rule) → List ℕ
 lines_of p [] = []
 lines_of p (f ∷ fs) = line_of p f ++ lines_of p fs
-
--- of all failures of a plan
-abbrev pub failure_lines : TypedPlanView → List ℕ
-failure_lines p = lines_of p (failures (relation_at p.names.catalog) p.total (plan_in p.root))

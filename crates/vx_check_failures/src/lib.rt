@@ -4,11 +4,12 @@
 mod failing;
 mod failure;
 mod finding;
+mod grouping;
 mod lines;
-mod reporting;
 mod shown;
 
 pub use failing::failures;
 pub use failure::Failure;
-pub use reporting::report;
+pub use finding::node_numbered;
+pub use grouping::{grouped_lines, ungrouped_lines_are_in_order};
 pub use shown::shown_claim;

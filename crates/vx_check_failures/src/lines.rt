@@ -1,12 +1,13 @@
-//! A line for each failure.
+//! The line of a failure.
 
-ghost use Rattle.std.specs.Prelude.{◌≡◌, ◌++◌, map, option_map, string_bytes, OnOk, IfOk, IfSome};
+ghost use Rattle.std.specs.Prelude.{◌≡◌, ◌++◌, option_map, string_bytes, OnOk, IfSome};
 ghost use Rattle.vx_catalog_relations.specs.Catalog.{relation_at};
 ghost use Rattle.vx_plan_nodes.specs.Outline.{columns, claim_of, outline_of, plan_of};
 ghost use Rattle.vx_plan_nodes.specs.Outputs.{HasOutputs};
 ghost use Rattle.vx_plan_nodes.specs.TypedView.{names_in, resolved_of};
 ghost use Rattle.vx_check_rules.specs.Exactly.{KeysNameColumns};
-ghost use Rattle.vx_check_failures.specs.Lines.{claim_text, shown_text, line_of, lines_of};
+ghost use Rattle.vx_check_failures.specs.Lines.{claim_text, shown_text};
+ghost use Rattle.vx_check_failures.specs.Grouped.{cause_text, caused_line};
 ghost use Rattle.vx_check_failures.specs.FailureView.{failure_is};
 
 use crate::failure::Failure;
@@ -60,32 +61,34 @@ fn push_shown(
     push_claim(alloc, text, plan, column_names(node), claim)
 }
 
-// Adds the line of a failure.
-fn push_line(
+// Adds the node of the failure that one comes of, if it comes of one.
+fn push_cause(text: &mut String, cause: Option<u32>) -> Result<(), AllocError>
+    ensures { OnOk result (string_bytes text.new ≡ string_bytes text.old ++ cause_text cause) }
+{
+    let Some(node) = cause else {
+        return Ok(());
+    };
+    let mut digits = Buffer::new();
+    text.push_str(" cause=")?;
+    text.push_str(digits.format(node))
+}
+
+/// Adds the line of a failure that comes of one at another node, or of none, as the program reports a plan that is refused.
+pub fn push_line(
     alloc: Global,
     text: &mut String,
     plan: &TypedPlan,
     failure: Failure,
+    cause: Option<u32>,
 ) -> Result<(), AllocError>
-    ensures { OnOk result (string_bytes text.new ≡ string_bytes text.old ++ line_of (resolved_of plan.now) (failure_is failure)) }
+    ensures { OnOk result (string_bytes text.new ≡ string_bytes text.old ++ caused_line (resolved_of plan.now) (failure_is failure) cause) }
 {
     let mut digits = Buffer::new();
     text.push_str("volcano: ")?;
     text.push_str(failure.rule.text())?;
     text.push_str(" node=")?;
     text.push_str(digits.format(failure.node))?;
+    push_cause(text, cause)?;
     push_shown(alloc, text, plan, node_numbered(plan.root(), failure.node))?;
     text.push_str("\n")
-}
-
-/// A line for each of the failures, in their order, as the program reports a plan that is refused; behind each the claim
-/// that the rule table shows there.
-pub fn lines_of(alloc: Global, plan: &TypedPlan, failures: &[Failure]) -> Result<String, AllocError>
-    ensures { IfOk result (λ s. string_bytes s ≡ lines_of (resolved_of plan.now) (map failure_is failures.now)) }
-{
-    let mut text = String::new(alloc);
-    for failure in failures {
-        push_line(alloc, &mut text, plan, *failure)?;
-    }
-    Ok(text)
 }

@@ -1,18 +1,16 @@
 -- A plan as a graph in the language of Graphviz: a frame for each fragment, which is what lies between exchanges, a box
--- for each operator, and an arrow from each node to the one that takes its rows.
-use Rattle.std.specs.Prelude.{ℕ, ◌++◌, Bool, cond, List, [], codes, decimal}
-use Rattle.serde_json.specs.Data.{string}
-use Rattle.serde_json.specs.Written.{compact_text}
+-- for each operator, and an arrow from each node to the one that takes its rows. Where there are counts of a run, the box
+-- of a node has them too, or the arrow that leads to it if it is an exchange.
+use Rattle.std.specs.Prelude.{ℕ, ◌++◌, Bool, cond, List, [], codes, decimal, slice_get}
 use Rattle.vx_plan_nodes.specs.Plan.{size}
 use Rattle.vx_plan_nodes.specs.Names.{Names}
 use Rattle.vx_plan_nodes.specs.Outline.{Outline, scan, unary, binary, exchange, top, columns, plan_in}
 use Rattle.vx_plan_nodes.specs.declared.typed_plan.TypedPlan.{TypedPlan}
 use Rattle.vx_plan_nodes.specs.TypedView.{resolved_of}
 use Rattle.vx_check.specs.Explain.{size_text, part_text, description}
-
--- a label, in double quotes as in JSON, which Graphviz reads as the same text
-abbrev pub label : List ℕ → List ℕ
-label words = codes "label=" ++ compact_text (string words)
+use Rattle.vx_check_formats.specs.Label.{label, label_of, insides}
+use Rattle.vx_check_formats.specs.Totals.{node_line, exchange_lines}
+use Rattle.vx_check_formats.specs.declared.totals.NodeTotals.{NodeTotals}
 
 -- the name of the box of the node with this number
 abbrev pub box_name : ℕ → List ℕ
@@ -24,22 +22,26 @@ caption s t = codes "#" ++ (decimal (top t).number ++ (codes " " ++ description 
 
 -- ---- boxes
 
--- an exchange is a point, since its caption stands at the arrow that leads to it
-abbrev pub look : Names → Outline → List ℕ
-look s (scan h r m z p) = label (caption s (scan h r m z p))
-look s (unary h op renamed t) = label (caption s (unary h op renamed t))
-look s (binary h op t u) = label (caption s (binary h op t u))
-look s (exchange h k m t) = codes "shape=point"
+-- a node's label: its caption, and below it what was counted there
+abbrev pub captioned : Names → List NodeTotals → Outline → List ℕ
+captioned s cs t = label_of (insides (caption s t) ++ node_line (slice_get cs (top t).number))
 
-abbrev pub box : Names → Outline → List ℕ
-box s t = codes "    " ++ (box_name (top t).number ++ (codes " [" ++ (look s t ++ codes "];\n")))
+-- an exchange is a point, since its caption stands at the arrow that leads to it
+abbrev pub look : Names → List NodeTotals → Outline → List ℕ
+look s cs (scan h r m z p) = captioned s cs (scan h r m z p)
+look s cs (unary h op renamed t) = captioned s cs (unary h op renamed t)
+look s cs (binary h op t u) = captioned s cs (binary h op t u)
+look s cs (exchange h k m t) = codes "shape=point"
+
+abbrev pub box : Names → List NodeTotals → Outline → List ℕ
+box s cs t = codes "    " ++ (box_name (top t).number ++ (codes " [" ++ (look s cs t ++ codes "];\n")))
 
 -- the boxes of a fragment from this node down: an exchange is its lowest
-abbrev pub boxes : Names → Outline → List ℕ
-boxes s (scan h r m z p) = box s (scan h r m z p)
-boxes s (unary h op renamed t) = box s (unary h op renamed t) ++ boxes s t
-boxes s (binary h op t u) = box s (binary h op t u) ++ (boxes s t ++ boxes s u)
-boxes s (exchange h k m t) = box s (exchange h k m t)
+abbrev pub boxes : Names → List NodeTotals → Outline → List ℕ
+boxes s cs (scan h r m z p) = box s cs (scan h r m z p)
+boxes s cs (unary h op renamed t) = box s cs (unary h op renamed t) ++ boxes s cs t
+boxes s cs (binary h op t u) = box s cs (binary h op t u) ++ (boxes s cs t ++ boxes s cs u)
+boxes s cs (exchange h k m t) = box s cs (exchange h k m t)
 
 -- how the frame begins whose top node has this number
 unfoldable pub frame_head : ℕ → List ℕ
@@ -50,15 +52,15 @@ unfoldable pub size_label : Names → Outline → List ℕ
 size_label s t = codes "    " ++ (label (size_text s (size (plan_in t))) ++ codes ";\n")
 
 -- the frame of the fragment that has this node at its top
-unfoldable pub frame : Names → Outline → List ℕ
-frame s t = frame_head (top t).number ++ (size_label s t ++ (boxes s t ++ codes "  }\n"))
+unfoldable pub frame : Names → List NodeTotals → Outline → List ℕ
+frame s cs t = frame_head (top t).number ++ (size_label s t ++ (boxes s cs t ++ codes "  }\n"))
 
 -- the frames of the fragments below this node's: below each exchange begins another
-abbrev pub frames : Names → Outline → List ℕ
-frames s (scan h r m z p) = []
-frames s (unary h op renamed t) = frames s t
-frames s (binary h op t u) = frames s t ++ frames s u
-frames s (exchange h k m t) = frame s t ++ frames s t
+abbrev pub frames : Names → List NodeTotals → Outline → List ℕ
+frames s cs (scan h r m z p) = []
+frames s cs (unary h op renamed t) = frames s cs t
+frames s cs (binary h op t u) = frames s cs t ++ frames s cs u
+frames s cs (exchange h k m t) = frame s cs t ++ frames s cs t
 
 -- ---- arrows
 
@@ -66,17 +68,25 @@ frames s (exchange h k m t) = frame s t ++ frames s t
 abbrev pub part_words : Names → Outline → List ℕ
 part_words s t = part_text s (columns t).names (top t).claim.part
 
-abbrev pub arrow : ℕ → List ℕ → List ℕ → List ℕ
-arrow from to words = codes "  " ++ (box_name from ++ (codes " -> " ++ (to ++ (codes " [" ++ (label words ++ codes "];\n")))))
+-- an arrow between two boxes, with this inside of its label
+unfoldable pub arrow : ℕ → List ℕ → List ℕ → List ℕ
+arrow from to inside = codes "  " ++ (box_name from ++ (codes " -> " ++ (to ++ (codes " [" ++ (label_of inside ++ codes "];\n")))))
 
--- an arrow says how the rows lie that it stands for, and into an exchange also how it sends them
-abbrev pub arrows : Names → Outline → List ℕ
-arrows s (scan h r m z p) = []
-arrows s (unary h op renamed t) = arrow (top t).number (box_name h.number) (part_words s t) ++ arrows s t
-arrows s (binary h op t u) =
-    arrow (top t).number (box_name h.number) (part_words s t) ++ (arrow (top u).number (box_name h.number) (part_words s u) ++ (arrows s t ++ arrows s u))
-arrows s (exchange h k m t) =
-    arrow (top t).number (box_name h.number) (part_words s t ++ (codes "\n" ++ caption s (exchange h k m t))) ++ arrows s t
+-- what stands at the arrow from a node: how its rows lie
+abbrev pub part_inside : Names → Outline → List ℕ
+part_inside s t = insides (part_words s t)
+
+-- and at the arrow from a node to this exchange: also how the exchange sends, and what was counted at both
+abbrev pub sent_inside : Names → List NodeTotals → (from to : Outline) → List ℕ
+sent_inside s cs t x =
+    part_inside s t ++ (codes "\\n" ++ (insides (caption s x) ++ exchange_lines (slice_get cs (top t).number) (slice_get cs (top x).number)))
+
+abbrev pub arrows : Names → List NodeTotals → Outline → List ℕ
+arrows s cs (scan h r m z p) = []
+arrows s cs (unary h op renamed t) = arrow (top t).number (box_name h.number) (part_inside s t) ++ arrows s cs t
+arrows s cs (binary h op t u) =
+    arrow (top t).number (box_name h.number) (part_inside s t) ++ (arrow (top u).number (box_name h.number) (part_inside s u) ++ (arrows s cs t ++ arrows s cs u))
+arrows s cs (exchange h k m t) = arrow (top t).number (box_name h.number) (sent_inside s cs t (exchange h k m t)) ++ arrows s cs t
 
 -- ---- the graph
 
@@ -85,14 +95,15 @@ abbrev pub result_box : Bool → List ℕ
 result_box total = cond total (codes "  result [shape=plaintext, label=\"total\"];\n") (codes "  result [shape=plaintext, label=\"not total\"];\n")
 
 unfoldable pub ending : Names → Bool → Outline → List ℕ
-ending s total t = result_box total ++ (arrow (top t).number (codes "result") (part_words s t) ++ codes "}\n")
+ending s total t = result_box total ++ (arrow (top t).number (codes "result") (part_inside s t) ++ codes "}\n")
 
 -- all frames and arrows of the plan with this node at its top
-unfoldable pub drawing : Names → Outline → List ℕ
-drawing s t = frame s t ++ (frames s t ++ arrows s t)
+unfoldable pub drawing : Names → List NodeTotals → Outline → List ℕ
+drawing s cs t = frame s cs t ++ (frames s cs t ++ arrows s cs t)
 
-abbrev pub outline_dot : Names → Bool → Outline → List ℕ
-outline_dot s total t = codes "digraph plan {\n  rankdir=BT;\n  labeljust=l;\n  node [shape=box];\n" ++ (drawing s t ++ ending s total t)
+-- the graph of a plan with the counts of each node, by the numbers of the nodes; with an empty list it has no counts
+abbrev pub outline_dot : Names → List NodeTotals → Bool → Outline → List ℕ
+outline_dot s cs total t = codes "digraph plan {\n  rankdir=BT;\n  labeljust=l;\n  node [shape=box];\n" ++ (drawing s cs t ++ ending s total t)
 
-abbrev pub plan_dot : TypedPlan → List ℕ
-plan_dot p = outline_dot (resolved_of p).names (resolved_of p).total (resolved_of p).root
+abbrev pub plan_dot : TypedPlan → List NodeTotals → List ℕ
+plan_dot p cs = outline_dot (resolved_of p).names cs (resolved_of p).total (resolved_of p).root

@@ -1,2 +1,4 @@
 pub mod Json
+pub mod Label
+pub mod Totals
 pub mod Dot

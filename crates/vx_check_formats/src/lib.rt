@@ -3,7 +3,10 @@
 
 mod dot;
 mod json;
+mod label;
+mod totals;
 mod words;
 
-pub use dot::explain_dot;
+pub use dot::{explain_dot, explain_dot_with};
 pub use json::{explain_json, op_word};
+pub use totals::NodeTotals;

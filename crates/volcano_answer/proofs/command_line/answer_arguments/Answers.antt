@@ -1,6 +1,6 @@
 use Rattle.std.proofs.Common.{◌≡◌, ◌∙◌, Some, None, option_map, sym, ap, map, subst}
 use Rattle.clap.specs.Values.{kind_of}
-use Rattle.volcano_arguments.specs.Asked.{Ask, asked_is, stats_by, faults_of}
+use Rattle.volcano_arguments.specs.Asked.{Ask, asked_is, stats_by, unknown_errors_by, faults_of}
 use Rattle.volcano_answer.specs.CommandLine.{with_program_name, AsksFor}
 use Rattle.volcano_answer.proofs.CommandLineFacts.{arguments_answer, clap_answer, clap_refused}
 use Rattle.volcano_answer.proofs.StatsTextFacts.{one_ask, help_no_stats, help_uncounted, request_refused}
@@ -26,8 +26,9 @@ returns-in-Ok-Some-clause-refused g c =
       asked = sym (rw (c.in-Ok-Some.field-0-is, all) at c.in-Ok-Some.ensures.asked);
     } in
     let word : option_map (λ s. s.now) c.in-Ok-Some.request.stats ≡ stats_by (with_program_name arguments) = rw (c.in-Ok-Some.field-0-is, all) at c.in-Ok-Some.ensures.stats in
+    let unknown : option_map (λ s. s.now) c.in-Ok-Some.request.unknown_errors ≡ unknown_errors_by (with_program_name arguments) = rw (c.in-Ok-Some.field-0-is, all) at c.in-Ok-Some.ensures.unknown_errors in
     request_refused (g.F.Store.holds c.args.files.now) (g.F.Store.is_reliable c.args.files.now) (g.I.ByteIn.remaining c.args.input.now) (g.I.ByteIn.has_failed c.answer_request.new.input) arguments (asked_is c.in-Ok-Some.request.asked)
-    (option_map (λ s. s.now) c.in-Ok-Some.request.stats) c.answer_request.result asked word c.answer_request.ensures.refused
+    (option_map (λ s. s.now) c.in-Ok-Some.request.stats) (option_map (λ s. s.now) c.in-Ok-Some.request.unknown_errors) c.answer_request.result asked word unknown c.answer_request.ensures.refused
 
 pub returns-clause-answer : goal.returns-clause-answer
 returns-clause-answer g c =

@@ -1,4 +1,4 @@
-use Rattle.std.proofs.Common.{arith, ◌∙◌, ◌++◌, ℕ, List, refl, sym, subst, inl, inr, map, string_bytes}
+use Rattle.std.proofs.Common.{arith, ◌≡◌, ◌∙◌, Some, ◌++◌, ℕ, List, refl, sym, subst, inl, inr, map, string_bytes}
 use Rattle.std.specs.Io.KnownBytes.{Appends}
 use Rattle.vx_catalog.specs.Csv.{csv_text}
 use Rattle.vx_wisconsin.specs.Wisconsin.{wisconsin, column_names}
@@ -8,15 +8,15 @@ use Rattle.volcano_stats.specs.Text.{write_end}
 use Rattle.volcano_stats.specs.declared.text.StatsForm.{StatsForm}
 use Rattle.volcano_answer.specs.Stats.{AreStatsOf}
 use Rattle.volcano_answer.specs.CommandLine.{AsksFor, for_what_is_asked, for_relation, for_ask, for_asked_relation, arguments_memory}
-use Rattle.volcano_refusals.specs.Status.{status_of}
-use Rattle.volcano_answer.proofs.CommandLineFacts.{stopped_refuses, three_stopped, four_stopped}
+use Rattle.volcano_answer.proofs.CommandLineFacts.{stopped_refuses}
+use Rattle.volcano_answer.proofs.LoadedFacts.{printed_answers, printed_stats, printed_stops, true_false}
 use Rattle.volcano_answer.proofs.Refusing.{has_status}
 use Rattle.volcano_answer.proofs.program.reply_to_arguments.Goals as goal
 
 pub returns-in-Ok-Text-clause-done : goal.returns-in-Ok-Text-clause-done
 returns-in-Ok-Text-clause-done g c zero =
     let answers = rw c.in-Ok-Text.field-0-is at c.in-Ok-Text.ensures.answer in
-    (c.in-Ok-Text.text.items, answers, c.deliver.ensures.done zero)
+    (c.in-Ok-Text.text.items, answers, rw c.as_slice.ensures.value at (c.write_answer.ensures.done zero))
 
 pub returns-in-Ok-Relation-clause-done : goal.returns-in-Ok-Relation-clause-done
 returns-in-Ok-Relation-clause-done g c zero =
@@ -48,37 +48,12 @@ pub returns-in-Err-Usage-clause-usage : goal.returns-in-Err-Usage-clause-usage
 returns-in-Err-Usage-clause-usage g c two = (rw c.in-Err-Usage.field-0-is at c.in-Err-Usage.ensures.refused, refl)
 
 pub returns-in-Ok-Text-clause-failed : goal.returns-in-Ok-Text-clause-failed
-returns-in-Ok-Text-clause-failed g c four = inl (c.deliver.ensures.failed (λ z. absurd (omega (arith, z, four)))).1
+returns-in-Ok-Text-clause-failed g c four = inl (c.write_answer.ensures.failed (λ z. absurd (omega (arith, z, four)))).1
 
 pub returns-in-Err-Refused-clause-failed : goal.returns-in-Err-Refused-clause-failed
 returns-in-Err-Refused-clause-failed g c four =
     let refused = rw c.in-Err-Refused.field-0-is at c.in-Err-Refused.ensures.refused in
     inr (c.in-Err-Refused.refusal, sym c.refuse_in_place.ensures ∙ four, refused)
-
-pub returns-in-Err-Stopped-clause-kept : goal.returns-in-Err-Stopped-clause-kept
-returns-in-Err-Stopped-clause-kept g c some whole =
-    let stopped = c.in-Err-Stopped.stopped in
-    let asks = rw c.in-Err-Stopped.field-0-is at c.in-Err-Stopped.ensures.refused in
-    let written = c.write_stopped.ensures.written whole in
-    inr (stopped.text.items, stopped.refusal, asks, written.0, written.1)
-
-pub returns-in-Err-Stopped-clause-refused : goal.returns-in-Err-Stopped-clause-refused
-returns-in-Err-Stopped-clause-refused g c three =
-    let stopped = c.in-Err-Stopped.stopped in
-    let asks = rw c.in-Err-Stopped.field-0-is at c.in-Err-Stopped.ensures.refused in
-    let refuses = stopped_refuses (g.F.Store.holds c.args.files.now) (g.F.Store.is_reliable c.args.files.now) (g.I.ByteIn.remaining c.args.input.now) (g.I.ByteIn.has_failed c.answer_arguments.new.input)
-    (map (λ a. a.now) c.args.arguments.now) stopped.text.items stopped.refusal asks in
-    let status = c.write_stopped.ensures.status in
-    inl (stopped.refusal, three_stopped _ c.write_stopped.result (status_of stopped.refusal) status three, refuses)
-
-pub returns-in-Err-Stopped-clause-failed : goal.returns-in-Err-Stopped-clause-failed
-returns-in-Err-Stopped-clause-failed g c four =
-    let stopped = c.in-Err-Stopped.stopped in
-    let asks = rw c.in-Err-Stopped.field-0-is at c.in-Err-Stopped.ensures.refused in
-    let refuses = stopped_refuses (g.F.Store.holds c.args.files.now) (g.F.Store.is_reliable c.args.files.now) (g.I.ByteIn.remaining c.args.input.now) (g.I.ByteIn.has_failed c.answer_arguments.new.input)
-    (map (λ a. a.now) c.args.arguments.now) stopped.text.items stopped.refusal asks in
-    let status = c.write_stopped.ensures.status in
-    four_stopped _ _ c.write_stopped.result (status_of stopped.refusal) (λ is. (stopped.refusal, is, refuses)) status four
 
 pub returns-in-Ok-Text-clause-stats : goal.returns-in-Ok-Text-clause-stats
 returns-in-Ok-Text-clause-stats g c = λ zero whole f ask asked run stats. absurd (rw c.in-Ok-Text.field-0-is at (c.in-Ok-Text.ensures.stats f ask asked run stats))
@@ -115,7 +90,71 @@ returns-in-Ok-Counted-clause-stats g c = λ zero whole f ask asked run stats.
     )
 
 pub returns-in-Ok-Counted-clause-no_stats : goal.returns-in-Ok-Counted-clause-no_stats
-returns-in-Ok-Counted-clause-no_stats g c = λ zero none. absurd (rw c.in-Ok-Counted.field-0-is at (c.in-Ok-Counted.ensures.no_stats none))
+returns-in-Ok-Counted-clause-no_stats g c = λ zero none plain. absurd (rw c.in-Ok-Counted.field-0-is at (c.in-Ok-Counted.ensures.no_stats none))
 
 pub returns-in-Err-Refused-clause-stats : goal.returns-in-Err-Refused-clause-stats
 returns-in-Err-Refused-clause-stats g c = λ zero whole f ask asked run stats. absurd (has_status c.in-Err-Refused.refusal (sym c.refuse_in_place.ensures ∙ zero))
+
+pub returns-in-Ok-Runs-clause-done : goal.returns-in-Ok-Runs-clause-done
+returns-in-Ok-Runs-clause-done g c = λ zero.
+    let asks = rw c.in-Ok-Runs.field-0-is at c.in-Ok-Runs.ensures.answer in
+    let w = c.write_runs.ensures.done zero in (
+      w.1.text,
+      printed_answers (g.R.Runs.counted c.args.services.now.engine.now) (g.F.Store.holds c.args.files.now) (g.I.ByteIn.remaining c.args.input.now) (map (λ a. a.now) c.args.arguments.now) c.in-Ok-Runs.loaded
+          w.1.text w.0 asks w.1.runs,
+      w.1.wrote,
+    )
+
+pub returns-in-Ok-Runs-clause-stats : goal.returns-in-Ok-Runs-clause-stats
+returns-in-Ok-Runs-clause-stats g c = λ zero whole f ask asked run stats.
+    let loaded = c.in-Ok-Runs.loaded in
+    let asks = rw c.in-Ok-Runs.field-0-is at c.in-Ok-Runs.ensures.answer in
+    let form : loaded.form ≡ Some f = rw c.in-Ok-Runs.field-0-is at (c.in-Ok-Runs.ensures.stats f ask asked run stats) in
+    let w = c.write_runs.ensures.stats zero whole f form in
+    let opening = w.0 ++ string_bytes loaded.common in
+    let reports = printed_stats (g.R.Runs.counted c.args.services.now.engine.now) (g.F.Store.holds c.args.files.now) (g.I.ByteIn.remaining c.args.input.now) f (map (λ a. a.now) c.args.arguments.now) loaded
+    w.2.text w.0 asks form w.2.runs in
+    (w.2.text, opening ++ write_end f w.1, record { opening = opening; reports = reports; time = w.1; is = refl }, w.2.wrote, w.3)
+
+pub returns-in-Ok-Runs-clause-no_stats : goal.returns-in-Ok-Runs-clause-no_stats
+returns-in-Ok-Runs-clause-no_stats g c = λ zero none plain. c.write_runs.ensures.no_stats zero (rw c.in-Ok-Runs.field-0-is at (c.in-Ok-Runs.ensures.no_stats none))
+
+pub returns-in-Ok-Runs-clause-kept : goal.returns-in-Ok-Runs-clause-kept
+returns-in-Ok-Runs-clause-kept g c = λ some whole.
+    let asks = rw c.in-Ok-Runs.field-0-is at c.in-Ok-Runs.ensures.answer in
+    elim (c.write_runs.ensures.stopped some) [
+      | inl h ↦ absurd (true_false _ h.1 whole)
+      | inr h ↦ inr (h.2.text, h.0, printed_stops (g.F.Store.holds c.args.files.now) (g.I.ByteIn.remaining c.args.input.now) (map (λ a. a.now) c.args.arguments.now) c.in-Ok-Runs.loaded h.2.text h.0 asks h.2.stops, h.1, h.2.wrote)
+    ]
+
+pub returns-in-Ok-Runs-clause-refused : goal.returns-in-Ok-Runs-clause-refused
+returns-in-Ok-Runs-clause-refused g c = λ three.
+    let files = g.F.Store.holds c.args.files.now in
+    let input = g.I.ByteIn.remaining c.args.input.now in
+    let arguments = map (λ a. a.now) c.args.arguments.now in
+    let asks = rw c.in-Ok-Runs.field-0-is at c.in-Ok-Runs.ensures.answer in
+    elim (c.write_runs.ensures.stopped (λ z. absurd (omega (arith, z, three)))) [
+      | inl h ↦ let four = h.0 in absurd (omega (arith, four, three))
+      | inr h ↦ inl (
+        h.0,
+        sym h.1 ∙ three,
+        stopped_refuses files (g.F.Store.is_reliable c.args.files.now) input (g.I.ByteIn.has_failed c.answer_arguments.new.input) arguments h.2.text h.0
+            (printed_stops files input arguments c.in-Ok-Runs.loaded h.2.text h.0 asks h.2.stops),
+      )
+    ]
+
+pub returns-in-Ok-Runs-clause-failed : goal.returns-in-Ok-Runs-clause-failed
+returns-in-Ok-Runs-clause-failed g c = λ four.
+    let files = g.F.Store.holds c.args.files.now in
+    let input = g.I.ByteIn.remaining c.args.input.now in
+    let arguments = map (λ a. a.now) c.args.arguments.now in
+    let asks = rw c.in-Ok-Runs.field-0-is at c.in-Ok-Runs.ensures.answer in
+    elim (c.write_runs.ensures.stopped (λ z. absurd (omega (arith, z, four)))) [
+      | inl h ↦ inl h.1
+      | inr h ↦ inr (
+        h.0,
+        sym h.1 ∙ four,
+        stopped_refuses files (g.F.Store.is_reliable c.args.files.now) input (g.I.ByteIn.has_failed c.answer_arguments.new.input) arguments h.2.text h.0
+            (printed_stops files input arguments c.in-Ok-Runs.loaded h.2.text h.0 asks h.2.stops),
+      )
+    ]

@@ -4,4 +4,4 @@ pub returns : goal.returns
 returns c =
     let format = c.with_option-command.ensures _ _ c.judging-command.ensures (c.format_option.ensures.rule, c.format_option.ensures.own) in
     let drawn = c.with_option-command-2.ensures _ _ format (c.drawn_option.ensures.rule, c.drawn_option.ensures.own) in
-    c.with_option.ensures _ _ drawn (c.verbose_option.ensures.rule, c.verbose_option.ensures.own)
+    c.with_reports.ensures _ drawn

@@ -11,5 +11,4 @@ returns c =
     let threads = c.with_option-command-7.ensures _ _ mode (c.threads_option.ensures.rule, c.threads_option.ensures.own) in
     let quiet = c.with_option-command-8.ensures _ _ threads (c.quiet_option.ensures.rule, c.quiet_option.ensures.own) in
     let stats = c.with_option-command-9.ensures _ _ quiet (c.stats_option.ensures.rule, c.stats_option.ensures.own) in
-    let verbose = c.with_option-command-10.ensures _ _ stats (c.verbose_option.ensures.rule, c.verbose_option.ensures.own) in
-    c.with_option.ensures _ _ verbose (c.sizes_argument.ensures.rule, c.sizes_argument.ensures.own)
+    c.with_option.ensures _ _ (c.with_reports-command.ensures _ stats) (c.sizes_argument.ensures.rule, c.sizes_argument.ensures.own)

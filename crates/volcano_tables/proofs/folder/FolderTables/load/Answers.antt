@@ -12,5 +12,5 @@ returns-in_err-load-clause-refused g c =
     let e = c.in_err-load.ensures in
     let p = err_from_is_err_and c.from_residual-in_err-load.result c.from_residual-in_err-load.ensures.1 in
     rw (p.1, p.2)
-    (lacks_read (g.F.In.ByteIn.has_failed c.load.new.reader) (g.F.In.ByteIn.remaining c.in_ok-file.file) files reliable folder relation c.in_err-load.field-0.0 c.in_ok-file.ensures.bytes
+    (lacks_read (g.F.In.ByteIn.has_failed c.load.new.reader) (g.F.In.ByteIn.remaining c.in_ok-file.file) files reliable folder relation c.in_err-load.field-0.0 c.in_ok-file.ensures.inside c.in_ok-file.ensures.bytes
     (λ is. e.reliable (c.in_ok-file.ensures.reliable is) c.in_ok-file.ensures.whole) e.known e.failed e.broken)

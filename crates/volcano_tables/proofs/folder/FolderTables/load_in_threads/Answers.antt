@@ -12,5 +12,5 @@ returns-in_err-load_in_threads-clause-refused g c =
     let e = c.in_err-load_in_threads.ensures in
     let p = err_from_is_err_and c.from_residual-in_err-load_in_threads.result c.from_residual-in_err-load_in_threads.ensures.1 in
     rw (p.1, p.2)
-    (lacks_read (g.F.In.ByteIn.has_failed c.load_in_threads.new.reader) (g.F.In.ByteIn.remaining c.in_ok-text.text) files reliable folder relation c.in_err-load_in_threads.field-0.0 c.in_ok-text.ensures.bytes
+    (lacks_read (g.F.In.ByteIn.has_failed c.load_in_threads.new.reader) (g.F.In.ByteIn.remaining c.in_ok-text.text) files reliable folder relation c.in_err-load_in_threads.field-0.0 c.in_ok-text.ensures.inside c.in_ok-text.ensures.bytes
     (λ is. e.reliable (c.in_ok-text.ensures.reliable is) c.in_ok-text.ensures.whole) e.known e.failed e.broken)

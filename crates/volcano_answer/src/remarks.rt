@@ -1,0 +1,68 @@
+//! What is said beside an answer.
+
+ghost use Rattle.std.specs.Prelude.{◌≡◌, map, false, None, IfOk};
+ghost use Rattle.volcano_arguments.specs.Asked.{asked_by};
+ghost use Rattle.volcano_answer.specs.CommandLine.{with_program_name};
+ghost use Rattle.volcano_answer.specs.Reports.{annotates, annotates_ask};
+ghost use Rattle.volcano_arguments.specs.Asked.{asked_is};
+
+use crate::command_line::with_program_name;
+use std::alloc::Global;
+use volcano_arguments::{Asked, asked_for};
+use volcano_locations::{PlaceFault, Replay, dropped_total};
+use vx_catalog_bytes::{ByteOut, Store, write_all};
+
+// The line that says why an annotated plan is not total though the plan said so, if it is to be annotated.
+fn remark_on<F: Store>(
+    alloc: Global,
+    files: &F,
+    input: Option<&[u8]>,
+    asked: &Asked<'_>,
+) -> Result<Option<String>, PlaceFault>
+    ensures { annotates_ask (asked_is asked.now) ≡ false → IfOk result (λ o. o ≡ None) }
+{
+    let Asked::Annotate(sources) = asked else {
+        return Ok(None);
+    };
+    match dropped_total(alloc, files, input, sources.catalog, sources.plan)? {
+        Some(why) => {
+            let line = format!(in alloc;
+                "volcano: \"total\" is left out, since the order of the root is not total: {why}\n"
+            )?;
+            Ok(Some(line))
+        }
+        None => Ok(None),
+    }
+}
+
+// The line beside the answer to arguments, if there is one.
+fn remark_of<F: Store>(
+    alloc: Global,
+    files: &F,
+    input: Option<&[u8]>,
+    arguments: &[&str],
+) -> Result<Option<String>, PlaceFault>
+    ensures { annotates (asked_by (with_program_name (map (λ a. a.now) arguments.now))) ≡ false → IfOk result (λ o. o ≡ None) }
+{
+    let arguments = with_program_name(alloc, arguments)?;
+    match asked_for(alloc, arguments.as_slice()) {
+        Ok(Some(request)) => remark_on(alloc, files, input, &request.asked),
+        _ => Ok(None),
+    }
+}
+
+/// Writes on `err` what is said beside the answer to arguments: where they ask for a plan with the claims that follow, whether the total
+/// order that the plan says is left out, and why. A write that fails changes nothing else.
+pub fn write_remark<F: Store, I: Replay, E: ByteOut>(
+    alloc: Global,
+    files: &F,
+    input: &I,
+    arguments: &[&str],
+    err: &mut E,
+)
+    ensures { annotates (asked_by (with_program_name (map (λ a. a.now) arguments.now))) ≡ false → err.new ≡ err.old }
+{
+    if let Ok(Some(line)) = remark_of(alloc, files, input.replay(), arguments) {
+        let _ = write_all(err, line.as_bytes());
+    }
+}

@@ -1,0 +1,4 @@
+pub mod BelowFacts
+pub mod CauseFacts
+pub mod OnceFacts
+pub mod ReportFacts

@@ -1,0 +1,5 @@
+pub mod Below
+pub mod Causes
+pub mod Grouped
+pub mod Once
+pub mod ReportView

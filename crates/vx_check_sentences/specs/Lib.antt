@@ -1,0 +1,4 @@
+pub mod Words
+pub mod Claimed
+pub mod Shown
+pub mod Explained

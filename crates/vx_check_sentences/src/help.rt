@@ -1,0 +1,316 @@
+//! What would help where the checker refuses a node. These texts are for people alone, and no clause says them.
+
+ghost use Rattle.vx_catalog_relations.specs.Catalog.{relation_at};
+ghost use Rattle.vx_plan_nodes.specs.Outline.{outline_of, plan_of};
+ghost use Rattle.vx_plan_nodes.specs.Outputs.{HasOutputs};
+ghost use Rattle.vx_plan_nodes.specs.TypedView.{names_in};
+ghost use Rattle.vx_check_rules.specs.Exactly.{KeysNameColumns};
+
+use crate::followed::missing;
+use crate::help_claims::{push_key_help, push_order_help, push_part_help};
+use crate::help_words::{push_json_list, push_json_part};
+use crate::words::{push_list, push_node};
+use std::alloc::{AllocError, Global};
+use vx_check::{column_names, push_between, push_name, push_size};
+use vx_check_failures::shown_claim;
+use vx_check_rules::{ColumnsSeen, Rule, gives};
+use vx_plan::first_columns;
+use vx_plan_nodes::{Binary, Claim, Name, Part, Size, TypedNode, TypedPlan, Unary};
+
+// ---- sizes
+
+// Adds an exchange that sends to this size.
+fn push_sender(text: &mut String, plan: &TypedPlan, size: Size) -> Result<(), AllocError> {
+    match size {
+        Size::One => text.push_str("a gather"),
+        Size::Group(_) => {
+            text.push_str("an exchange to the size ")?;
+            push_size(text, plan, size)
+        }
+    }
+}
+
+fn push_same_size(text: &mut String, plan: &TypedPlan, node: &TypedNode) -> Result<(), AllocError> {
+    let TypedNode::Binary(_, _, left, right) = node else {
+        return Ok(());
+    };
+    text.push_str("put ")?;
+    push_sender(text, plan, left.size())?;
+    text.push_str(" above ")?;
+    push_node(text, right)?;
+    text.push_str(", or ")?;
+    push_sender(text, plan, right.size())?;
+    text.push_str(" above ")?;
+    push_node(text, left)
+}
+
+fn push_gather(text: &mut String, node: &TypedNode) -> Result<(), AllocError> {
+    text.push_str("put a gather above it")?;
+    let order = node.head().claim.order.as_slice();
+    if order.is_empty() {
+        return Ok(());
+    }
+    text.push_str(", which keeps the order if it merges on ")?;
+    push_list(text, column_names(node), order)
+}
+
+// ---- which rows meet
+
+// Adds how rows meet that are equal in these columns.
+fn push_meeting(text: &mut String, names: &[Name], columns: &[usize]) -> Result<(), AllocError> {
+    if columns.is_empty() {
+        return text.push_str("put a gather below it");
+    }
+    text.push_str("put a hash exchange on ")?;
+    push_list(text, names, columns)?;
+    text.push_str(" below it, or a gather")
+}
+
+fn push_unary_meeting(
+    alloc: Global,
+    text: &mut String,
+    names: &[Name],
+    operator: &Unary,
+) -> Result<(), AllocError> {
+    match operator {
+        Unary::Distinct(kept) => {
+            let columns: Vec<usize> = kept.as_slice().iter().map(|k| k.column).collect(alloc)?;
+            push_meeting(text, names, columns.as_slice())
+        }
+        Unary::Group(_, by, _) => push_meeting(text, names, by.as_slice()),
+        Unary::Select(_) | Unary::Project(_) | Unary::Sort(_) => Ok(()),
+    }
+}
+
+// Adds how the rows of two inputs meet that match on these pairs.
+fn push_join_meeting(
+    text: &mut String,
+    lefts: &[Name],
+    rights: &[Name],
+    on: &[(usize, usize)],
+) -> Result<(), AllocError> {
+    text.push_str("route both sides by one hash on ")?;
+    for (i, pair) in on.iter().enumerate() {
+        push_between(text, " and ", i > 0)?;
+        push_name(text, lefts, pair.0)?;
+        text.push_str(" = ")?;
+        push_name(text, rights, pair.1)?;
+    }
+    text.push_str(", or broadcast one side")
+}
+
+// Adds how two inputs come to lie alike, of which the first has all rows at every worker.
+fn push_alike(text: &mut String, whole: &TypedNode, other: &TypedNode) -> Result<(), AllocError> {
+    text.push_str("scan shared, not whole, and broadcast nothing from ")?;
+    push_node(text, whole)?;
+    text.push_str(" down, or broadcast ")?;
+    push_node(text, other)?;
+    text.push_str(" too")
+}
+
+fn push_union_meeting(
+    text: &mut String,
+    left: &TypedNode,
+    right: &TypedNode,
+) -> Result<(), AllocError> {
+    match &left.head().claim.part {
+        Part::All => push_alike(text, left, right),
+        _ => push_alike(text, right, left),
+    }
+}
+
+fn push_binary_meeting(
+    text: &mut String,
+    operator: &Binary,
+    left: &TypedNode,
+    right: &TypedNode,
+) -> Result<(), AllocError> {
+    match operator {
+        Binary::Union => push_union_meeting(text, left, right),
+        Binary::HashJoin(on) | Binary::MergeJoin(on) => push_join_meeting(
+            text,
+            column_names(left),
+            column_names(right),
+            on.as_slice(),
+        ),
+    }
+}
+
+// Adds that a part which follows at an input is to be claimed there, unless it is.
+fn push_unclaimed(
+    alloc: Global,
+    text: &mut String,
+    plan: &TypedPlan,
+    input: &TypedNode,
+) -> Result<(), AllocError>
+    requires outputs { HasOutputs (relation_at (names_in plan.now).catalog) (outline_of input.now) }
+    requires keys { KeysNameColumns (relation_at (names_in plan.now).catalog) (plan_of input.now) }
+{
+    let Some(claim) = shown_claim(alloc, plan.catalog(), input)? else {
+        return Ok(());
+    };
+    if gives(&input.head().claim.part, &claim.part) {
+        return Ok(());
+    }
+    text.push_str("claim \"part\": ")?;
+    push_json_part(alloc, text, plan, column_names(input), &claim.part)?;
+    text.push_str(" at ")?;
+    push_node(text, input)?;
+    text.push_str(", where it follows; or ")
+}
+
+// Adds how rows meet that an operator needs at one worker.
+fn push_match(
+    alloc: Global,
+    text: &mut String,
+    plan: &TypedPlan,
+    node: &TypedNode,
+) -> Result<(), AllocError>
+    requires outputs { HasOutputs (relation_at (names_in plan.now).catalog) (outline_of node.now) }
+    requires keys { KeysNameColumns (relation_at (names_in plan.now).catalog) (plan_of node.now) }
+{
+    match node {
+        TypedNode::Unary(_, operator, input) => {
+            push_unclaimed(alloc, text, plan, input)?;
+            push_unary_meeting(alloc, text, column_names(input), operator)
+        }
+        TypedNode::Binary(_, operator, left, right) => {
+            push_unclaimed(alloc, text, plan, left)?;
+            push_unclaimed(alloc, text, plan, right)?;
+            push_binary_meeting(text, operator, left, right)
+        }
+        TypedNode::Scan(_, _) | TypedNode::Exchange(_, _, _) => Ok(()),
+    }
+}
+
+// Adds how each row is there once, where an exchange sends it on.
+fn push_once(text: &mut String, node: &TypedNode) -> Result<(), AllocError> {
+    let TypedNode::Exchange(_, _, input) = node else {
+        return Ok(());
+    };
+    match &input.head().claim.part {
+        Part::All => text.push_str("scan shared, not whole, and broadcast nothing from ")?,
+        _ => text.push_str("claim \"part\": \"any\" at ")?,
+    }
+    push_node(text, input)?;
+    match &input.head().claim.part {
+        Part::All => text.push_str(" down"),
+        _ => text.push_str(", if it holds there"),
+    }
+}
+
+// ---- orders
+
+// Adds how an input comes to have the order, unless it claims it already.
+fn push_sorted(
+    alloc: Global,
+    text: &mut String,
+    input: &TypedNode,
+    needed: &[usize],
+) -> Result<(), AllocError> {
+    let claimed = input.head().claim.order.as_slice();
+    if ColumnsSeen::Listed(needed).begin(claimed) {
+        return Ok(());
+    }
+    let is_later = !text.is_empty();
+    push_between(text, "; ", is_later)?;
+    text.push_str("claim \"order\": ")?;
+    push_json_list(alloc, text, column_names(input), needed)?;
+    text.push_str(" at ")?;
+    push_node(text, input)?;
+    text.push_str(match input {
+        TypedNode::Exchange(_, _, _) => " and let it merge on that, or sort above it",
+        _ => " if it holds there, or sort above it",
+    })
+}
+
+fn push_join_sorted(
+    alloc: Global,
+    text: &mut String,
+    left: &TypedNode,
+    right: &TypedNode,
+    on: &[(usize, usize)],
+) -> Result<(), AllocError> {
+    let lefts: Vec<usize> = on.iter().map(|pair| pair.0).collect(alloc)?;
+    let rights: Vec<usize> = on.iter().map(|pair| pair.1).collect(alloc)?;
+    push_sorted(alloc, text, left, lefts.as_slice())?;
+    push_sorted(alloc, text, right, rights.as_slice())
+}
+
+fn push_orders(alloc: Global, text: &mut String, node: &TypedNode) -> Result<(), AllocError> {
+    match node {
+        TypedNode::Binary(_, Binary::MergeJoin(on), left, right) => {
+            push_join_sorted(alloc, text, left, right, on.as_slice())
+        }
+        TypedNode::Exchange(_, exchange, input) => {
+            push_sorted(alloc, text, input, exchange.merge.as_slice())
+        }
+        _ => Ok(()),
+    }
+}
+
+// The order, with the columns behind it that it lacks of the first key, or of all columns where there is none.
+fn longer_order(alloc: Global, claim: &Claim, width: usize) -> Result<Vec<usize>, AllocError> {
+    let order = claim.order.as_slice();
+    let lacking = match claim.keys.first() {
+        Some(key) => missing(alloc, order, key.as_slice())?,
+        None => missing(alloc, order, first_columns(alloc, width)?.as_slice())?,
+    };
+    let mut longer = Vec::from_slice(alloc, order)?;
+    for column in lacking.as_slice() {
+        longer.push(*column)?;
+    }
+    Ok(longer)
+}
+
+fn push_total(alloc: Global, text: &mut String, node: &TypedNode) -> Result<(), AllocError> {
+    let names = column_names(node);
+    let longer = longer_order(alloc, &node.head().claim, names.len())?;
+    text.push_str("sort on ")?;
+    push_list(text, names, longer.as_slice())?;
+    text.push_str(
+        " and claim that order, claim a key whose columns are all in the order, or leave out \"total\"",
+    )
+}
+
+// ---- by the rule
+
+fn push_help(
+    alloc: Global,
+    text: &mut String,
+    plan: &TypedPlan,
+    node: &TypedNode,
+    rule: Rule,
+    claim: &Option<Claim>,
+) -> Result<(), AllocError>
+    requires outputs { HasOutputs (relation_at (names_in plan.now).catalog) (outline_of node.now) }
+    requires keys { KeysNameColumns (relation_at (names_in plan.now).catalog) (plan_of node.now) }
+{
+    match rule {
+        Rule::SizeMismatch => push_same_size(text, plan, node),
+        Rule::RootNotOne => push_gather(text, node),
+        Rule::PartNotShown => push_part_help(alloc, text, plan, node, claim),
+        Rule::InputsNotMatched => push_match(alloc, text, plan, node),
+        Rule::ReplicatedInput => push_once(text, node),
+        Rule::OrderNotShown => push_order_help(alloc, text, node, claim),
+        Rule::OrderNeeded => push_orders(alloc, text, node),
+        Rule::KeyNotShown => push_key_help(alloc, text, node, claim),
+        Rule::TotalNotShown => push_total(alloc, text, node),
+    }
+}
+
+/// What would help where the rule refuses the node, and this claim is shown there.
+pub fn help(
+    alloc: Global,
+    plan: &TypedPlan,
+    node: &TypedNode,
+    rule: Rule,
+    claim: &Option<Claim>,
+) -> Result<String, AllocError>
+    requires outputs { HasOutputs (relation_at (names_in plan.now).catalog) (outline_of node.now) }
+    requires keys { KeysNameColumns (relation_at (names_in plan.now).catalog) (plan_of node.now) }
+{
+    let mut text = String::new(alloc);
+    push_help(alloc, &mut text, plan, node, rule, claim)?;
+    Ok(text)
+}
