@@ -1,7 +1,7 @@
 //! Typed plans in a few words.
 
 use std::alloc::{AllocError, Global};
-use vx_plan_nodes::{Binary, Head, Phase, TypedNode, TypedPlan, Unary};
+use vx_plan_nodes::{Binary, Head, Phase, SortPhase, TypedNode, TypedPlan, Unary};
 use vx_rows_values::ColType;
 
 fn unary_name(unary: &Unary) -> &'static str {
@@ -9,7 +9,8 @@ fn unary_name(unary: &Unary) -> &'static str {
         Unary::Select(_) => "select",
         Unary::Project(_) => "project",
         Unary::Distinct(_) => "distinct",
-        Unary::Sort(_) => "sort",
+        Unary::Sort(SortPhase::Plain, _) => "sort",
+        Unary::Sort(SortPhase::Partial, _) => "partial-sort",
         Unary::Group(Phase::Plain, _, _) => "group",
         Unary::Group(Phase::Partial, _, _) => "partial-group",
         Unary::Group(Phase::Final, _, _) => "final-group",

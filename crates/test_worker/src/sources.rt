@@ -9,6 +9,7 @@ use std::alloc::{AllocError, Global};
 use test_tables::shown;
 use vx_exchange::Receiver;
 use vx_ops::{Code, Fault, Got, Polled, Sort, Source, Want};
+use vx_plan_nodes::SortPhase;
 use vx_ports::{Packet, StreamEnd};
 use vx_rows_values::ColType;
 use vx_rows_views::Rows;
@@ -147,7 +148,7 @@ pub fn sorted(alloc: Global, words: &str) -> Option<String> {
     let Ok(columns) = Vec::from_slice(alloc, &[0]) else {
         return None;
     };
-    let Ok(mut sort) = Sort::new(alloc, SORT_NODE, columns, &[ColType::Int]) else {
+    let Ok(mut sort) = Sort::new(alloc, SORT_NODE, SortPhase::Plain, columns, &[ColType::Int]) else {
         return None;
     };
     turns_of(alloc, &mut sort, words)

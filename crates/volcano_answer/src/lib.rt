@@ -29,5 +29,5 @@ mod usage;
 
 pub use laws::case_is_refused_by_setup;
 pub use pipe::Pipe;
-pub use program::{answer, deliver};
+pub use program::answer;
 pub use services::Services;

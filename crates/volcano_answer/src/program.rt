@@ -142,25 +142,6 @@ fn write_text<O: ByteOut + Pipe, E: ByteOut>(text: &[u8], out: &mut O, err: &mut
     }
 }
 
-/// Writes the text of finished work on `out`, or reports on `err` why there is none. The status is 0 if the text was
-/// written, and that of the refusal if not. Where nobody reads `out` any more, nothing is reported.
-pub fn deliver<O: ByteOut + Pipe, E: ByteOut>(
-    outcome: Result<Vec<u8>, Refusal>,
-    out: &mut O,
-    err: &mut E,
-) -> u8
-    ensures done { IfOk outcome (λ text. result ≡ 0 → Appends (O.contents out.old) (O.contents out.new) text.items) }
-    ensures failed { IfOk outcome (λ _. result ≢ 0 → (result ≡ 4) × (O.has_failed out.new ≡ true)) }
-    ensures refused { IfErr outcome (λ e. (result ≡ status_of e) × (out.new ≡ out.old)) }
-    ensures quiet { result ≡ 0 → err.new ≡ err.old }
-    ensures silent { IfOk outcome (λ _. result ≢ 0 → O.closed out.new ≡ true → err.new ≡ err.old) }
-{
-    match outcome {
-        Ok(text) => write_text(text.as_slice(), out, err),
-        Err(refusal) => refuse(&refusal, err),
-    }
-}
-
 // Delivers what answers a bundle that came without arguments. Below a refusal `err` gets where it was found, if a person reads it.
 fn deliver_bundle<
     T: Threads + Wait + Sync,
@@ -420,7 +401,7 @@ fn reply_to_arguments<
 /// the run failed. All work ends before the first byte goes to `out`, but in two cases: the text of a relation is written as it is made,
 /// once all memory for it is there; and of several plans each answer is written once it is made, after all plans were checked and all
 /// tables loaded, so `out` gets the answers before the first plan that is refused. A refusal is
-/// one line on `err`, below which another says where it was found, if the arguments ask for it. A write of them that fails changes
+/// one line on `err`, below which others say where it was found, if the arguments or a terminal ask for it. A write of them that fails changes
 /// nothing else. Where nobody reads `out` any more, that is no line.
 ///
 /// Where the arguments ask for the statistics of runs, `err` gets those of the runs whose rows `out` got; where they ask for none,

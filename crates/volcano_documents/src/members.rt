@@ -126,6 +126,7 @@ pub const KEPT: &[Member] = &[
 
 pub const SORT: &[Member] = &[
     member!("op", Shape::Word(Words::Operators)),
+    maybe!("phase", Shape::Word(Words::SortPhases)),
     member!("columns", Shape::SomeNames),
     maybe!("claim", Shape::Claim),
     member!("input", Shape::Node),

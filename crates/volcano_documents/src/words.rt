@@ -14,6 +14,7 @@ pub enum Words {
     ScanModes,
     Tests,
     Methods,
+    SortPhases,
     Phases,
     Functions,
     Kinds,
@@ -37,6 +38,8 @@ const TESTS: &[&str] = &["=", "<>", "<", "<=", ">", ">="];
 
 const METHODS: &[&str] = &["hash", "merge"];
 
+const SORT_PHASES: &[&str] = &["partial"];
+
 const PHASES: &[&str] = &["partial", "final"];
 
 const FUNCTIONS: &[&str] = &["min", "max", "sum", "count"];
@@ -56,6 +59,7 @@ pub fn words_of(words: Words) -> &'static [&'static str]
         Words::ScanModes => SCAN_MODES,
         Words::Tests => TESTS,
         Words::Methods => METHODS,
+        Words::SortPhases => SORT_PHASES,
         Words::Phases => PHASES,
         Words::Functions => FUNCTIONS,
         Words::Kinds => KINDS,

@@ -79,11 +79,13 @@ Example: a join of two inputs of 40 columns each.
 "#;
 
 const P13: &str = r#"P13 PhaseMismatch node=2
-What happened: a final group whose first node below that is not an exchange is no partial group, or a partial
-group from which exchanges alone do not lead up to a final group.
-Usual cause, and cure: write the two as a pair; what stands between them moves above the final or below the
-partial. At its node it is tested before all else.
-Example: a final group over a sort over its partial group.
+What happened: a final group whose first node below that is neither an exchange nor a sort with "phase":
+"partial" is no partial group, or such a sort is on a column that the group is not by; a partial group from
+which these alone do not lead up to a final group; or such a sort anywhere else.
+Usual cause, and cure: write the two as a pair, and a sort between them with "phase": "partial", on columns of
+"by"; what else stands between them moves above the final or below the partial. At its node it is tested
+before all else.
+Example: a final group over a sort without "phase" over its partial group.
 "#;
 
 /// The entry of a code of plans.

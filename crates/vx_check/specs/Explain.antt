@@ -107,7 +107,7 @@ abbrev pub unary_text : List Name → List Name → List Bool → Unary → List
 unary_text inputs outputs renamed (select cs) = codes "select " ++ separated (codes " and ") false (map (condition_text inputs) cs)
 unary_text inputs outputs renamed (project cols) = codes "project [" ++ (separated (codes ",") false (kept_texts inputs outputs 0 cols renamed) ++ codes "]")
 unary_text inputs outputs renamed (distinct cols) = codes "distinct [" ++ (separated (codes ",") false (kept_texts inputs outputs 0 cols renamed) ++ codes "]")
-unary_text inputs outputs renamed (sort cols) = codes "sort " ++ list_text inputs cols
+unary_text inputs outputs renamed (sort of_parts cols) = cond of_parts (codes "partial-sort ") (codes "sort ") ++ list_text inputs cols
 unary_text inputs outputs renamed (group phase by aggregates) = grouping_text inputs outputs phase by aggregates
 
 -- ---- operators over two inputs, and exchanges

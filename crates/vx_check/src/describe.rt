@@ -12,7 +12,7 @@ use itoa::Buffer;
 use std::alloc::{AllocError, Global};
 use vx_plan_nodes::{
     Aggregate, Binary, Condition, Exchange, ExchangeKind, Name, Phase, Projected, ScanNode, Side,
-    TypedNode, TypedPlan, Unary,
+    SortPhase, TypedNode, TypedPlan, Unary,
 };
 use vx_rows_values::Value;
 
@@ -221,8 +221,12 @@ fn push_unary(
         }
         Unary::Project(kept) => push_kept(text, "project [", inputs, outputs, kept.as_slice()),
         Unary::Distinct(kept) => push_kept(text, "distinct [", inputs, outputs, kept.as_slice()),
-        Unary::Sort(columns) => {
+        Unary::Sort(SortPhase::Plain, columns) => {
             text.push_str("sort ")?;
+            push_list(text, inputs, columns.as_slice())
+        }
+        Unary::Sort(SortPhase::Partial, columns) => {
+            text.push_str("partial-sort ")?;
             push_list(text, inputs, columns.as_slice())
         }
         Unary::Group(phase, by, aggregates) => push_grouping(

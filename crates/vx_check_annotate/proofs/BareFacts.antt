@@ -1,12 +1,12 @@
 -- Typed plans without claims.
-use Rattle.std.proofs.Common.{◌≡◌, ℕ, nat_lt, nat_le, List, [], length, Bool, true, not, ◌&&◌, refl, sym, ap, ◌∙◌, subst}
+use Rattle.std.proofs.Common.{◌≡◌, ℕ, nat_lt, nat_le, List, [], length, Bool, true, false, not, ◌&&◌, refl, sym, ap, ◌∙◌, subst}
 use Rattle.vx_rows_values.specs.declared.value.ColType.{ColType}
 use Rattle.vx_rows_values.proofs.Booleans.{and-left, and-right, and-both}
 use Rattle.vx_catalog_relations.specs.Relation.{Relation}
 use Rattle.vx_catalog_relations.specs.Catalog.{relation_at}
 use Rattle.vx_plan_nodes.specs.Plan.{any, Claim, Aggregate, select, project, distinct, sort, group, plain, partial, final, Unary, Plan, scan, unary, binary, exchange}
 use Rattle.vx_plan_nodes.specs.Types.{types_of, unary_types, binary_types}
-use Rattle.vx_plan_nodes.specs.Phases.{is_open, opens, phase_fits, both_closed}
+use Rattle.vx_plan_nodes.specs.Phases.{unary_open, is_open, unary_opens, opens, phase_fits, both_closed}
 use Rattle.vx_plan_nodes.specs.Typed.{Scope, are_columns, is_size, is_unary, is_binary, is_kind, may_merge, is_claim, is_output, typed}
 use Rattle.vx_plan_nodes.specs.Outline.{Outline, plan_in}
 use Rattle.vx_plan_nodes.specs.Outline as outline
@@ -33,13 +33,13 @@ types-bare catalog (exchange n c k m p) = types-bare catalog p
 
 open-bare : (p : Plan) → is_open (bare p) ≡ is_open p
 open-bare (scan n c r m z) = refl
-open-bare (unary n c op p) = refl
+open-bare (unary n c op p) = ap (unary_open op) (open-bare p)
 open-bare (binary n c op p q) = refl
 open-bare (exchange n c k m p) = open-bare p
 
 opens-bare : (keys : List ℕ) (puts : List Aggregate) (p : Plan) → opens keys puts (bare p) ≡ opens keys puts p
 opens-bare keys puts (scan n c r m z) = refl
-opens-bare keys puts (unary n c op p) = refl
+opens-bare keys puts (unary n c op p) = ap (unary_opens keys puts op) (opens-bare keys puts p)
 opens-bare keys puts (binary n c op p q) = refl
 opens-bare keys puts (exchange n c k m p) = opens-bare keys puts p
 
@@ -47,7 +47,8 @@ fits-bare : (op : Unary) (p : Plan) → phase_fits op (bare p) ≡ phase_fits op
 fits-bare (select cs) p = ap not (open-bare p)
 fits-bare (project cols) p = ap not (open-bare p)
 fits-bare (distinct cols) p = ap not (open-bare p)
-fits-bare (sort cols) p = ap not (open-bare p)
+fits-bare (sort false cols) p = ap not (open-bare p)
+fits-bare (sort true cols) p = open-bare p
 fits-bare (group plain by aggregates) p = ap not (open-bare p)
 fits-bare (group partial by aggregates) p = ap not (open-bare p)
 fits-bare (group final by aggregates) p = opens-bare by aggregates p

@@ -1,14 +1,14 @@
 -- Typed plans and documents with the claims of others.
-use Rattle.std.proofs.Common.{◌≡◌, ℕ, suc, ◌+◌, ◌==◌, List, [], ◌∷◌, ◌++◌, drop, length, Bool, false, ◌&&◌, refl, sym, ap, ◌∙◌, subst}
+use Rattle.std.proofs.Common.{◌≡◌, ℕ, suc, ◌+◌, ◌==◌, List, [], ◌++◌, drop, length, Bool, false, ◌&&◌, refl, sym, ap, ◌∙◌, subst}
 use Rattle.std.proofs.Math.Seq.{drop-append_seam, drop-nil}
-use Rattle.std.proofs.lemmas.List.{append_assoc, length-append, drop-drop}
+use Rattle.std.proofs.lemmas.List.{append_assoc, length-append}
 use Rattle.vx_rows_values.specs.declared.value.ColType.{ColType}
 use Rattle.vx_catalog_relations.specs.Relation.{Relation}
 use Rattle.vx_plan_nodes.specs.Plan.{Plan}
 use Rattle.vx_plan_nodes.specs.Plan as plan
 use Rattle.vx_plan_nodes.specs.Types.{types_of, unary_types, binary_types}
 use Rattle.vx_plan_nodes.specs.Numbering.{nodes, is_numbered}
-use Rattle.vx_plan_nodes.specs.Phases.{is_open}
+use Rattle.vx_plan_nodes.specs.Phases.{unary_open, is_open}
 use Rattle.vx_plan_nodes.specs.Outline.{Columns, Outline, scan, unary, binary, exchange, columns, plan_in}
 use Rattle.vx_plan_nodes.specs.Outputs.{IsOutputOf, HasOutputs}
 use Rattle.vx_plan_nodes.specs.Names.{Names}
@@ -68,7 +68,7 @@ numbered-claimed i q o = refl
 
 pub open-claimed : (q : Plan) (o : Outline) → is_open (plan_in (with_claims q o)) ≡ is_open (plan_in o)
 open-claimed (plan.scan n c r m z) (scan h relation shared size prefix) = refl
-open-claimed (plan.unary n c op p) (unary h operator renamed t) = refl
+open-claimed (plan.unary n c op p) (unary h operator renamed t) = ap (unary_open operator) (open-claimed p t)
 open-claimed (plan.binary n c op p q) (binary h operator t u) = refl
 open-claimed (plan.exchange n c k m p) (exchange h kind merge t) = open-claimed p t
 open-claimed q o = refl

@@ -157,7 +157,7 @@ unary-some names output types (plan.project cols) renamed h n l f =
     kept-some names cols renamed output n (and-right (is_some_list (kept_by_name names cols renamed output)) (list_all is_output_form (kept_by_name names cols renamed output)) f)
 unary-some names output types (plan.distinct cols) renamed h n l f =
     kept-some names cols renamed output n (and-right (is_some_list (kept_by_name names cols renamed output)) (list_all is_output_form (kept_by_name names cols renamed output)) f)
-unary-some names output types (plan.sort cols) renamed h n l f = ap are_names n.1 ∙ h
+unary-some names output types (plan.sort of_parts cols) renamed h n l f = ap are_names n.1 ∙ h
 unary-some names output types (plan.group plan.plain by aggregates) renamed h n l f = group-some names output by aggregates types n.1 l
     (and-right (is_some_list (names_at names by) || is_some_list (aggregates_by_name names aggregates (drop (length by) output))) (are_names (names_at names by) && list_all is_aggregate_form (aggregates_by_name names aggregates (drop (length by) output))) f)
 unary-some names output types (plan.group plan.partial by aggregates) renamed h n l f = group-some names output by aggregates types n.1 l

@@ -71,7 +71,7 @@ abbrev pub unary_word : Unary → List ℕ
 unary_word (select cs) = codes "select"
 unary_word (project cols) = codes "project"
 unary_word (distinct cols) = codes "distinct"
-unary_word (sort cols) = codes "sort"
+unary_word (sort of_parts cols) = cond of_parts (codes "partial-sort") (codes "sort")
 unary_word (group phase by aggregates) = phase_word phase
 
 abbrev pub binary_word : Binary → List ℕ

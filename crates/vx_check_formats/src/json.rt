@@ -17,8 +17,8 @@ use std::alloc::{AllocError, Global};
 use vx_check::{column_names, description, name_at, push_name};
 use vx_check_rules::CheckedPlan;
 use vx_plan_nodes::{
-    Binary, Claim, Columns, Exchange, ExchangeKind, Name, Part, Phase, Route, Size, TypedNode,
-    TypedPlan, Unary,
+    Binary, Claim, Columns, Exchange, ExchangeKind, Name, Part, Phase, Route, Size, SortPhase,
+    TypedNode, TypedPlan, Unary,
 };
 use vx_rows_values::ColType;
 
@@ -193,7 +193,8 @@ fn unary_word(operator: &Unary) -> &'static str
         Unary::Select(_) => "select",
         Unary::Project(_) => "project",
         Unary::Distinct(_) => "distinct",
-        Unary::Sort(_) => "sort",
+        Unary::Sort(SortPhase::Plain, _) => "sort",
+        Unary::Sort(SortPhase::Partial, _) => "partial-sort",
         Unary::Group(phase, _, _) => phase_word(*phase),
     }
 }

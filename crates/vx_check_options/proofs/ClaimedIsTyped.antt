@@ -1,5 +1,5 @@
 -- Claims with the keys that are found are typed.
-use Rattle.std.proofs.Common.{◌≡◌, ℕ, nat_lt, nat_le, Bool, true, not, ◌&&◌, List, [], length, refl, sym, ap, ◌∙◌}
+use Rattle.std.proofs.Common.{◌≡◌, ℕ, nat_lt, nat_le, Bool, true, false, not, ◌&&◌, List, [], length, refl, sym, ap, ◌∙◌}
 use Rattle.std.specs.List.{list_all}
 use Rattle.vx_rows_values.specs.declared.value.ColType.{ColType}
 use Rattle.vx_catalog_relations.specs.Relation.{Relation}
@@ -7,7 +7,7 @@ use Rattle.vx_catalog_relations.specs.Catalog.{relation_at}
 use Rattle.vx_plan_nodes.specs.Plan.{Part, any, Aggregate, Claim, Unary, select, project, distinct, sort, group, plain, partial, final, Plan, scan, unary, binary, exchange}
 use Rattle.vx_plan_nodes.specs.Types.{unary_types, binary_types, types_of}
 use Rattle.vx_plan_nodes.specs.Typed.{Scope, are_columns, is_size, is_part, is_unary, is_binary, is_kind, may_merge, is_output, typed}
-use Rattle.vx_plan_nodes.specs.Phases.{is_open, opens, phase_fits, both_closed}
+use Rattle.vx_plan_nodes.specs.Phases.{unary_open, is_open, unary_opens, opens, phase_fits, both_closed}
 use Rattle.vx_check_rules.proofs.WidthFacts.{types_of-width}
 use Rattle.vx_check_options.specs.Placed.{keyless, bare}
 use Rattle.vx_check_options.specs.Laws.{AtEach}
@@ -28,14 +28,14 @@ types-without catalog (exchange n c k m p) = types-without catalog p
 -- that no partial is left open
 open-without : (p : Plan) → is_open (without_keys p) ≡ is_open p
 open-without (scan n c r m z) = refl
-open-without (unary n c op p) = refl
+open-without (unary n c op p) = ap (unary_open op) (open-without p)
 open-without (binary n c op p q) = refl
 open-without (exchange n c k m p) = open-without p
 
 -- that a final has its partial
 opens-without : (keys : List ℕ) (aggregates : List Aggregate) (p : Plan) → opens keys aggregates (without_keys p) ≡ opens keys aggregates p
 opens-without keys aggregates (scan n c r m z) = refl
-opens-without keys aggregates (unary n c op p) = refl
+opens-without keys aggregates (unary n c op p) = ap (unary_opens keys aggregates op) (opens-without keys aggregates p)
 opens-without keys aggregates (binary n c op p q) = refl
 opens-without keys aggregates (exchange n c k m p) = opens-without keys aggregates p
 
@@ -44,7 +44,8 @@ fits-without : (op : Unary) (p : Plan) → phase_fits op (without_keys p) ≡ ph
 fits-without (select cs) p = ap not (open-without p)
 fits-without (project cols) p = ap not (open-without p)
 fits-without (distinct cols) p = ap not (open-without p)
-fits-without (sort cols) p = ap not (open-without p)
+fits-without (sort false cols) p = ap not (open-without p)
+fits-without (sort true cols) p = open-without p
 fits-without (group plain by aggregates) p = ap not (open-without p)
 fits-without (group partial by aggregates) p = ap not (open-without p)
 fits-without (group final by aggregates) p = opens-without by aggregates p

@@ -97,7 +97,7 @@ op-finds : (op : Unary) → Finds (described op).copying
 op-finds (select cs) = whole-finds
 op-finds (project cols) = kept-finds cols
 op-finds (distinct cols) = kept-finds cols
-op-finds (sort cols) = whole-finds
+op-finds (sort of_parts cols) = whole-finds
 op-finds (group plain by aggregates) = kept-finds by
 op-finds (group partial by aggregates) = kept-finds by
 op-finds (group final by aggregates) = kept-finds by

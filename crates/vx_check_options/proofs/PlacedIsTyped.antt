@@ -1,5 +1,5 @@
 -- What is placed is typed.
-use Rattle.std.proofs.Common.{◌≡◌, ℕ, nat_lt, nat_le, Bool, true, not, ◌&&◌, List, [], length, refl, sym, ap, ◌∙◌}
+use Rattle.std.proofs.Common.{◌≡◌, ℕ, nat_lt, nat_le, Bool, true, false, not, ◌&&◌, List, [], length, refl, sym, ap, ◌∙◌}
 use Rattle.vx_rows_values.specs.declared.value.ColType.{ColType}
 use Rattle.vx_rows_values.proofs.Booleans.{and-left, and-right, and-both}
 use Rattle.vx_catalog_relations.specs.Relation.{Relation}
@@ -8,7 +8,7 @@ use Rattle.vx_plan_nodes.specs.Plan.{Part, Aggregate, Claim, Unary, select, proj
 use Rattle.vx_plan_nodes.specs.Describe.{whole_rows, described}
 use Rattle.vx_plan_nodes.specs.Types.{unary_types, binary_types, types_of}
 use Rattle.vx_plan_nodes.specs.Typed.{Scope, are_columns, is_size, is_part, is_claim, is_unary, is_binary, is_kind, may_merge, is_output, typed}
-use Rattle.vx_plan_nodes.specs.Phases.{is_open, opens, phase_fits, both_closed}
+use Rattle.vx_plan_nodes.specs.Phases.{unary_open, is_open, unary_opens, opens, phase_fits, both_closed}
 use Rattle.vx_check_options.specs.Options.{OrderChoices, no_input, parts_at, places_over, places_at}
 use Rattle.vx_check_options.specs.Placed.{order_along, order_below, left_order, right_order, order_sent, parts_below, part_sent, is_chosen, keyless, placed}
 use Rattle.vx_check_options.specs.Laws.{is_option}
@@ -32,14 +32,14 @@ types-placed catalog (exchange n c k m p) q order = types-placed catalog p _ _
 -- that no partial is left open
 open-placed : (catalog : ℕ → Relation) (p : Plan) (q : Part) (order : List ℕ) → is_open (placed catalog p q order) ≡ is_open p
 open-placed catalog (scan n c r m z) q order = refl
-open-placed catalog (unary n c op p) q order = refl
+open-placed catalog (unary n c op p) q order = ap (unary_open op) (open-placed catalog p _ _)
 open-placed catalog (binary n c op p p2) q order = refl
 open-placed catalog (exchange n c k m p) q order = open-placed catalog p _ _
 
 -- that a final has its partial
 opens-placed : (keys : List ℕ) (aggregates : List Aggregate) (catalog : ℕ → Relation) (p : Plan) (q : Part) (order : List ℕ) → opens keys aggregates (placed catalog p q order) ≡ opens keys aggregates p
 opens-placed keys aggregates catalog (scan n c r m z) q order = refl
-opens-placed keys aggregates catalog (unary n c op p) q order = refl
+opens-placed keys aggregates catalog (unary n c op p) q order = ap (unary_opens keys aggregates op) (opens-placed keys aggregates catalog p _ _)
 opens-placed keys aggregates catalog (binary n c op p p2) q order = refl
 opens-placed keys aggregates catalog (exchange n c k m p) q order = opens-placed keys aggregates catalog p _ _
 
@@ -48,7 +48,8 @@ fits-placed : (op : Unary) (catalog : ℕ → Relation) (p : Plan) (q : Part) (o
 fits-placed (select cs) catalog p q order = ap not (open-placed catalog p q order)
 fits-placed (project cols) catalog p q order = ap not (open-placed catalog p q order)
 fits-placed (distinct cols) catalog p q order = ap not (open-placed catalog p q order)
-fits-placed (sort cols) catalog p q order = ap not (open-placed catalog p q order)
+fits-placed (sort false cols) catalog p q order = ap not (open-placed catalog p q order)
+fits-placed (sort true cols) catalog p q order = open-placed catalog p q order
 fits-placed (group plain by aggregates) catalog p q order = ap not (open-placed catalog p q order)
 fits-placed (group partial by aggregates) catalog p q order = ap not (open-placed catalog p q order)
 fits-placed (group final by aggregates) catalog p q order = opens-placed by aggregates catalog p q order

@@ -226,7 +226,7 @@ along-longest k (d ∷ ds) places below some h l = by (source k d) (sources k ds
 -- an operator over one input has a copy among its copies
 unary-copies : (op : Unary) (c d : ℕ) → source (described op).copying d ≡ Some c → is_some_list (copies (described op).copying c) ≡ true
 unary-copies (select cs) c d h = refl
-unary-copies (sort cols) c d h = refl
+unary-copies (sort of_parts cols) c d h = refl
 unary-copies (project cols) c d h = place-some 0 cols c d h
 unary-copies (distinct cols) c d h = place-some 0 cols c d h
 unary-copies (group plain by aggregates) c d h = place-some 0 by c d h

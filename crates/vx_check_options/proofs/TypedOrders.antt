@@ -49,7 +49,7 @@ pub unary-order-typed : (op : Unary) (ts : List ColType) (order : List ℕ) (pla
 unary-order-typed (select cs) ts order places o h c = copies-typed whole_rows ts ts order places (unary-types (select cs) ts) h c
 unary-order-typed (project cols) ts order places o h c = copies-typed (columns_kept cols) ts (unary_types (project cols) ts) order places (unary-types (project cols) ts) h c
 unary-order-typed (distinct cols) ts order places o h c = copies-typed (columns_kept cols) ts (unary_types (distinct cols) ts) order places (unary-types (distinct cols) ts) h c
-unary-order-typed (sort cols) ts order places o h c =
+unary-order-typed (sort of_parts cols) ts order places o h c =
     copies-typed whole_rows ts ts order (singles cols) (whole-types ts) h
     (singles-typed ts (order_along whole_rows order (singles cols)) cols
     (chosen-front (order_along whole_rows order (singles cols)) (singles cols) (along-chosen whole_rows order (singles cols) (singles-filled cols)))

@@ -106,7 +106,7 @@ pub unary-types : (op : Unary) (ts : List ColType) → KeepsTypes (described op)
 unary-types (select cs) ts = whole-types ts
 unary-types (project cols) ts = kept-alone cols ts
 unary-types (distinct cols) ts = kept-alone cols ts
-unary-types (sort cols) ts = whole-types ts
+unary-types (sort of_parts cols) ts = whole-types ts
 unary-types (group plain by aggregates) ts = kept-types by ts (map (aggregate_type ts) aggregates)
 unary-types (group partial by aggregates) ts = kept-types by ts (map (aggregate_type ts) aggregates)
 unary-types (group final by aggregates) ts = kept-types by ts (map (aggregate_type ts) aggregates)

@@ -76,7 +76,7 @@ apart-without : (op : Unary) (p : Plan) → keeps_apart op (without_keys p) ≡ 
 apart-without (select cs) p = refl
 apart-without (project cols) p = refl
 apart-without (distinct cols) p = rw (size-without p, part-without p) refl
-apart-without (sort cols) p = refl
+apart-without (sort of_parts cols) p = refl
 apart-without (group plain by aggregates) p = rw (size-without p, part-without p) refl
 apart-without (group partial by aggregates) p = refl
 apart-without (group final by aggregates) p = rw (size-without p, part-without p) refl
@@ -121,7 +121,7 @@ unary-without : (op : Unary) (p : Plan) (q : Part) → unary_shows op (without_k
 unary-without (select cs) p q = has-without p q
 unary-without (project cols) p q = through-same (has (without_keys p)) (has p) (copied cols) q (has-without p)
 unary-without (distinct cols) p q = through-same (has (without_keys p)) (has p) (copied cols) q (has-without p)
-unary-without (sort cols) p q = has-without p q
+unary-without (sort of_parts cols) p q = has-without p q
 unary-without (group phase by aggregates) p q = through-same (has (without_keys p)) (has p) (copied by) q (has-without p)
 
 have-without : (p q : Plan) (x : Part) → both_have (without_keys p) (without_keys q) x ≡ both_have p q x

@@ -217,7 +217,8 @@ distinct-first n =
 
 unary-keys-carried : (op : Unary) (catalog : ℕ → Relation) (n : ℕ) (c : Claim) (p : Plan) → list_all (keys_of catalog (unary n c op p)) (node_keys catalog (unary n c op p)) ≡ true
 unary-keys-carried (select cs) catalog n c p = by-exact catalog (unary n c (select cs) p) (key-whole (claim p).keys)
-unary-keys-carried (sort cols) catalog n c p = by-exact catalog (unary n c (sort cols) p) (key-whole (claim p).keys)
+unary-keys-carried (sort false cols) catalog n c p = by-exact catalog (unary n c (sort false cols) p) (key-whole (claim p).keys)
+unary-keys-carried (sort true cols) catalog n c p = refl
 unary-keys-carried (project cols) catalog n c p = one-list (λ x. if_some (copied cols x) (covers (claim p).keys)) (kept_keys (columns_kept cols) (claim p).keys) (projected cols (claim p).keys)
 unary-keys-carried (distinct cols) catalog n c p = distinct-first (length cols)
 unary-keys-carried (group plain by aggregates) catalog n c p = by-exact catalog (unary n c (group plain by aggregates) p) (key-first (length by))

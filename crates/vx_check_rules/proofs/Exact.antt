@@ -57,7 +57,7 @@ order-kept cols below order =
 unary-orders : (op : Unary) (catalog : ℕ → Relation) (n : ℕ) (c : Claim) (p : Plan) (order : List ℕ)
     → orders catalog (unary n c op p) order ≡ shown_order (behaviour catalog (unary n c op p)) order
 unary-orders (select cs) catalog n c p order = order-whole (claim p).order order
-unary-orders (sort cols) catalog n c p order = order-whole cols order
+unary-orders (sort of_parts cols) catalog n c p order = order-whole cols order
 unary-orders (project cols) catalog n c p order = order-kept cols (claim p).order order
 unary-orders (distinct cols) catalog n c p order = order-kept cols (claim p).order order
 unary-orders (group plain by aggregates) catalog n c p order = order-kept by (claim p).order order
@@ -136,7 +136,7 @@ if-there a b w q had e is = rw e (here a w q had is)
 unary-parts : (op : Unary) (p : Plan) (q : Part) → (is_one (size p) || keeps_apart op p) ≡ true
     → (is_one (size p) || unless_one (unary_shows op p) q) ≡ (is_one (size p) || shown_part (over (described op) p) q)
 unary-parts (select cs) p q e = here (is_one (size p)) (way whole_rows (own p ∷ [])) q (unless_one (has p) q) (gives-whole (own p ∷ []) (has p) (each-own p) q)
-unary-parts (sort cols) p q e = here (is_one (size p)) (way whole_rows (own p ∷ [])) q (unless_one (has p) q) (gives-whole (own p ∷ []) (has p) (each-own p) q)
+unary-parts (sort of_parts cols) p q e = here (is_one (size p)) (way whole_rows (own p ∷ [])) q (unless_one (has p) q) (gives-whole (own p ∷ []) (has p) (each-own p) q)
 unary-parts (project cols) p q e = here (is_one (size p)) (way (columns_kept cols) (own p ∷ [])) q (unless_one (through (has p) (copied cols)) q) (own-kept cols p q)
 unary-parts (distinct cols) p q e =
     if-there (is_one (size p)) (is_one (size p) || (has p all || routed_within (claim p).part cols)) (way (columns_kept cols) (own p ∷ [])) q (unless_one (through (has p) (copied cols)) q) e (own-kept cols p q)
@@ -244,7 +244,7 @@ again-if a b w = or-again a b ∙ ap (λ x. a || x) (sym (fits-if (a || b) w))
 
 unary-fits : (op : Unary) (p : Plan) → (is_one (size p) || keeps_apart op p) ≡ (is_one (size p) || fits (over (described op) p))
 unary-fits (select cs) p = refl
-unary-fits (sort cols) p = refl
+unary-fits (sort of_parts cols) p = refl
 unary-fits (project cols) p = refl
 unary-fits (distinct cols) p = again-if (is_one (size p)) (has p all || routed_within (claim p).part cols) (way (columns_kept cols) (own p ∷ []))
 unary-fits (group plain by aggregates) p = again-if (is_one (size p)) (has p all || routed_within (claim p).part by) (way (columns_kept by) (own p ∷ []))
@@ -380,7 +380,8 @@ key-first n cols = all-first (contains cols) n ∙ (sym (or-false (within (first
 unary-key : (op : Unary) (catalog : ℕ → Relation) (n : ℕ) (c : Claim) (p : Plan) (cols : List ℕ) → within cols (numbers_below (width catalog (unary n c op p))) ≡ true
     → keys_of catalog (unary n c op p) cols ≡ shown_key (behaviour catalog (unary n c op p)) cols
 unary-key (select cs) catalog n c p cols e = key-whole (claim p).keys cols
-unary-key (sort kept) catalog n c p cols e = key-whole (claim p).keys cols
+unary-key (sort false kept) catalog n c p cols e = key-whole (claim p).keys cols
+unary-key (sort true kept) catalog n c p cols e = refl
 unary-key (project kept) catalog n c p cols e = key-kept kept (claim p).keys cols e
 unary-key (distinct kept) catalog n c p cols e =
     (ap (λ b. within (numbers_below (length kept)) cols && b) e ∙ and-true (within (numbers_below (length kept)) cols)) ∙ key-first (length kept) cols

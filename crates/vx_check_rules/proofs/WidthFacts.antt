@@ -11,7 +11,7 @@ unary_types-width : (op : Unary) (types : List ColType) → length (unary_types 
 unary_types-width (select cs) types = refl
 unary_types-width (project cols) types = length-map cols (type_at types)
 unary_types-width (distinct cols) types = length-map cols (type_at types)
-unary_types-width (sort cols) types = refl
+unary_types-width (sort of_parts cols) types = refl
 unary_types-width (group phase by aggregates) types =
     length-append (map (type_at types) by) (map (aggregate_type types) aggregates)
     ∙ ap (λ k. k + length (map (aggregate_type types) aggregates)) (length-map by (type_at types))

@@ -134,7 +134,7 @@ order_given _ = true
 -- the parts that an operator shows of its input's
 abbrev pub unary_shows : Unary → Plan → Part → Bool
 unary_shows (select cs) p q = has p q
-unary_shows (sort cols) p q = has p q
+unary_shows (sort of_parts cols) p q = has p q
 unary_shows (project cols) p q = through (has p) (copied cols) q
 unary_shows (distinct cols) p q = through (has p) (copied cols) q
 unary_shows (group phase by aggregates) p q = through (has p) (copied by) q
@@ -187,7 +187,7 @@ part_shown catalog p = is_one (size p) || unless_one (shows catalog p) (claim p)
 -- the orders that an operator shows
 abbrev pub unary_orders : Unary → List ℕ → List ℕ → Bool
 unary_orders (select cs) below order = is_prefix order below
-unary_orders (sort cols) below order = is_prefix order cols
+unary_orders (sort of_parts cols) below order = is_prefix order cols
 unary_orders (project cols) below order = if_some (copied cols order) (λ cs. is_prefix cs below)
 unary_orders (distinct cols) below order = if_some (copied cols order) (λ cs. is_prefix cs below)
 unary_orders (group phase by aggregates) below order = if_some (copied by order) (λ cs. is_prefix cs below)
@@ -227,7 +227,7 @@ numbers_below (suc n) = n ∷ numbers_below n
 -- the keys that an operator shows, as sets of columns
 abbrev pub unary_keys : Unary → List (List ℕ) → List ℕ → Bool
 unary_keys (select cs) keys x = covers keys x
-unary_keys (sort cols) keys x = covers keys x
+unary_keys (sort of_parts cols) keys x = not of_parts && covers keys x
 unary_keys (project cols) keys x = if_some (copied cols x) (covers keys)
 unary_keys (distinct cols) keys x = within (numbers_below (length cols)) x && within x (numbers_below (length cols))
 unary_keys (group plain by aggregates) keys x = within (numbers_below (length by)) x

@@ -25,7 +25,7 @@ abbrev pub unary_needs : List Name → Unary → List ℕ
 unary_needs names (select cs) = []
 unary_needs names (project cols) = []
 unary_needs names (distinct cols) = equal_needed names cols
-unary_needs names (sort cols) = []
+unary_needs names (sort of_parts cols) = []
 unary_needs names (group phase by aggregates) = equal_needed names by
 
 abbrev pub binary_needs : Binary → List ℕ

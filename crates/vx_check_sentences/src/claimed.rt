@@ -86,7 +86,7 @@ fn push_unary_needs(text: &mut String, names: &[Name], operator: &Unary) -> Resu
         Unary::Select(_) => Ok(()),
         Unary::Project(_) => Ok(()),
         Unary::Distinct(kept) => push_kept_needed(text, names, kept.as_slice()),
-        Unary::Sort(_) => Ok(()),
+        Unary::Sort(_, _) => Ok(()),
         Unary::Group(_, by, _) => push_equal_needed(text, names, by.as_slice()),
     }
 }

@@ -78,7 +78,7 @@ fn push_unary_meeting(
             push_meeting(text, names, columns.as_slice())
         }
         Unary::Group(_, by, _) => push_meeting(text, names, by.as_slice()),
-        Unary::Select(_) | Unary::Project(_) | Unary::Sort(_) => Ok(()),
+        Unary::Select(_) | Unary::Project(_) | Unary::Sort(_, _) => Ok(()),
     }
 }
 

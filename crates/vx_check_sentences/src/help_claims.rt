@@ -4,7 +4,9 @@ use crate::help_words::{push_json_keys, push_json_list, push_json_part};
 use crate::words::{push_list, push_node};
 use std::alloc::{AllocError, Global};
 use vx_check::column_names;
-use vx_plan_nodes::{Binary, Claim, Name, Part, Phase, Route, TypedNode, TypedPlan, Unary};
+use vx_plan_nodes::{
+    Binary, Claim, Name, Part, Phase, Route, SortPhase, TypedNode, TypedPlan, Unary,
+};
 
 // Adds the exchange that makes a part.
 fn push_maker(text: &mut String, names: &[Name], part: &Part) -> Result<(), AllocError> {
@@ -58,7 +60,7 @@ pub fn push_part_help(
 fn push_sorting(text: &mut String, node: &TypedNode) -> Result<(), AllocError> {
     let word = match node {
         TypedNode::Scan(_, _) | TypedNode::Binary(_, _, _, _) => ", or sort above it on ",
-        TypedNode::Unary(_, Unary::Sort(_), _) => ", or sort here on ",
+        TypedNode::Unary(_, Unary::Sort(_, _), _) => ", or sort here on ",
         TypedNode::Unary(_, _, _) => ", or sort below it on ",
         TypedNode::Exchange(_, _, _) => ", or merge here, over an input that is sorted so, on ",
     };
@@ -97,6 +99,9 @@ fn push_keying(text: &mut String, node: &TypedNode) -> Result<(), AllocError> {
         TypedNode::Scan(_, _) => text.push_str(", or declare the key in the catalog"),
         TypedNode::Unary(_, Unary::Group(Phase::Partial, _, _), _) => {
             text.push_str(": a partial group has none, its final group has")
+        }
+        TypedNode::Unary(_, Unary::Sort(SortPhase::Partial, _), _) => {
+            text.push_str(": a partial sort has none, the final group above it has")
         }
         TypedNode::Unary(_, Unary::Group(_, _, _), _) => text.push_str(
             ", or a key with more columns",

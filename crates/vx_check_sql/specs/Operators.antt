@@ -102,7 +102,7 @@ unfoldable pub unary_columns : Dialect → (m n : Alias) → List ColType → Un
 unary_columns d m n types (select cs) = all_columns m n types
 unary_columns d m n types (project cols) = kept_columns m n cols
 unary_columns d m n types (distinct cols) = codes "DISTINCT " ++ kept_columns m n cols
-unary_columns d m n types (sort cols) = all_columns m n types
+unary_columns d m n types (sort of_parts cols) = all_columns m n types
 unary_columns d m n types (group phase by aggregates) = group_columns d m n by aggregates
 
 -- of which rows, and in which groups
@@ -110,7 +110,7 @@ unfoldable pub unary_clause : Dialect → Alias → Unary → List ℕ
 unary_clause d m (select cs) = codes " WHERE " ++ separated (codes " AND ") false (map (condition_sql d m) cs)
 unary_clause d m (project cols) = []
 unary_clause d m (distinct cols) = []
-unary_clause d m (sort cols) = []
+unary_clause d m (sort of_parts cols) = []
 unary_clause d m (group phase by aggregates) = grouping_sql m by
 
 unfoldable pub unary_sql : Dialect → (m n : Alias) → List ColType → Unary → (rows : List ℕ) → List ℕ

@@ -120,7 +120,7 @@ pub fn push_unary_columns(
             text.push_str("DISTINCT ")?;
             push_projected(text, from, to, kept.as_slice())
         }
-        Unary::Sort(_) => push_all(text, from, to, types),
+        Unary::Sort(_, _) => push_all(text, from, to, types),
         Unary::Group(_, by, aggregates) => {
             push_group_columns(
                 text,
@@ -149,7 +149,7 @@ pub fn push_unary_clause(
             text.push_str(" WHERE ")?;
             push_conditions(text, dialect, from, conditions.as_slice())
         }
-        Unary::Project(_) | Unary::Distinct(_) | Unary::Sort(_) => Ok(()),
+        Unary::Project(_) | Unary::Distinct(_) | Unary::Sort(_, _) => Ok(()),
         Unary::Group(_, by, _) => push_grouping(text, from, by.as_slice()),
     }
 }

@@ -51,7 +51,7 @@ of_sums = merged 1 sums
 abbrev pub above : List Aggregate → Plan → Plan
 above puts p =
     exchange 0 (claimed one first (first ∷ [])) gather first
-    (unary 1 (claimed (routed h first) first (first ∷ [])) (sort first) (unary 2 (claimed (routed h first) [] (first ∷ [])) (group final (first_columns 1) puts) p))
+    (unary 1 (claimed (routed h first) first (first ∷ [])) (sort false first) (unary 2 (claimed (routed h first) [] (first ∷ [])) (group final (first_columns 1) puts) p))
 
 -- sums in two phases; the exchange and the partial claim these keys
 abbrev pub two_phase : (exchange_keys partial_keys : List (List ℕ)) → Plan
@@ -83,13 +83,13 @@ abbrev pub final_over_scan : Plan
 final_over_scan = unary 0 (claimed one [] []) (group final (first_columns 1) of_sums) (scan 1 (claimed one [] []) 0 false one_worker)
 
 abbrev pub sorted_partial : Plan
-sorted_partial = unary 0 (claimed one [] []) (group final (first_columns 1) of_sums) (unary 1 (claimed one [] []) (sort first) (unary 2 (claimed one [] []) (group partial (1 ∷ []) sums) (scan 3 (claimed one [] []) 0 false one_worker)))
+sorted_partial = unary 0 (claimed one [] []) (group final (first_columns 1) of_sums) (unary 1 (claimed one [] []) (sort false first) (unary 2 (claimed one [] []) (group partial (1 ∷ []) sums) (scan 3 (claimed one [] []) 0 false one_worker)))
 
 -- a concat over a sort on v and id over an exchange by v; the sort claims this part, the root this order
 abbrev pub in_ranges : Route → Part → (root_order : List ℕ) → Plan
 in_ranges route p root_order =
     exchange 0 (claimed one root_order (first ∷ [])) concat []
-    (unary 1 (claimed p (2 ∷ 0 ∷ []) (first ∷ [])) (sort (2 ∷ 0 ∷ [])) (exchange 2 (claimed (routed route (2 ∷ [])) [] (first ∷ [])) (route_to many route (2 ∷ [])) [] (scan 3 (claimed any [] (first ∷ [])) 0 true many)))
+    (unary 1 (claimed p (2 ∷ 0 ∷ []) (first ∷ [])) (sort false (2 ∷ 0 ∷ [])) (exchange 2 (claimed (routed route (2 ∷ [])) [] (first ∷ [])) (route_to many route (2 ∷ [])) [] (scan 3 (claimed any [] (first ∷ [])) 0 true many)))
 
 -- rows
 abbrev pub a : Val
@@ -131,7 +131,7 @@ pub record WorkedPhases : Type 0 where
   pub no_exchange : well_formed catalog sorted_partial ≡ false
   pub parts_counted : well_formed catalog counting_parts ≡ false
   -- what they mean, with and without exchanges: rows and nodes
-  pub means : serial db (unary 0 (claimed one [] []) (sort first) (two_phase [] [])) ≡ rows ((a ∷ n 3 ∷ []) ∷ (b ∷ n 7 ∷ []) ∷ (c ∷ n 7 ∷ []) ∷ [])
+  pub means : serial db (unary 0 (claimed one [] []) (sort false first) (two_phase [] [])) ≡ rows ((a ∷ n 3 ∷ []) ∷ (b ∷ n 7 ∷ []) ∷ (c ∷ n 7 ∷ []) ∷ [])
   pub erased_means : serial db (erase (two_phase [] [])) ≡ rows ((a ∷ n 3 ∷ []) ∷ (b ∷ n 7 ∷ []) ∷ (c ∷ n 7 ∷ []) ∷ [])
   pub erased_is : erase counted ≡ unary 0 (claimed one [] []) (group plain [] (count_rows ∷ [])) (scan 1 (claimed one [] []) 0 false one_worker)
   pub counts : serial db (erase counting) ≡ rows ((a ∷ n 2 ∷ []) ∷ (b ∷ n 1 ∷ []) ∷ (c ∷ n 1 ∷ []) ∷ [])

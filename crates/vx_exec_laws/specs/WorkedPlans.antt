@@ -66,7 +66,7 @@ select_merged merge scan_order root_keys =
 abbrev pub sums_over : (sorted grouped : Claim) → Plan → Plan
 sums_over sorted grouped below =
     exchange 0 (claimed one first first_key) gather first
-    (unary 1 sorted (sort first)
+    (unary 1 sorted (sort false first)
     (unary 2 grouped (group plain (1 ∷ []) (sum 2 ∷ [])) below))
 
 abbrev pub h_sorted : Claim
@@ -158,10 +158,10 @@ rows_counted = unary 0 (part_only one) (group plain [] (count_rows ∷ [])) (sca
 abbrev pub merge_joined : (right_order : List ℕ) → Plan → Plan
 merge_joined right_order right =
     binary 0 (claimed one (1 ∷ 0 ∷ []) first_key) (join true ((1, 0) ∷ []))
-    (unary 1 (claimed one (1 ∷ 0 ∷ []) first_key) (sort (1 ∷ 0 ∷ [])) (scan 2 (claimed one [] first_key) 0 false one_worker)) right
+    (unary 1 (claimed one (1 ∷ 0 ∷ []) first_key) (sort false (1 ∷ 0 ∷ [])) (scan 2 (claimed one [] first_key) 0 false one_worker)) right
 
 abbrev pub d_sorted : Plan
-d_sorted = unary 3 (claimed one first first_key) (sort first) (scan 4 (claimed one [] first_key) 1 false one_worker)
+d_sorted = unary 3 (claimed one first first_key) (sort false first) (scan 4 (claimed one [] first_key) 1 false one_worker)
 
 abbrev pub d_unsorted : Plan
 d_unsorted = scan 3 (claimed one [] first_key) 1 false one_worker

@@ -56,9 +56,9 @@ pub fn unary_operator(
             let distinct = FirstRows::source(alloc, seed, number, columns, input)?;
             Ok(Operator::of(number, OperatorKind::Distinct(distinct)))
         }
-        Unary::Sort(columns) => {
+        Unary::Sort(phase, columns) => {
             let columns = Vec::from_slice(alloc, columns.as_slice())?;
-            let sort = Sort::new(alloc, number, columns, input)?;
+            let sort = Sort::new(alloc, number, *phase, columns, input)?;
             Ok(Operator::of(number, OperatorKind::Sort(sort)))
         }
         Unary::Group(phase, by, aggregates) => {

@@ -37,7 +37,7 @@ overflows n (group phase by aggregates) l e m = (refl, e, m)
 overflows n (select cs) l e m = m
 overflows n (project cs) l e m = m
 overflows n (distinct cs) l e m = m
-overflows n (sort cs) l e m = m
+overflows n (sort of_parts cs) l e m = m
 
 module _ (n : ℕ) (op : Unary) (none : unary_rows op [] ≡ Some []) where
   begun-none : (l : Ledger) → l.gave.rows ≡ [] → Begun (one_op n op) l

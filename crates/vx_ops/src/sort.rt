@@ -5,6 +5,7 @@ use crate::collecting_kernel::{CollectingKernel, FinishFault};
 use std::alloc::{AllocError, Global};
 use std::marker::Model;
 use vx_ops_kernels::sorted_chunks;
+use vx_plan_nodes::SortPhase;
 use vx_rows_values::ColType;
 use vx_rows_views::Rows;
 
@@ -16,6 +17,7 @@ pub type Sort = Collecting<Sorting>;
 /// The kernel of a sort.
 pub struct Sorting {
     alloc: Global,
+    phase: SortPhase,
     columns: Vec<usize>,
     read: Rows,
 }
@@ -24,6 +26,7 @@ impl Drop for Sorting {
     fn drop(self) {
         let Sorting {
             alloc: _,
+            phase: _,
             columns: _,
             read: _,
         } = self;
@@ -33,11 +36,12 @@ impl Drop for Sorting {
 impl Model for Sorting {
     ghost use Rattle.std.specs.Prelude.{length};
     ghost use Rattle.vx_rows.specs.View.{AreColumns};
+    ghost use Rattle.vx_plan_nodes.specs.Outline.{is_of_parts};
     ghost use Rattle.vx_ops.specs.Sorting.{SortingView};
 
     ghost Value = { SortingView };
 
-    ghost view = { λ s. record { columns = s.columns.items; table = s.read } };
+    ghost view = { λ s. record { of_parts = is_of_parts s.phase; columns = s.columns.items; table = s.read } };
 
     ghost invariant = { λ s. AreColumns (length s.read.types) s.columns.items };
 }
@@ -46,27 +50,30 @@ impl Collecting<Sorting> {
     ghost use Rattle.std.specs.Prelude.{◌≡◌, length, IfOk};
     ghost use Rattle.vx_rows.specs.View.{AreColumns};
     ghost use Rattle.vx_plan_nodes.specs.Plan.{sort};
+    ghost use Rattle.vx_plan_nodes.specs.Outline.{is_of_parts};
     ghost use Rattle.vx_ops.specs.Ledger.{one_op};
     ghost use Rattle.vx_ops.specs.Turn.{fresh_ledger};
     ghost use Rattle.vx_ops.specs.Sort.{SortStands, sort_op, sort_types, sort_meaning};
     ghost use Rattle.vx_ops.specs.Starts.{Starts};
 
-    /// A sort on these columns of rows of these types, at the node with this number, to which nothing came.
+    /// A sort of whole rows, or of parts of groups, on these columns of rows of these types, at the node with this number, to which nothing came.
     pub fn new(
         alloc: Global,
         node: u32,
+        phase: SortPhase,
         columns: Vec<usize>,
         types: &[ColType],
     ) -> Result<Sort, AllocError>
         requires { AreColumns (length types.now) columns.items }
         ensures stands { IfOk result (λ s. SortStands s fresh_ledger) }
-        ensures op { IfOk result (λ s. sort_op s ≡ one_op node (sort columns.items)) }
+        ensures op { IfOk result (λ s. sort_op s ≡ one_op node (sort (is_of_parts phase) columns.items)) }
         ensures types { IfOk result (λ s. sort_types s ≡ record { left = types.now; right = types.now; out = types.now }) }
         ensures starts { IfOk result (λ s. Starts (sort_meaning s)) }
     {
         let read = Rows::new(alloc, types)?;
         let kernel = Sorting {
             alloc,
+            phase,
             columns,
             read,
         };

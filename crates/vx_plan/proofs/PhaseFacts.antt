@@ -1,5 +1,5 @@
 -- Grouping in two phases: a final group that was found over its partial one is typed.
-use Rattle.std.proofs.Common.{◌≡◌, ℕ, zero, suc, ◌+◌, ◌<◌, ◌≤◌, ◌==◌, nat_lt, true, false, not, ◌&&◌, ◌||◌, List, [], ◌∷◌, ◌++◌, map, length, Some, refl, sym, ap, ◌∙◌, subst, arith, eq-eqb, lt-ltb, append_assoc, length-append, take, get_or}
+use Rattle.std.proofs.Common.{◌≡◌, ℕ, zero, suc, ◌+◌, ◌<◌, ◌≤◌, ◌==◌, nat_lt, true, false, not, ◌&&◌, ◌||◌, List, [], ◌∷◌, ◌++◌, map, length, Some, is_some, refl, sym, ap, ◌∙◌, subst, arith, eq-eqb, lt-ltb, append_assoc, length-append, take, get_or}
 use Rattle.std.specs.List.{list_all, list_any}
 use Rattle.std.proofs.lemmas.List.{length-map, length-take-le, map_push}
 use Rattle.vx_rows_values.specs.declared.value.ColType.{ColType}
@@ -10,12 +10,12 @@ use Rattle.vx_catalog_relations.specs.Catalog.{relation_at, all_below, are_disti
 use Rattle.vx_plan_nodes.specs.Plan.{Aggregate, least, greatest, sum, count_rows, select, project, distinct, sort, group, plain, partial, final}
 use Rattle.vx_plan_nodes.specs.Types.{types_of, aggregate_type}
 use Rattle.vx_plan_nodes.specs.Typed.{type_eq, are_columns, is_aggregate, is_unary, is_output, is_kind, may_merge, typed}
-use Rattle.vx_plan_nodes.specs.Phases.{columns_from, first_columns, merging, merged, aggregate_eq, aggregates_eq, columns_eq, opens, phase_fits}
+use Rattle.vx_plan_nodes.specs.Phases.{columns_from, first_columns, merging, merged, aggregate_eq, aggregates_eq, columns_eq, is_open, opens, phase_fits}
 use Rattle.vx_plan_nodes.specs.declared.typed.Aggregate as rust
 use Rattle.vx_plan_nodes.specs.Outline.{Outline, aggregate_of, scan, unary, binary, exchange, plan_in}
 use Rattle.vx_plan_nodes.specs.Names.{Names, scope_of}
 use Rattle.vx_plan_nodes.proofs.ErasedFacts.{type-right}
-use Rattle.vx_plan.specs.Resolve.{parts_of}
+use Rattle.vx_plan.specs.Resolve.{parts_of, sorts_before}
 use Rattle.vx_plan.proofs.TestFacts.{taken_more}
 use Rattle.vx_rows_values.proofs.Booleans.{and-left, and-right, and-both}
 
@@ -54,7 +54,7 @@ merged_next before y i k xs x h e so_far put =
     map_push aggregate_of before y ∙ ap (λ zs. zs ++ aggregate_of y ∷ []) so_far ∙ ap (λ z. merged i (map aggregate_of (take k xs)) ++ z ∷ []) (put ∙ sym at)
     ∙ sym (ap (merged i) (taken_more aggregate_of xs k x h e) ∙ merged-push i (map aggregate_of (take k xs)) (aggregate_of x))
 
-columns-length : (i n : ℕ) → length (columns_from i n) ≡ n
+pub columns-length : (i n : ℕ) → length (columns_from i n) ≡ n
 columns-length i zero = refl
 columns-length i (suc n) = ap suc (columns-length (suc i) n)
 
@@ -94,21 +94,41 @@ aggregates_eq-refl : (aggregates : List Aggregate) → aggregates_eq aggregates 
 aggregates_eq-refl [] = refl
 aggregates_eq-refl (a ∷ aggregates) = and-both (aggregate_eq a a) (aggregates_eq aggregates aggregates) (aggregate_eq-refl a) (aggregates_eq-refl aggregates)
 
+-- a plan is open where a partial group is found
+pub parts-found : (t : Outline) → is_some (parts_of t) ≡ is_open (plan_in t)
+parts-found (scan h r m z p) = refl
+parts-found (unary h (select cs) flags t) = refl
+parts-found (unary h (project cols) flags t) = refl
+parts-found (unary h (distinct cols) flags t) = refl
+parts-found (unary h (sort false cols) flags t) = refl
+parts-found (unary h (sort true cols) flags t) = parts-found t
+parts-found (unary h (group plain bs ks) flags t) = refl
+parts-found (unary h (group partial bs ks) flags t) = refl
+parts-found (unary h (group final bs ks) flags t) = refl
+parts-found (binary h op t u) = refl
+parts-found (exchange h k m t) = parts-found t
+
 -- the partial group that was found is that of the final one
-pub parts-open : (t : Outline) (g : List ℕ × List Aggregate) → parts_of t ≡ Some g → opens (first_columns (length g.0)) (merged (length g.0) g.1) (plan_in t) ≡ true
-parts-open (scan h r m z p) g e = cc
-parts-open (unary h (select cs) flags t) g e = cc
-parts-open (unary h (project cols) flags t) g e = cc
-parts-open (unary h (distinct cols) flags t) g e = cc
-parts-open (unary h (sort cols) flags t) g e = cc
-parts-open (unary h (group plain bs ks) flags t) g e = cc
-parts-open (unary h (group partial bs ks) flags t) g e =
+pub parts-open : (t : Outline) (g : List ℕ × List Aggregate) → parts_of t ≡ Some g → sorts_before (length g.0) t ≡ true → opens (first_columns (length g.0)) (merged (length g.0) g.1) (plan_in t) ≡ true
+parts-open (scan h r m z p) g e b = cc
+parts-open (unary h (select cs) flags t) g e b = cc
+parts-open (unary h (project cols) flags t) g e b = cc
+parts-open (unary h (distinct cols) flags t) g e b = cc
+parts-open (unary h (sort false cols) flags t) g e b = cc
+parts-open (unary h (sort true cols) flags t) g e b =
+    let keys : List ℕ = first_columns (length g.0) in
+    let P : ℕ → Type 0 = λ n. all_below n cols ≡ true in
+    and-both (all_below (length keys) cols) (opens keys (merged (length g.0) g.1) (plan_in t))
+    (subst P (sym (columns-length 0 (length g.0))) (and-left (all_below (length g.0) cols) (sorts_before (length g.0) t) b))
+    (parts-open t g e (and-right (all_below (length g.0) cols) (sorts_before (length g.0) t) b))
+parts-open (unary h (group plain bs ks) flags t) g e b = cc
+parts-open (unary h (group partial bs ks) flags t) g e b =
     let same : (bs, ks) ≡ g = cc in
     let P : List ℕ × List Aggregate → Type 0 = λ g. (columns_eq (first_columns (length g.0)) (first_columns (length bs)) && aggregates_eq (merged (length g.0) g.1) (merged (length bs) ks)) ≡ true in
     subst P same (and-both (columns_eq (first_columns (length bs)) (first_columns (length bs))) (aggregates_eq (merged (length bs) ks) (merged (length bs) ks)) (columns_eq-refl (first_columns (length bs))) (aggregates_eq-refl (merged (length bs) ks)))
-parts-open (unary h (group final bs ks) flags t) g e = cc
-parts-open (binary h op t u) g e = cc
-parts-open (exchange h k m t) g e = parts-open t g e
+parts-open (unary h (group final bs ks) flags t) g e b = cc
+parts-open (binary h op t u) g e b = cc
+parts-open (exchange h k m t) g e b = parts-open t g e b
 
 -- the aggregates of the final group name columns of the partial one, and sum numbers alone
 merged-typed : (ts before : List ColType) (i : ℕ) (aggregates : List Aggregate) → length before ≡ i → list_all (is_aggregate (before ++ map (aggregate_type ts) aggregates)) (merged i aggregates) ≡ true
@@ -150,7 +170,8 @@ final-unary s (scan h r m z p) g e ok = cc
 final-unary s (unary h (select cs) flags t) g e ok = cc
 final-unary s (unary h (project cols) flags t) g e ok = cc
 final-unary s (unary h (distinct cols) flags t) g e ok = cc
-final-unary s (unary h (sort cols) flags t) g e ok = cc
+final-unary s (unary h (sort false cols) flags t) g e ok = cc
+final-unary s (unary h (sort true cols) flags t) g e ok = final-unary s t g e (and-left (typed (scope_of s) (plan_in t)) _ ok)
 final-unary s (unary h (group plain bs ks) flags t) g e ok = cc
 final-unary s (unary h (group partial bs ks) flags t) g e ok =
     let same : (bs, ks) ≡ g = cc in

@@ -10,14 +10,14 @@ use Rattle.vx_plan_nodes.specs.Plan.{Unary, Binary, ExchangeKind, Plan}
 use Rattle.vx_plan_nodes.specs.Plan as plan
 use Rattle.vx_plan_nodes.specs.Types.{types_of, unary_types, binary_types}
 use Rattle.vx_plan_nodes.specs.Numbering.{nodes, is_numbered}
-use Rattle.vx_plan_nodes.specs.Phases.{is_open, is_partial, phase_fits, both_closed}
+use Rattle.vx_plan_nodes.specs.Phases.{is_open, unary_open, phase_fits, both_closed}
 use Rattle.vx_plan_nodes.specs.Typed.{are_columns, is_size, is_unary, is_binary, is_kind, is_claim, is_output, may_merge, typed}
 use Rattle.vx_plan_nodes.specs.Outline.{Columns, Top, Outline, scan, unary, binary, exchange, columns, plan_in}
 use Rattle.vx_plan_nodes.specs.Outputs.{IsOutputOf, HasOutputs}
 use Rattle.vx_plan_nodes.specs.Names.{Names, scope_of}
 use Rattle.vx_plan_nodes.proofs.ErasedFacts.{final-types}
 use Rattle.vx_plan_nodes.proofs.OutputFacts.{top-output}
-use Rattle.vx_plan.specs.Resolve.{scan_columns, scan_typed, with_claim, is_final_form, unary_typed, binary_typed, exchange_typed, typed_in}
+use Rattle.vx_plan.specs.Resolve.{scan_columns, scan_typed, with_claim, under_final, unary_typed, binary_typed, exchange_typed, typed_in}
 use Rattle.vx_plan.specs.ByName.{names_at, relation_name, size_name, top_by_name, unary_by_name, binary_by_name, kind_by_name, tree_by_name, column_names}
 use Rattle.vx_plan.specs.Exact.{AreNamed}
 use Rattle.vx_plan.proofs.Apart.{apart}
@@ -66,15 +66,17 @@ input-of s t outputs named =
 
 -- ---- phases
 
--- an operator over an open plan is a final group
-final-above : (names output : List Name) (op : Unary) (renamed : List Bool) (p : Plan) → phase_fits op p ≡ true → is_open p ≡ true → is_final_form (unary_by_name names output op renamed) ≡ true
-final-above names output (plan.select cs) renamed p h e = absurd (true≢false (sym e ∙ not-true (is_open p) h))
-final-above names output (plan.project cols) renamed p h e = absurd (true≢false (sym e ∙ not-true (is_open p) h))
-final-above names output (plan.distinct cols) renamed p h e = absurd (true≢false (sym e ∙ not-true (is_open p) h))
-final-above names output (plan.sort cols) renamed p h e = absurd (true≢false (sym e ∙ not-true (is_open p) h))
-final-above names output (plan.group plan.plain by aggregates) renamed p h e = absurd (true≢false (sym e ∙ not-true (is_open p) h))
-final-above names output (plan.group plan.partial by aggregates) renamed p h e = absurd (true≢false (sym e ∙ not-true (is_open p) h))
-final-above names output (plan.group plan.final by aggregates) renamed p h e = refl
+-- from an open plan the way up reaches a final group, where it does so from an operator over it that leaves it open
+final-above : (under : Bool) (names output : List Name) (op : Unary) (renamed : List Bool) (p : Plan) → phase_fits op p ≡ true → (unary_open op (is_open p) ≡ true → under ≡ true) → is_open p ≡ true
+    → under_final under (unary_by_name names output op renamed) ≡ true
+final-above under names output (plan.select cs) renamed p h above e = absurd (true≢false (sym e ∙ not-true (is_open p) h))
+final-above under names output (plan.project cols) renamed p h above e = absurd (true≢false (sym e ∙ not-true (is_open p) h))
+final-above under names output (plan.distinct cols) renamed p h above e = absurd (true≢false (sym e ∙ not-true (is_open p) h))
+final-above under names output (plan.sort false cols) renamed p h above e = absurd (true≢false (sym e ∙ not-true (is_open p) h))
+final-above under names output (plan.sort true cols) renamed p h above e = above e
+final-above under names output (plan.group plan.plain by aggregates) renamed p h above e = absurd (true≢false (sym e ∙ not-true (is_open p) h))
+final-above under names output (plan.group plan.partial by aggregates) renamed p h above e = absurd (true≢false (sym e ∙ not-true (is_open p) h))
+final-above under names output (plan.group plan.final by aggregates) renamed p h above e = refl
 
 same-types : (catalog : ℕ → Relation) (op : Unary) (p : Plan) → phase_fits op p ≡ true → (keys : List ℕ) (puts : List plan.Aggregate) → op ≡ plan.group plan.final keys puts → unary_types op (types_of catalog p) ≡ types_of catalog p
 same-types catalog op p fits keys puts e =
@@ -100,7 +102,7 @@ scan-again s n h r shared z prefix d ok outputs named number =
     ) refl
 
 unary-again : (s : Names) (under : Bool) (n : ℕ) (h : Top) (op : Unary) (renamed : List Bool) (t : Outline) → AreDeclared s → typed (scope_of s) (plan_in (unary h op renamed t)) ≡ true → HasOutputs (relation_at s.catalog) (unary h op renamed t)
-    → AreNamed s.catalog (unary h op renamed t) → (h.number == n) ≡ true → (is_partial op ≡ true → under ≡ true)
+    → AreNamed s.catalog (unary h op renamed t) → (h.number == n) ≡ true → (unary_open op (is_open (plan_in t)) ≡ true → under ≡ true)
     → unary_typed s under n (top_by_name s h) (unary_by_name (column_names t) h.columns.names op renamed) t ≡ Ok (unary h op renamed t)
 unfolding unary_typed
 unary-again s under n h op renamed t d ok outputs named number above =
@@ -190,8 +192,8 @@ tree-again s under n (unary h op renamed t) d ok outputs named numbered above =
     let fits = and-left (phase_fits op (plan_in t)) (is_unary ts op && is_output (scope_of s) (unary_types op ts) h.claim) (and-right (typed (scope_of s) (plan_in t)) rest ok) in
     let up : suc n ≡ n + 1 = omega arith in
     let P : ℕ → Type 0 = λ k. is_numbered k (plan_in t) ≡ true in
-    let below = tree-again s (is_final_form f) (n + 1) t d (and-left (typed (scope_of s) (plan_in t)) rest ok) outputs.1 named.2 (subst P up (and-right (h.number == n) (is_numbered (suc n) (plan_in t)) numbered))
-    (final-above (column_names t) h.columns.names op renamed (plan_in t) fits) in
+    let below = tree-again s (under_final under f) (n + 1) t d (and-left (typed (scope_of s) (plan_in t)) rest ok) outputs.1 named.2 (subst P up (and-right (h.number == n) (is_numbered (suc n) (plan_in t)) numbered))
+    (final-above under (column_names t) h.columns.names op renamed (plan_in t) fits above) in
     let count : n + 1 + nodes (plan_in t) ≡ n + suc (nodes (plan_in t)) = omega arith in
     rw (below, unary-again s under n h op renamed t d ok outputs named (and-left (h.number == n) (is_numbered (suc n) (plan_in t)) numbered) above, count) refl
 tree-again s under n (binary h op t u) d ok outputs named numbered above =

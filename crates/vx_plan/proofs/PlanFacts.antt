@@ -20,7 +20,7 @@ use Rattle.vx_plan_nodes.specs.Outline.{Columns, Top, Outline, scan, unary, bina
 use Rattle.vx_plan_json.specs.Fault.{Refusal, bad_size, bad_range, ◌>>=◌}
 use Rattle.vx_plan.specs.Lookup.{tested_onto, find_size}
 use Rattle.vx_plan_nodes.specs.Names.{Names, scope_of}
-use Rattle.vx_plan.specs.Resolve.{scan_columns, relation_or, find_relation, scan_typed, with_claim, is_final_form, unary_shape, unary_typed, binary_shape, binary_typed, exchange_shape, exchange_typed, typed_in, is_bad_size, test_sizes, is_bad_range, test_ranges}
+use Rattle.vx_plan.specs.Resolve.{scan_columns, relation_or, find_relation, scan_typed, with_claim, under_final, unary_shape, unary_typed, binary_shape, binary_typed, exchange_shape, exchange_typed, typed_in, is_bad_size, test_sizes, is_bad_range, test_ranges}
 use Rattle.vx_plan_json.specs.Formed.{is_claim_form, is_scan_form, is_unary_form, is_binary_form, is_kind_form, is_merge_form, is_tree_form}
 use Rattle.vx_plan_json.proofs.Holds.{Holds, holds_then, holds_at}
 use Rattle.vx_rows_values.proofs.Booleans.{and-left, and-right, and-both}
@@ -86,7 +86,7 @@ scan-holds s under n c f cat h =
       closed = λ e. refl;
     })))
 
-unary-holds : (s : Names) (under : Bool) (n : ℕ) (c : ClaimForm) (op : UnaryForm) (i : Outline) (next : ℕ) → is_claim_form c ≡ true → is_unary_form op ≡ true → IsResolved s (is_final_form op) (n + 1) i next → Holds (λ o. IsResolved s under n o next) (unary_typed s under n c op i)
+unary-holds : (s : Names) (under : Bool) (n : ℕ) (c : ClaimForm) (op : UnaryForm) (i : Outline) (next : ℕ) → is_claim_form c ≡ true → is_unary_form op ≡ true → IsResolved s (under_final under op) (n + 1) i next → Holds (λ o. IsResolved s under n o next) (unary_typed s under n c op i)
 unfolding unary_typed
 unary-holds s under n c op i next hc ho hi =
     let ts : List ColType = types_of (relation_at s.catalog) (plan_in i) in
@@ -181,7 +181,7 @@ unfolding typed_in Resolves
 tree-holds s under n (form.scan c f) cat h = with-next s under n (n + 1) (scan_typed s n c f) (scan-holds s under n c f cat (and-left (is_claim_form c) (is_scan_form f) h))
 tree-holds s under n (form.unary c op t) cat h =
     let rest = and-right (is_claim_form c) (is_unary_form op && is_tree_form t) h in
-    holds_then (Resolves s (is_final_form op) (n + 1)) (Resolves s under n) (λ i. unary_typed s under n c op i.0 >>= λ o. Ok (o, i.1)) (typed_in s (is_final_form op) (n + 1) t) (tree-holds s (is_final_form op) (n + 1) t cat (and-right (is_unary_form op) (is_tree_form t) rest))
+    holds_then (Resolves s (under_final under op) (n + 1)) (Resolves s under n) (λ i. unary_typed s under n c op i.0 >>= λ o. Ok (o, i.1)) (typed_in s (under_final under op) (n + 1) t) (tree-holds s (under_final under op) (n + 1) t cat (and-right (is_unary_form op) (is_tree_form t) rest))
     (λ i hi. with-next s under n i.1 (unary_typed s under n c op i.0) (unary-holds s under n c op i.0 i.1 (and-left (is_claim_form c) (is_unary_form op && is_tree_form t) h) (and-left (is_unary_form op) (is_tree_form t) rest) hi))
 tree-holds s under n (form.binary c op t u) cat h =
     let rest = and-right (is_claim_form c) (is_binary_form op && (is_tree_form t && is_tree_form u)) h in

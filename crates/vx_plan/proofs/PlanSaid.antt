@@ -12,7 +12,7 @@ use Rattle.vx_plan_json.specs.Document.{ClaimForm, ScanForm, UnaryForm, BinaryFo
 use Rattle.vx_plan_json.specs.Document as form
 use Rattle.vx_plan_json.proofs.Holds.{holds_at}
 use Rattle.vx_plan.specs.Lookup.{find_size}
-use Rattle.vx_plan.specs.Resolve.{scan_columns, find_relation, scan_typed, with_claim, is_final_form, unary_shape, unary_typed, binary_shape, binary_typed, exchange_shape, exchange_typed, typed_in}
+use Rattle.vx_plan.specs.Resolve.{scan_columns, find_relation, scan_typed, with_claim, under_final, unary_shape, unary_typed, binary_shape, binary_typed, exchange_shape, exchange_typed, typed_in}
 use Rattle.vx_plan.specs.ByName.{unary_by_name, tree_by_name, column_names}
 use Rattle.vx_plan.specs.Exact.{UnaryNames, binary_names, AreNamed}
 use Rattle.vx_plan.proofs.Each.{ok_then, ok_last}
@@ -120,10 +120,10 @@ tree-said s under n (form.scan c f) r cat h =
     let P : Outline × ℕ → Type 0 = λ r. IsTreeSaid s (form.scan c f) r.0 in
     subst P t.2 (scan-said s n c f t.0 cat t.1)
 tree-said s under n (form.unary c op below) r cat h =
-    let i = ok_then _ (typed_in s (is_final_form op) (n + 1) below) r h in
+    let i = ok_then _ (typed_in s (under_final under op) (n + 1) below) r h in
     let t = ok_last (λ (o : Outline). (o, i.0.1)) (unary_typed s under n c op i.0.0) r i.2 in
     let P : Outline × ℕ → Type 0 = λ r. IsTreeSaid s (form.unary c op below) r.0 in
-    subst P t.2 (unary-said s under n c op below i.0.0 t.0 (tree-said s (is_final_form op) (n + 1) below i.0 cat i.1) t.1)
+    subst P t.2 (unary-said s under n c op below i.0.0 t.0 (tree-said s (under_final under op) (n + 1) below i.0 cat i.1) t.1)
 tree-said s under n (form.binary c op first second) r cat h =
     let a = ok_then _ (typed_in s false (n + 1) first) r h in
     let b = ok_then _ (typed_in s false a.0.1 second) r a.2 in

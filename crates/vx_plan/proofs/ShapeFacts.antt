@@ -10,7 +10,7 @@ use Rattle.vx_plan_nodes.specs.declared.typed.Projected.{Projected}
 use Rattle.vx_plan_nodes.specs.Plan.{Aggregate, Phase, Unary, Condition, ExchangeKind, Plan, route_to, by_hash, by_range}
 use Rattle.vx_plan_nodes.specs.Plan as plan
 use Rattle.vx_plan_nodes.specs.Types.{types_of, unary_types, binary_types, aggregate_type}
-use Rattle.vx_plan_nodes.specs.Phases.{first_columns, merged, is_partial, is_open, phase_fits}
+use Rattle.vx_plan_nodes.specs.Phases.{first_columns, merged, unary_open, is_open, phase_fits}
 use Rattle.vx_plan_nodes.specs.Typed.{are_columns, is_condition, is_aggregate, is_unary, is_pair, are_distinct_pairs, is_binary, types_eq, is_kind, may_merge, is_size, is_routed, typed}
 use Rattle.vx_rows_values.specs.Lists.{is_some_list}
 use Rattle.vx_rows_values.specs.Values.{Name}
@@ -20,14 +20,14 @@ use Rattle.vx_plan_nodes.specs.Outline.{Columns, Outline, columns, plan_in}
 use Rattle.vx_plan_json.specs.Fault.{Refusal, ◌>>=◌}
 use Rattle.vx_plan.specs.Lookup.{walk_onto, find_column, find_columns, test_distinct, test_distinct_pairs, pair_eq, test_match, test_width, find_size, find_range}
 use Rattle.vx_plan_nodes.specs.Names.{Names, scope_of}
-use Rattle.vx_plan.specs.Resolve.{find_condition, find_conditions, select_shape, Shape, output_name, find_kept, find_all_kept, kept_shape, kept_columns, project_shape, distinct_shape, sort_shape, find_function, find_aggregates, find_group, test_group, group_columns, group_shape, test_phase, partial_shape, parts_of, final_shape, is_final_form, unary_shape, find_pair, find_pairs, test_join, join_pairs, both_columns, Joint, binary_shape, find_kind, kind_names, kind_fits, exchange_columns, test_exchange, exchange_shape}
+use Rattle.vx_plan.specs.Resolve.{find_condition, find_conditions, select_shape, Shape, output_name, find_kept, find_all_kept, kept_shape, kept_columns, project_shape, distinct_shape, sort_shape, partial_sort_shape, find_function, find_aggregates, find_group, test_group, group_columns, group_shape, test_phase, partial_shape, parts_of, sorts_before, final_shape, under_final, unary_shape, find_pair, find_pairs, test_join, join_pairs, both_columns, Joint, binary_shape, find_kind, kind_names, kind_fits, exchange_columns, test_exchange, exchange_shape}
 use Rattle.vx_plan_json.specs.Formed.{are_names, are_some_names, is_condition_form, is_output_form, is_aggregate_form, is_unary_form, is_pair_form, is_binary_form, is_kind_form, is_merge_form}
 use Rattle.vx_plan_json.proofs.Holds.{all_push, Holds, holds_then}
 use Rattle.vx_rows_values.proofs.Booleans.{and-left, and-right, and-both}
 use Rattle.vx_plan.proofs.Apart.{apart, apart-prefix, test_distinct-apart, test_distinct_pairs-apart, distinct-pairs}
 use Rattle.vx_plan.proofs.FoundFacts.{name_of, AreColumns, IsColumn, column-found, columns-found, walk-holds, walk-length, test_distinct-columns, some-columns}
 use Rattle.vx_plan_nodes.proofs.ErasedFacts.{final-types}
-use Rattle.vx_plan.proofs.PhaseFacts.{some-alike, parts-open, final-unary}
+use Rattle.vx_plan.proofs.PhaseFacts.{some-alike, parts-found, parts-open, final-unary}
 use Rattle.vx_plan.proofs.ClaimFacts.{test_match-holds, test_width-holds, size-holds, range-holds, hash-routed, range-routed}
 
 -- as wide as the types say, and at most 64 columns
@@ -40,12 +40,12 @@ pub record IsOutput (types : List ColType) (cols : Columns) : Type 0 where
 pub own-output : {types : List ColType} {cols : Columns} → IsOutput types cols → IsOutput cols.types cols
 own-output out = record { types_are = refl; names_are = out.names_are; few = out.few }
 
--- over this plan, whose columns these are; only under a final group it may be a partial one
+-- over this plan, whose columns these are; only under a final group it may leave the plan open
 pub record IsShape (under : Bool) (p : Plan) (cols : Columns) (o : Shape) : Type 0 where
   pub op : is_unary cols.types o.op ≡ true
   pub output : IsOutput (unary_types o.op cols.types) o.columns
   pub fits : phase_fits o.op p ≡ true
-  pub closed : under ≡ false → is_partial o.op ≡ false
+  pub closed : under ≡ false → unary_open o.op (is_open p) ≡ false
 
 select-holds : (under : Bool) (p : Plan) (node : ℕ) (cols : Columns) (cs : List ConditionForm) → IsOutput cols.types cols → is_some_list cs ≡ true → is_open p ≡ false → Holds (IsShape under p cols) (select_shape node cols cs)
 unfolding select_shape find_conditions
@@ -120,17 +120,32 @@ distinct-holds under p node cols os out h shut =
     holds_then (IsKeptShape cols os) (IsShape under p cols) (λ ks. Ok (record { op = plan.distinct (map (λ (k : Projected). k.column) ks); renamed = map (λ (k : Projected). k.renamed) ks; columns = kept_columns cols os ks })) (kept_shape node cols os) (kept-holds node cols os)
     (λ ks k. record { op = kept-below cols os ks out.names_are h k; output = kept-output cols os ks k; fits = ap not shut; closed = λ e. refl })
 
-sort-holds : (under : Bool) (p : Plan) (node : ℕ) (cols : Columns) (names : List Name) → IsOutput cols.types cols → is_some_list names ≡ true → is_open p ≡ false → Holds (IsShape under p cols) (sort_shape node cols names)
+sort-holds : (under : Bool) (p : Plan) (of_parts : Bool) (node : ℕ) (cols : Columns) (names : List Name) → IsOutput cols.types cols → is_some_list names ≡ true
+    → ((ps : List ℕ) → phase_fits (plan.sort of_parts ps) p ≡ true) → ((ps : List ℕ) → under ≡ false → unary_open (plan.sort of_parts ps) (is_open p) ≡ false) → Holds (IsShape under p cols) (sort_shape of_parts node cols names)
 unfolding sort_shape
-sort-holds under p node cols names out h shut =
-    holds_then (AreColumns cols.names names) (IsShape under p cols) (λ ps. test_distinct node names >>= λ u. Ok (record { op = plan.sort ps; renamed = []; columns = cols })) (find_columns node cols.names names) (columns-found node cols.names names)
-    (λ ps f. holds_then (λ (u : ⊤). apart bytes_eq names ≡ true) (IsShape under p cols) (λ u. Ok (record { op = plan.sort ps; renamed = []; columns = cols })) (test_distinct node names) (test_distinct-apart node names)
+sort-holds under p of_parts node cols names out h fits shut =
+    holds_then (AreColumns cols.names names) (IsShape under p cols) (λ ps. test_distinct node names >>= λ u. Ok (record { op = plan.sort of_parts ps; renamed = []; columns = cols })) (find_columns node cols.names names) (columns-found node cols.names names)
+    (λ ps f. holds_then (λ (u : ⊤). apart bytes_eq names ≡ true) (IsShape under p cols) (λ u. Ok (record { op = plan.sort of_parts ps; renamed = []; columns = cols })) (test_distinct node names) (test_distinct-apart node names)
     (λ u a. record {
       op = and-both (is_some_list ps) (are_columns (length cols.types) ps) (some-columns cols.names names ps f h) (test_distinct-columns cols.names names ps (length cols.types) out.names_are f a);
       output = out;
-      fits = ap not shut;
-      closed = λ e. refl;
+      fits = fits ps;
+      closed = shut ps;
     }))
+
+test_phase-holds : (node : ℕ) (fits : Bool) → Holds (λ (u : ⊤). fits ≡ true) (test_phase node fits)
+unfolding test_phase
+test_phase-holds node true = refl
+test_phase-holds node false = tt
+
+-- a partial sort that was found is under a final group, and over a plan that is open
+partial_sort-holds : (under : Bool) (t : Outline) (node : ℕ) (cols : Columns) (names : List Name) → IsOutput cols.types cols → is_some_list names ≡ true
+    → Holds (IsShape under (plan_in t) cols) (partial_sort_shape (under && is_some (parts_of t)) node cols names)
+unfolding partial_sort_shape
+partial_sort-holds under t node cols names out h =
+    holds_then (λ (u : ⊤). (under && is_some (parts_of t)) ≡ true) (IsShape under (plan_in t) cols) (λ u. sort_shape true node cols names) (test_phase node (under && is_some (parts_of t))) (test_phase-holds node (under && is_some (parts_of t)))
+    (λ u e. sort-holds under (plan_in t) true node cols names out h (λ ps. sym (parts-found t) ∙ and-right under (is_some (parts_of t)) e)
+    (λ ps f. absurd (true≢false (sym (and-left under (is_some (parts_of t)) e) ∙ f))))
 
 record IsGroupFound (cols : Columns) (by : List Name) (aggregates : List AggregateForm) (g : List ℕ × List Aggregate) : Type 0 where
   keys : AreColumns cols.names by g.0
@@ -163,7 +178,7 @@ columns-count : (names list : List Name) (cs : List ℕ) → AreColumns names li
 columns-count names list cs h = sym (length-map cs (name_of names)) ∙ ap length h.named
 
 group-holds : (under : Bool) (p : Plan) (phase : Phase) (node : ℕ) (cols : Columns) (by : List Name) (aggregates : List AggregateForm) → IsOutput cols.types cols → (is_some_list by || is_some_list aggregates) ≡ true
-    → ((bs : List ℕ) (ks : List Aggregate) → phase_fits (plan.group phase bs ks) p ≡ true) → ((bs : List ℕ) (ks : List Aggregate) → under ≡ false → is_partial (plan.group phase bs ks) ≡ false)
+    → ((bs : List ℕ) (ks : List Aggregate) → phase_fits (plan.group phase bs ks) p ≡ true) → ((bs : List ℕ) (ks : List Aggregate) → under ≡ false → unary_open (plan.group phase bs ks) (is_open p) ≡ false)
     → Holds (IsShape under p cols) (group_shape phase node cols by aggregates)
 unfolding group_shape
 group-holds under p phase node cols by aggregates out h fits shut =
@@ -191,11 +206,6 @@ group-holds under p phase node cols by aggregates out h fits shut =
       closed = shut g.0 g.1;
     }))
 
-test_phase-holds : (node : ℕ) (under : Bool) → Holds (λ (u : ⊤). under ≡ true) (test_phase node under)
-unfolding test_phase
-test_phase-holds node true = refl
-test_phase-holds node false = tt
-
 partial-holds : (under : Bool) (p : Plan) (node : ℕ) (cols : Columns) (by : List Name) (aggregates : List AggregateForm) → IsOutput cols.types cols → (is_some_list by || is_some_list aggregates) ≡ true → is_open p ≡ false
     → Holds (IsShape under p cols) (partial_shape under node cols by aggregates)
 unfolding partial_shape
@@ -204,12 +214,15 @@ partial-holds under p node cols by aggregates out h shut =
     (λ u e. group-holds under p plan.partial node cols by aggregates out h (λ bs ks. ap not shut) (λ bs ks f. absurd (true≢false (sym e ∙ f))))
 
 final-holds : (under : Bool) (s : Names) (node : ℕ) (t : Outline) (parts : Option (List ℕ × List Aggregate)) → parts_of t ≡ parts → IsOutput (types_of (relation_at s.catalog) (plan_in t)) (columns t) → typed (scope_of s) (plan_in t) ≡ true
-    → Holds (IsShape under (plan_in t) (columns t)) (final_shape node (columns t) parts)
+    → Holds (IsShape under (plan_in t) (columns t)) (final_shape node t parts)
 unfolding final_shape
 final-holds under s node t None e out h = tt
 final-holds under s node t (Some g) e out h =
     let op : Unary = plan.group plan.final (first_columns (length g.0)) (merged (length g.0) g.1) in
-    let opened = parts-open t g e in
+    holds_then (λ (u : ⊤). sorts_before (length g.0) t ≡ true) (IsShape under (plan_in t) (columns t)) (λ u. Ok (record { op = op; renamed = []; columns = columns t }))
+    (test_phase node (sorts_before (length g.0) t)) (test_phase-holds node (sorts_before (length g.0) t))
+    (λ u b.
+    let opened = parts-open t g e b in
     let U : List ColType → Type 0 = λ ts. is_unary ts op ≡ true in
     let T : List ColType → Type 0 = λ ts. ts ≡ unary_types op ts in
     record {
@@ -217,16 +230,18 @@ final-holds under s node t (Some g) e out h =
       output = record { types_are = subst T (sym out.types_are) (sym (final-types (relation_at s.catalog) (first_columns (length g.0)) (merged (length g.0) g.1) (plan_in t) opened)); names_are = out.names_are; few = out.few };
       fits = opened;
       closed = λ f. refl;
-    }
+    })
 
--- of an operator that is no final group the input is closed
+-- of an operator that does not hand down that it is under a final group the input is closed
 pub shape-holds : (under : Bool) (s : Names) (node : ℕ) (t : Outline) (op : UnaryForm) → IsOutput (types_of (relation_at s.catalog) (plan_in t)) (columns t) → typed (scope_of s) (plan_in t) ≡ true → is_unary_form op ≡ true
-    → (is_final_form op ≡ false → is_open (plan_in t) ≡ false) → Holds (IsShape under (plan_in t) (columns t)) (unary_shape under node t op)
+    → (under_final under op ≡ false → is_open (plan_in t) ≡ false) → Holds (IsShape under (plan_in t) (columns t)) (unary_shape under node t op)
 unfolding unary_shape
 shape-holds under s node t (form.select cs) out typed h shut = select-holds under (plan_in t) node (columns t) cs (own-output out) (and-left (is_some_list cs) (list_all is_condition_form cs) h) (shut refl)
 shape-holds under s node t (form.project os) out typed h shut = project-holds under (plan_in t) node (columns t) os (own-output out) (and-left (is_some_list os) (list_all is_output_form os) h) (shut refl)
 shape-holds under s node t (form.distinct os) out typed h shut = distinct-holds under (plan_in t) node (columns t) os (own-output out) (and-left (is_some_list os) (list_all is_output_form os) h) (shut refl)
-shape-holds under s node t (form.sort names) out typed h shut = sort-holds under (plan_in t) node (columns t) names (own-output out) (and-left (is_some_list names) (are_names names) h) (shut refl)
+shape-holds under s node t (form.sort names) out typed h shut =
+    sort-holds under (plan_in t) false node (columns t) names (own-output out) (and-left (is_some_list names) (are_names names) h) (λ ps. ap not (shut refl)) (λ ps e. refl)
+shape-holds under s node t (form.partial_sort names) out typed h shut = partial_sort-holds under t node (columns t) names (own-output out) (and-left (is_some_list names) (are_names names) h)
 shape-holds under s node t (form.group by aggregates) out typed h shut =
     group-holds under (plan_in t) plan.plain node (columns t) by aggregates (own-output out) (and-left (is_some_list by || is_some_list aggregates) (are_names by && list_all is_aggregate_form aggregates) h)
     (λ bs ks. ap not (shut refl)) (λ bs ks e. refl)

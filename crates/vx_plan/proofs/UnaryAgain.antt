@@ -9,21 +9,21 @@ use Rattle.vx_rows_values.specs.declared.value.ColType.TheVariants.{Int}
 use Rattle.vx_rows_values.specs.Types.{type_at}
 use Rattle.vx_rows_values.specs.Lists.{is_some_list}
 use Rattle.vx_rows_values.specs.Values.{Name}
-use Rattle.vx_rows_values.proofs.Booleans.{and-left, and-right}
+use Rattle.vx_rows_values.proofs.Booleans.{and-left, and-right, and-both}
 use Rattle.vx_catalog_relations.specs.Catalog.{all_below, are_distinct}
 use Rattle.vx_catalog_relations.specs.Naming.{name_at}
 use Rattle.vx_plan_nodes.specs.declared.typed.Projected.{Projected}
 use Rattle.vx_plan_nodes.specs.Plan.{Side, Condition, Aggregate, Phase, Unary}
 use Rattle.vx_plan_nodes.specs.Plan as plan
 use Rattle.vx_plan_nodes.specs.Types.{unary_types, aggregate_type}
-use Rattle.vx_plan_nodes.specs.Phases.{first_columns, merged, columns_eq, aggregates_eq, is_partial, opens, phase_fits}
+use Rattle.vx_plan_nodes.specs.Phases.{first_columns, merged, columns_eq, aggregates_eq, unary_open, is_open, opens, phase_fits}
 use Rattle.vx_plan_nodes.specs.Typed.{are_columns, type_eq, is_side, is_condition, is_aggregate, is_unary}
 use Rattle.vx_plan_nodes.specs.Outline.{Columns, Outline, scan, unary, binary, exchange, columns, plan_in}
 use Rattle.vx_plan_nodes.proofs.PhaseEqual.{columns_eq-is, aggregates_eq-is}
 use Rattle.vx_plan_json.specs.Document.{OutputForm, AggregateForm}
 use Rattle.vx_plan_json.specs.Fault.{Refusal}
 use Rattle.vx_plan.specs.Lookup.{test_width}
-use Rattle.vx_plan.specs.Resolve.{Shape, find_side, find_condition, find_conditions, select_shape, output_name, find_kept, find_all_kept, kept_shape, kept_columns, project_shape, distinct_shape, sort_shape, find_function, find_aggregates, find_group, test_group, group_columns, group_shape, test_phase, partial_shape, parts_of, final_shape, unary_shape}
+use Rattle.vx_plan.specs.Resolve.{Shape, find_side, find_condition, find_conditions, select_shape, output_name, find_kept, find_all_kept, kept_shape, kept_columns, project_shape, distinct_shape, sort_shape, partial_sort_shape, find_function, find_aggregates, find_group, test_group, group_columns, group_shape, test_phase, partial_shape, parts_of, sorts_before, final_shape, unary_shape}
 use Rattle.vx_plan.specs.ByName.{names_at, side_by_name, condition_by_name, kept_by_name, function_by_name, aggregates_by_name, unary_by_name, column_names}
 use Rattle.vx_plan.specs.Exact.{are_kept, UnaryNames}
 use Rattle.vx_plan.proofs.Apart.{apart}
@@ -31,6 +31,7 @@ use Rattle.vx_plan.proofs.Each.{Each, walk-each, each-again}
 use Rattle.vx_plan.proofs.Passed.{test_distinct-passes}
 use Rattle.vx_plan.proofs.Looked.{column-again, columns-again, columns_once-again}
 use Rattle.vx_plan.proofs.ClaimExact.{test_match-again, along}
+use Rattle.vx_plan.proofs.PhaseFacts.{columns-length, parts-found}
 use Rattle.vx_plan.proofs.ShapeFacts.{map-map}
 
 -- columns are the same where their names and their types are
@@ -165,10 +166,10 @@ distinct-again node input cols renamed output o =
     let k = kept_shape-again node input cols renamed output o.own o.wide (and-right (is_some_list cols) (all_below (length input.types) cols) o.fits) o.named o.typed o.long o.few o.distinct in
     rw (k.found, k.which, k.flags, k.gives) refl
 
-sort-again : (node : ℕ) (input : Columns) (cols : List ℕ) (renamed : List Bool) (output : Columns) → IsOver input (plan.sort cols) renamed output
-    → sort_shape node input (names_at input.names cols) ≡ Ok (record { op = plan.sort cols; renamed = renamed; columns = output })
+sort-again : (of_parts : Bool) (node : ℕ) (input : Columns) (cols : List ℕ) (renamed : List Bool) (output : Columns) → IsOver input (plan.sort of_parts cols) renamed output
+    → sort_shape of_parts node input (names_at input.names cols) ≡ Ok (record { op = plan.sort of_parts cols; renamed = renamed; columns = output })
 unfolding sort_shape
-sort-again node input cols renamed output o =
+sort-again of_parts node input cols renamed output o =
     let are = along input.names input.types cols o.wide (and-right (is_some_list cols) (are_columns (length input.types) cols) o.fits) in
     rw (columns-again node input.names cols o.own (and-left (all_below (length input.names) cols) (are_distinct cols) are), columns_once-again node input.names cols o.own are, o.named.0, columns-same output input o.named.1 o.typed) refl
 
@@ -236,43 +237,72 @@ group-again phase node input by aggregates renamed output a e h named types long
       columns-same (group_columns input (names_at input.names by) fs by aggregates) output all (sym types),
     ) refl
 
-test_phase-again : (node : ℕ) (under : Bool) → under ≡ true → test_phase node under ≡ Ok tt
+test_phase-again : (node : ℕ) (fits : Bool) → fits ≡ true → test_phase node fits ≡ Ok tt
 unfolding test_phase
 test_phase-again node true h = refl
 test_phase-again node false h = cc
 
--- what a partial group that a final one puts together gives
-parts-again : (t : Outline) (keys : List ℕ) (puts : List Aggregate) → opens keys puts (plan_in t) ≡ true → (g : List ℕ × List Aggregate) × (parts_of t ≡ Some g) × (first_columns (length g.0) ≡ keys) × (merged (length g.0) g.1 ≡ puts)
+-- what a partial group that a final one puts together gives, and the sorts between are on its keys
+record IsPartsFound (t : Outline) (keys : List ℕ) (puts : List Aggregate) : Type 0 where
+  parts : List ℕ × List Aggregate
+  found : parts_of t ≡ Some parts
+  keyed : first_columns (length parts.0) ≡ keys
+  put : merged (length parts.0) parts.1 ≡ puts
+  sorted : sorts_before (length parts.0) t ≡ true
+
+parts-again : (t : Outline) (keys : List ℕ) (puts : List Aggregate) → opens keys puts (plan_in t) ≡ true → IsPartsFound t keys puts
 parts-again (scan h r m z p) keys puts e = cc
 parts-again (unary h (plan.select cs) renamed t) keys puts e = cc
 parts-again (unary h (plan.project cols) renamed t) keys puts e = cc
 parts-again (unary h (plan.distinct cols) renamed t) keys puts e = cc
-parts-again (unary h (plan.sort cols) renamed t) keys puts e = cc
+parts-again (unary h (plan.sort false cols) renamed t) keys puts e = cc
+parts-again (unary h (plan.sort true cols) renamed t) keys puts e =
+    let g = parts-again t keys puts (and-right (all_below (length keys) cols) (opens keys puts (plan_in t)) e) in
+    let count : length keys ≡ length g.parts.0 = ap length (sym g.keyed) ∙ columns-length 0 (length g.parts.0) in
+    let P : ℕ → Type 0 = λ n. all_below n cols ≡ true in
+    record {
+      parts = g.parts;
+      found = g.found;
+      keyed = g.keyed;
+      put = g.put;
+      sorted = and-both (all_below (length g.parts.0) cols) (sorts_before (length g.parts.0) t) (subst P count (and-left (all_below (length keys) cols) (opens keys puts (plan_in t)) e)) g.sorted;
+    }
 parts-again (unary h (plan.group plan.plain bs ks) renamed t) keys puts e = cc
 parts-again (unary h (plan.group plan.partial bs ks) renamed t) keys puts e =
     let a = and-left (columns_eq keys (first_columns (length bs))) (aggregates_eq puts (merged (length bs) ks)) e in
     let b = and-right (columns_eq keys (first_columns (length bs))) (aggregates_eq puts (merged (length bs) ks)) e in
-    ((bs, ks), refl, sym (columns_eq-is keys (first_columns (length bs)) a), sym (aggregates_eq-is puts (merged (length bs) ks) b))
+    record {
+      parts = (bs, ks);
+      found = refl;
+      keyed = sym (columns_eq-is keys (first_columns (length bs)) a);
+      put = sym (aggregates_eq-is puts (merged (length bs) ks) b);
+      sorted = refl;
+    }
 parts-again (unary h (plan.group plan.final bs ks) renamed t) keys puts e = cc
 parts-again (binary h op t u) keys puts e = cc
-parts-again (exchange h k m t) keys puts e = parts-again t keys puts e
+parts-again (exchange h k m t) keys puts e =
+    let g = parts-again t keys puts e in
+    record { parts = g.parts; found = g.found; keyed = g.keyed; put = g.put; sorted = g.sorted }
 
 final-again : (node : ℕ) (t : Outline) (keys : List ℕ) (puts : List Aggregate) (renamed : List Bool) (output : Columns) → opens keys puts (plan_in t) ≡ true → renamed ≡ [] → output ≡ columns t
-    → final_shape node (columns t) (parts_of t) ≡ Ok (record { op = plan.group plan.final keys puts; renamed = renamed; columns = output })
+    → final_shape node t (parts_of t) ≡ Ok (record { op = plan.group plan.final keys puts; renamed = renamed; columns = output })
 unfolding final_shape
 final-again node t keys puts renamed output e n o =
     let g = parts-again t keys puts e in
-    rw (g.1, g.2, g.3, n, o) refl
+    rw (g.found, test_phase-again node (sorts_before (length g.parts.0) t) g.sorted, g.keyed, g.put, n, o) refl
 
 -- the types of a final group's output are those of its input
-pub shape-again : (under : Bool) (node : ℕ) (t : Outline) (op : Unary) (renamed : List Bool) (output : Columns) → IsOver (columns t) op renamed output → phase_fits op (plan_in t) ≡ true → (is_partial op ≡ true → under ≡ true)
+pub shape-again : (under : Bool) (node : ℕ) (t : Outline) (op : Unary) (renamed : List Bool) (output : Columns) → IsOver (columns t) op renamed output → phase_fits op (plan_in t) ≡ true → (unary_open op (is_open (plan_in t)) ≡ true → under ≡ true)
     → ((keys : List ℕ) (puts : List Aggregate) → op ≡ plan.group plan.final keys puts → output.types ≡ (columns t).types)
     → unary_shape under node t (unary_by_name (column_names t) output.names op renamed) ≡ Ok (record { op = op; renamed = renamed; columns = output })
-unfolding unary_shape partial_shape
+unfolding unary_shape partial_sort_shape partial_shape
 shape-again under node t (plan.select cs) renamed output o fits above same = select-again node (columns t) cs renamed output o
 shape-again under node t (plan.project cols) renamed output o fits above same = project-again node (columns t) cols renamed output o
 shape-again under node t (plan.distinct cols) renamed output o fits above same = distinct-again node (columns t) cols renamed output o
-shape-again under node t (plan.sort cols) renamed output o fits above same = sort-again node (columns t) cols renamed output o
+shape-again under node t (plan.sort false cols) renamed output o fits above same = sort-again false node (columns t) cols renamed output o
+shape-again under node t (plan.sort true cols) renamed output o fits above same =
+    rw (test_phase-again node (under && is_some (parts_of t)) (and-both under (is_some (parts_of t)) (above fits) (parts-found t ∙ fits)))
+    (sort-again true node (columns t) cols renamed output o)
 shape-again under node t (plan.group plan.plain by aggregates) renamed output o fits above same =
     group-again plan.plain node (columns t) by aggregates renamed output o.own o.wide (and-right (is_some_list by || is_some_list aggregates) _ o.fits) o.named o.typed o.long o.few o.distinct
 shape-again under node t (plan.group plan.partial by aggregates) renamed output o fits above same =

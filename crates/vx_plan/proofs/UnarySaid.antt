@@ -1,5 +1,5 @@
 -- An operator over one input that was found says the names that were asked for, and names its output.
-use Rattle.std.proofs.Common.{◌≡◌, ℕ, List, [], ◌∷◌, ◌++◌, Bool, true, ◌||◌, Option, Some, None, is_some, Result, Ok, map, length, take, drop, bytes_eq, refl, sym, ap, ◌∙◌, subst}
+use Rattle.std.proofs.Common.{◌≡◌, ℕ, List, [], ◌∷◌, ◌++◌, Bool, true, false, ◌&&◌, ◌||◌, Option, Some, None, is_some, Result, Ok, map, length, take, drop, bytes_eq, refl, sym, ap, ◌∙◌, subst}
 use Rattle.std.specs.Prelude.{⊤, if◌then◌else◌}
 use Rattle.std.specs.List.{list_all}
 use Rattle.std.proofs.lemmas.List.{length-map, take_at, drop_at}
@@ -19,7 +19,7 @@ use Rattle.vx_plan_json.specs.Document as form
 use Rattle.vx_plan_json.specs.Fault.{Refusal}
 use Rattle.vx_plan_json.proofs.Holds.{holds_at}
 use Rattle.vx_plan.specs.Lookup.{walk_onto, find_column, find_columns, test_distinct, test_match, test_width}
-use Rattle.vx_plan.specs.Resolve.{Shape, find_side, find_condition, find_conditions, select_shape, output_name, find_kept, find_all_kept, kept_shape, kept_columns, project_shape, distinct_shape, sort_shape, find_function, find_aggregates, find_group, test_group, group_columns, group_shape, test_phase, partial_shape, parts_of, final_shape, unary_shape}
+use Rattle.vx_plan.specs.Resolve.{Shape, find_side, find_condition, find_conditions, select_shape, output_name, find_kept, find_all_kept, kept_shape, kept_columns, project_shape, distinct_shape, sort_shape, partial_sort_shape, find_function, find_aggregates, find_group, test_group, group_columns, group_shape, test_phase, partial_shape, parts_of, sorts_before, final_shape, unary_shape}
 use Rattle.vx_plan.specs.ByName.{names_at, side_by_name, condition_by_name, kept_by_name, function_by_name, aggregates_by_name, unary_by_name, column_names}
 use Rattle.vx_plan.specs.Exact.{are_kept, UnaryNames}
 use Rattle.vx_plan.proofs.Apart.{apart, test_distinct-apart}
@@ -130,13 +130,22 @@ distinct-said node cols os o h =
     let P : Shape → Type 0 = λ o. IsSaid cols.names (form.distinct os) o in
     subst P t.2 (record { says = ap (λ l. form.distinct l) k.kept.says; named = k.kept.named; distinct = k.distinct })
 
-sort-said : (node : ℕ) (cols : Columns) (names : List Name) (o : Shape) → are_distinct_names cols.names ≡ true → sort_shape node cols names ≡ Ok o → IsSaid cols.names (form.sort names) o
+sort-said : (node : ℕ) (cols : Columns) (names : List Name) (o : Shape) → are_distinct_names cols.names ≡ true → sort_shape false node cols names ≡ Ok o → IsSaid cols.names (form.sort names) o
 unfolding sort_shape
 sort-said node cols names o d h =
     let t = ok_then _ (find_columns node cols.names names) o h in
-    let u = ok_last (λ (w : ⊤). record { op = plan.sort t.0; renamed = []; columns = cols }) (test_distinct node names) o t.2 in
+    let u = ok_last (λ (w : ⊤). record { op = plan.sort false t.0; renamed = []; columns = cols }) (test_distinct node names) o t.2 in
     let P : Shape → Type 0 = λ o. IsSaid cols.names (form.sort names) o in
     subst P u.2 (record { says = ap (λ l. form.sort l) (columns-said node cols.names names t.0 t.1); named = (refl, refl); distinct = d })
+
+partial_sort-said : (between : Bool) (node : ℕ) (cols : Columns) (names : List Name) (o : Shape) → are_distinct_names cols.names ≡ true → partial_sort_shape between node cols names ≡ Ok o → IsSaid cols.names (form.partial_sort names) o
+unfolding partial_sort_shape sort_shape
+partial_sort-said between node cols names o d h =
+    let f = ok_then _ (test_phase node between) o h in
+    let t = ok_then _ (find_columns node cols.names names) o f.2 in
+    let u = ok_last (λ (w : ⊤). record { op = plan.sort true t.0; renamed = []; columns = cols }) (test_distinct node names) o t.2 in
+    let P : Shape → Type 0 = λ o. IsSaid cols.names (form.partial_sort names) o in
+    subst P u.2 (record { says = ap (λ l. form.partial_sort l) (columns-said node cols.names names t.0 t.1); named = (refl, refl); distinct = d })
 
 -- ---- groups
 
@@ -228,13 +237,13 @@ partial-said under node cols by fs o h =
       distinct = g.distinct;
     })
 
-final-said : (node : ℕ) (cols : Columns) (parts : Option (List ℕ × List Aggregate)) (o : Shape) → are_distinct_names cols.names ≡ true → final_shape node cols parts ≡ Ok o → IsSaid cols.names form.final_group o
+final-said : (node : ℕ) (t : Outline) (parts : Option (List ℕ × List Aggregate)) (o : Shape) → are_distinct_names (column_names t) ≡ true → final_shape node t parts ≡ Ok o → IsSaid (column_names t) form.final_group o
 unfolding final_shape
-final-said node cols None o d h = cc
-final-said node cols (Some g) o d h =
-    let made : record { op = plan.group plan.final (first_columns (length g.0)) (merged (length g.0) g.1); renamed = []; columns = cols } ≡ o = cc in
-    let P : Shape → Type 0 = λ o. IsSaid cols.names form.final_group o in
-    subst P made (record { says = refl; named = (refl, refl); distinct = d })
+final-said node t None o d h = cc
+final-said node t (Some g) o d h =
+    let made = ok_last (λ (w : ⊤). record { op = plan.group plan.final (first_columns (length g.0)) (merged (length g.0) g.1); renamed = []; columns = columns t }) (test_phase node (sorts_before (length g.0) t)) o h in
+    let P : Shape → Type 0 = λ o. IsSaid (column_names t) form.final_group o in
+    subst P made.2 (record { says = refl; named = (refl, refl); distinct = d })
 
 pub shape-said : (under : Bool) (node : ℕ) (t : Outline) (f : UnaryForm) (o : Shape) → are_distinct_names (column_names t) ≡ true → unary_shape under node t f ≡ Ok o → IsSaid (column_names t) f o
 unfolding unary_shape
@@ -242,6 +251,7 @@ shape-said under node t (form.select cs) o d h = select-said node (columns t) cs
 shape-said under node t (form.project os) o d h = project-said node (columns t) os o h
 shape-said under node t (form.distinct os) o d h = distinct-said node (columns t) os o h
 shape-said under node t (form.sort names) o d h = sort-said node (columns t) names o d h
+shape-said under node t (form.partial_sort names) o d h = partial_sort-said (under && is_some (parts_of t)) node (columns t) names o d h
 shape-said under node t (form.group by fs) o d h = plain-said node (columns t) by fs o h
 shape-said under node t (form.partial_group by fs) o d h = partial-said under node (columns t) by fs o h
-shape-said under node t form.final_group o d h = final-said node (columns t) (parts_of t) o d h
+shape-said under node t form.final_group o d h = final-said node t (parts_of t) o d h

@@ -1,5 +1,5 @@
 -- The document that says a typed plan: each column, relation, size and range by its name in place of its number.
-use Rattle.std.specs.Prelude.{ℕ, List, [], ◌∷◌, map, length, drop, Bool, if◌then◌else◌, Some, None, codes}
+use Rattle.std.specs.Prelude.{ℕ, List, [], ◌∷◌, map, length, drop, Bool, true, false, if◌then◌else◌, Some, None, codes}
 use Rattle.vx_rows_values.specs.Values.{Name}
 use Rattle.vx_catalog_relations.specs.Naming.{name_at}
 use Rattle.vx_plan_nodes.specs.Plan.{Size, one_worker, group_of, Route, by_hash, by_range, Part, routed, Claim, Side, Condition, Aggregate, Unary, Binary, ExchangeKind, route_to}
@@ -74,7 +74,8 @@ abbrev pub unary_by_name : List Name → List Name → Unary → List Bool → U
 unary_by_name names output (plan.select cs) renamed = form.select (map (condition_by_name names) cs)
 unary_by_name names output (plan.project cols) renamed = form.project (kept_by_name names cols renamed output)
 unary_by_name names output (plan.distinct cols) renamed = form.distinct (kept_by_name names cols renamed output)
-unary_by_name names output (plan.sort cols) renamed = form.sort (names_at names cols)
+unary_by_name names output (plan.sort false cols) renamed = form.sort (names_at names cols)
+unary_by_name names output (plan.sort true cols) renamed = form.partial_sort (names_at names cols)
 unary_by_name names output (plan.group plan.plain by aggregates) renamed = form.group (names_at names by) (aggregates_by_name names aggregates (drop (length by) output))
 unary_by_name names output (plan.group plan.partial by aggregates) renamed = form.partial_group (names_at names by) (aggregates_by_name names aggregates (drop (length by) output))
 unary_by_name names output (plan.group plan.final by aggregates) renamed = form.final_group

@@ -27,7 +27,7 @@ abbrev pub UnaryNames : Unary → List Bool → List Name → List Name → Type
 UnaryNames (plan.select cs) renamed names output = (renamed ≡ []) × (output ≡ names)
 UnaryNames (plan.project cols) renamed names output = are_kept names cols renamed output ≡ true
 UnaryNames (plan.distinct cols) renamed names output = are_kept names cols renamed output ≡ true
-UnaryNames (plan.sort cols) renamed names output = (renamed ≡ []) × (output ≡ names)
+UnaryNames (plan.sort of_parts cols) renamed names output = (renamed ≡ []) × (output ≡ names)
 UnaryNames (plan.group plan.plain by aggregates) renamed names output = (renamed ≡ []) × (take (length by) output ≡ names_at names by)
 UnaryNames (plan.group plan.partial by aggregates) renamed names output = (renamed ≡ []) × (take (length by) output ≡ names_at names by)
 UnaryNames (plan.group plan.final by aggregates) renamed names output = (renamed ≡ []) × (output ≡ names)

@@ -1,10 +1,10 @@
 -- The typed plan of a document over a catalog, or the first refusal: sizes, ranges, then the nodes in post-order.
-use Rattle.std.specs.Prelude.{ℕ, ◌+◌, List, [], ◌∷◌, ◌++◌, map, length, Bool, true, false, not, if◌then◌else◌, ◌||◌, Option, Some, None, Result, Ok, Err, ⊤, position, bytes_eq, codes, nat_le, unwrap_or, is_some}
+use Rattle.std.specs.Prelude.{ℕ, ◌+◌, List, [], ◌∷◌, ◌++◌, map, length, Bool, true, false, not, if◌then◌else◌, ◌||◌, Option, Some, None, Result, Ok, Err, ⊤, position, bytes_eq, codes, nat_le, unwrap_or, is_some, ◌&&◌}
 use Rattle.std.specs.List.{list_all, list_any}
 use Rattle.vx_rows_values.specs.declared.value.ColType.{ColType}
 use Rattle.vx_rows_values.specs.Types.{type_at}
 use Rattle.vx_catalog_relations.specs.Relation.{Relation}
-use Rattle.vx_catalog_relations.specs.Catalog.{relation_at}
+use Rattle.vx_catalog_relations.specs.Catalog.{relation_at, all_below}
 use Rattle.vx_plan_nodes.specs.Plan.{Route, by_hash, by_range, Part, routed, Claim, Side, Condition, Aggregate, Phase, Unary, Binary, ExchangeKind, route_to}
 use Rattle.vx_plan_nodes.specs.Plan as plan
 use Rattle.vx_plan_nodes.specs.Types.{aggregate_type}
@@ -136,8 +136,18 @@ project_shape node cols os = kept_shape node cols os >>= λ ks. Ok (record { op 
 unfoldable pub distinct_shape : ℕ → Columns → List OutputForm → Result Shape Refusal
 distinct_shape node cols os = kept_shape node cols os >>= λ ks. Ok (record { op = plan.distinct (map (λ k. k.column) ks); renamed = map (λ k. k.renamed) ks; columns = kept_columns cols os ks })
 
-unfoldable pub sort_shape : ℕ → Columns → List Name → Result Shape Refusal
-sort_shape node cols names = find_columns node cols.names names >>= λ ps. test_distinct node names >>= λ u. Ok (record { op = plan.sort ps; renamed = []; columns = cols })
+-- of parts of groups, or of whole rows
+unfoldable pub sort_shape : Bool → ℕ → Columns → List Name → Result Shape Refusal
+sort_shape of_parts node cols names =
+    find_columns node cols.names names >>= λ ps. test_distinct node names >>= λ u. Ok (record { op = plan.sort of_parts ps; renamed = []; columns = cols })
+
+-- a partial group and a partial sort are to stand where groups are in parts
+unfoldable pub test_phase : ℕ → Bool → Result ⊤ Refusal
+test_phase node fits = if fits then Ok tt else Err (phase_mismatch node)
+
+-- a partial sort is to stand between a partial group and its final one
+unfoldable pub partial_sort_shape : Bool → ℕ → Columns → List Name → Result Shape Refusal
+partial_sort_shape between node cols names = test_phase node between >>= λ u. sort_shape true node cols names
 
 unfoldable pub find_function : ℕ → List Name → FunctionForm → Result Aggregate Refusal
 find_function node names (form.least c) = find_column node names c >>= λ p. Ok (plan.least p)
@@ -167,44 +177,62 @@ group_shape phase node cols by aggregates =
     find_group node cols.names by aggregates >>= λ g. test_group node cols.types (by ++ map (λ a. a.name) aggregates) g.1 >>= λ u.
     Ok (record { op = plan.group phase g.0 g.1; renamed = []; columns = group_columns cols by aggregates g.0 g.1 })
 
--- a partial group is to stand below a final one, with exchanges alone between
-unfoldable pub test_phase : ℕ → Bool → Result ⊤ Refusal
-test_phase node under = if under then Ok tt else Err (phase_mismatch node)
-
+-- a partial group is to stand below a final one, with exchanges and partial sorts alone between
 unfoldable pub partial_shape : Bool → ℕ → Columns → List Name → List AggregateForm → Result Shape Refusal
 partial_shape under node cols by aggregates = test_phase node under >>= λ u. group_shape plan.partial node cols by aggregates
 
--- the columns and the aggregates of a partial group
-abbrev pub parts_made : Unary → Option (List ℕ × List Aggregate)
-parts_made (plan.select cs) = None
-parts_made (plan.project cols) = None
-parts_made (plan.distinct cols) = None
-parts_made (plan.sort cols) = None
-parts_made (plan.group plan.plain by aggregates) = None
-parts_made (plan.group plan.partial by aggregates) = Some (by, aggregates)
-parts_made (plan.group plan.final by aggregates) = None
+-- the columns and the aggregates of a partial group, or of the one below a partial sort
+abbrev pub parts_made : Unary → Option (List ℕ × List Aggregate) → Option (List ℕ × List Aggregate)
+parts_made (plan.select cs) below = None
+parts_made (plan.project cols) below = None
+parts_made (plan.distinct cols) below = None
+parts_made (plan.sort false cols) below = None
+parts_made (plan.sort true cols) below = below
+parts_made (plan.group plan.plain by aggregates) below = None
+parts_made (plan.group plan.partial by aggregates) below = Some (by, aggregates)
+parts_made (plan.group plan.final by aggregates) below = None
 
--- the same of the first node from here down that is no exchange
+-- the same of the first node from here down that is neither an exchange nor a partial sort
 abbrev pub parts_of : Outline → Option (List ℕ × List Aggregate)
 parts_of (scan h r m z p) = None
-parts_of (unary h op flags t) = parts_made op
+parts_of (unary h op flags t) = parts_made op (parts_of t)
 parts_of (binary h op t u) = None
 parts_of (exchange h k m t) = parts_of t
 
--- a final group puts together what the partial one below it gives, and has its columns
-unfoldable pub final_shape : ℕ → Columns → Option (List ℕ × List Aggregate) → Result Shape Refusal
-final_shape node cols None = Err (phase_mismatch node)
-final_shape node cols (Some g) = Ok (record { op = plan.group plan.final (first_columns (length g.0)) (merged (length g.0) g.1); renamed = []; columns = cols })
+-- a partial sort, and those below it, are on columns before this one
+abbrev pub sort_before : ℕ → Unary → Bool → Bool
+sort_before end (plan.select cs) below = true
+sort_before end (plan.project cols) below = true
+sort_before end (plan.distinct cols) below = true
+sort_before end (plan.sort false cols) below = true
+sort_before end (plan.sort true cols) below = all_below end cols && below
+sort_before end (plan.group phase by aggregates) below = true
 
--- whether the way up through exchanges alone reaches a final group decides for a partial one
+-- the partial sorts from here down to the first node that is neither an exchange nor such a sort are on columns before this one
+abbrev pub sorts_before : ℕ → Outline → Bool
+sorts_before end (scan h r m z p) = true
+sorts_before end (unary h op flags t) = sort_before end op (sorts_before end t)
+sorts_before end (binary h op t u) = true
+sorts_before end (exchange h k m t) = sorts_before end t
+
+-- a final group puts together what the partial one below it gives, and has its columns. The sorts between are on columns that the partial one groups by
+unfoldable pub final_shape : ℕ → Outline → Option (List ℕ × List Aggregate) → Result Shape Refusal
+final_shape node t None = Err (phase_mismatch node)
+final_shape node t (Some g) =
+    test_phase node (sorts_before (length g.0) t) >>= λ u.
+    Ok (record { op = plan.group plan.final (first_columns (length g.0)) (merged (length g.0) g.1); renamed = []; columns = columns t })
+
+-- whether the way up through exchanges and partial sorts alone reaches a final group decides for a partial one and for a partial sort, which is
+-- to have a partial group below as well
 unfoldable pub unary_shape : Bool → ℕ → Outline → UnaryForm → Result Shape Refusal
 unary_shape under node t (form.select cs) = select_shape node (columns t) cs
 unary_shape under node t (form.project os) = project_shape node (columns t) os
 unary_shape under node t (form.distinct os) = distinct_shape node (columns t) os
-unary_shape under node t (form.sort names) = sort_shape node (columns t) names
+unary_shape under node t (form.sort names) = sort_shape false node (columns t) names
+unary_shape under node t (form.partial_sort names) = partial_sort_shape (under && is_some (parts_of t)) node (columns t) names
 unary_shape under node t (form.group by aggregates) = group_shape plan.plain node (columns t) by aggregates
 unary_shape under node t (form.partial_group by aggregates) = partial_shape under node (columns t) by aggregates
-unary_shape under node t form.final_group = final_shape node (columns t) (parts_of t)
+unary_shape under node t form.final_group = final_shape node t (parts_of t)
 
 unfoldable pub unary_typed : Names → Bool → ℕ → ClaimForm → UnaryForm → Outline → Result Outline Refusal
 unary_typed s under node c op t = unary_shape under node t op >>= λ o. with_claim s node o.columns c >>= λ h. Ok (unary h o.op o.renamed t)
@@ -287,20 +315,22 @@ exchange_typed s node c kind merge t =
 
 -- ---- the walk: nodes are numbered in preorder and tested in post-order
 
-abbrev pub is_final_form : UnaryForm → Bool
-is_final_form (form.select cs) = false
-is_final_form (form.project os) = false
-is_final_form (form.distinct os) = false
-is_final_form (form.sort names) = false
-is_final_form (form.group by aggregates) = false
-is_final_form (form.partial_group by aggregates) = false
-is_final_form form.final_group = true
+-- whether the way up from the input of an operator reaches a final group, where the flag says it of the operator itself
+abbrev pub under_final : Bool → UnaryForm → Bool
+under_final under (form.select cs) = false
+under_final under (form.project os) = false
+under_final under (form.distinct os) = false
+under_final under (form.sort names) = false
+under_final under (form.partial_sort names) = under
+under_final under (form.group by aggregates) = false
+under_final under (form.partial_group by aggregates) = false
+under_final under form.final_group = true
 
 -- the typed nodes of a tree whose top has this number, and the number after its last; the flag says whether the way up from here through
--- exchanges alone reaches a final group
+-- exchanges and partial sorts alone reaches a final group
 unfoldable pub typed_in : Names → Bool → ℕ → Tree → Result (Outline × ℕ) Refusal
 typed_in s under node (form.scan c f) = scan_typed s node c f >>= λ o. Ok (o, node + 1)
-typed_in s under node (form.unary c op t) = typed_in s (is_final_form op) (node + 1) t >>= λ i. unary_typed s under node c op i.0 >>= λ o. Ok (o, i.1)
+typed_in s under node (form.unary c op t) = typed_in s (under_final under op) (node + 1) t >>= λ i. unary_typed s under node c op i.0 >>= λ o. Ok (o, i.1)
 typed_in s under node (form.binary c op t u) =
     typed_in s false (node + 1) t >>= λ l. typed_in s false l.1 u >>= λ r. binary_typed s node c op l.0 r.0 >>= λ o. Ok (o, r.1)
 typed_in s under node (form.exchange c k m t) = typed_in s under (node + 1) t >>= λ i. exchange_typed s node c k m i.0 >>= λ o. Ok (o, i.1)

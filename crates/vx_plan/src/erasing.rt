@@ -1,4 +1,4 @@
-//! A typed plan without its exchanges: a group in two phases becomes one.
+//! A typed plan without its exchanges: a group in two phases becomes one, below the sorts between the two.
 
 ghost use Rattle.std.specs.Prelude.{◌≡◌, ◌+◌, ◌<◌, ◌≤◌, ◌^◌, false, string_bytes, IfOk, IfErr};
 ghost use Rattle.vx_plan_nodes.specs.Numbering.{nodes};
@@ -13,7 +13,7 @@ use std::alloc::{AllocError, Global};
 use std::sync::Arc;
 use vx_plan_json::PlanFault;
 use vx_plan_nodes::{
-    Binary, Claim, Head, Part, Phase, ScanNode, Size, TypedNode, TypedPlan, Unary,
+    Binary, Claim, Head, Part, Phase, ScanNode, Size, SortPhase, TypedNode, TypedPlan, Unary,
     copied_conditions,
 };
 use vx_rows_values::copied_ranges;
@@ -24,7 +24,7 @@ fn is_final(unary: &Unary) -> bool
     matches!(unary, Unary::Group(Phase::Final, _, _))
 }
 
-// A copy, of a group one in a single phase.
+// A copy, of a group one in a single phase, and of a sort one of whole rows.
 fn copied_unary(alloc: Global, unary: &Unary) -> Result<Unary, AllocError>
     ensures op { IfOk result (λ u. unary_of u ≡ at_once (unary_of unary.now)) }
     ensures renamed { IfOk result (λ u. renamed_of u ≡ renamed_of unary.now) }
@@ -36,7 +36,10 @@ fn copied_unary(alloc: Global, unary: &Unary) -> Result<Unary, AllocError>
         )?)),
         Unary::Project(kept) => Ok(Unary::Project(Vec::from_slice(alloc, kept.as_slice())?)),
         Unary::Distinct(kept) => Ok(Unary::Distinct(Vec::from_slice(alloc, kept.as_slice())?)),
-        Unary::Sort(columns) => Ok(Unary::Sort(Vec::from_slice(alloc, columns.as_slice())?)),
+        Unary::Sort(_, columns) => {
+            let columns = Vec::from_slice(alloc, columns.as_slice())?;
+            Ok(Unary::Sort(SortPhase::Plain, columns))
+        }
         Unary::Group(_, by, aggregates) => {
             let keys = Vec::from_slice(alloc, by.as_slice())?;
             let found = Vec::from_slice(alloc, aggregates.as_slice())?;
@@ -129,7 +132,7 @@ fn erased_from(alloc: Global, number: u32, node: &TypedNode) -> Result<(TypedNod
     }
 }
 
-/// The plan with every exchange replaced by its input, every group in two phases made one over the input of its partial, every scan whole and of one worker, every claim one stream
+/// The plan with every exchange replaced by its input, every group in two phases made one over the input of its partial, below the sorts between the two, every scan whole and of one worker, every claim one stream
 /// without order and keys, and not total. Nodes are numbered anew; declared sizes and ranges stay.
 pub fn erase(alloc: Global, typed: &TypedPlan) -> Result<TypedPlan, PlanFault>
     ensures plan { IfOk result (λ p. plan p ≡ erase (plan typed.now)) }

@@ -4,7 +4,7 @@ ghost use Rattle.std.specs.Prelude.{◌≡◌, ◌+◌, ◌<◌, ◌^◌, map, s
 ghost use Rattle.vx_plan_json.specs.Fault.{Gives};
 ghost use Rattle.vx_plan_json.specs.Document.{claim_form, scan_form, unary_form, binary_form, kind_form, tree_of, tree_nodes};
 ghost use Rattle.vx_plan_nodes.specs.Outline.{outline_of};
-ghost use Rattle.vx_plan.specs.Resolve.{is_final_form, scan_typed, unary_typed, binary_typed, exchange_typed, typed_in};
+ghost use Rattle.vx_plan.specs.Resolve.{under_final, scan_typed, unary_typed, binary_typed, exchange_typed, typed_in};
 ghost use Rattle.vx_plan.specs.Named.{names_of};
 
 use crate::binary_nodes::{Joint, binary_shape};
@@ -103,14 +103,19 @@ fn exchange_typed(
     Ok(TypedNode::Exchange(head, exchange, Box::new(alloc, input)?))
 }
 
-fn is_final(unary: &NamedUnary) -> bool
-    ensures { result ≡ is_final_form (unary_form unary.now) }
+// Whether the way up from the input of an operator reaches a final group, where the flag says it of the operator itself.
+fn under_final(under: bool, unary: &NamedUnary) -> bool
+    ensures { result ≡ under_final under (unary_form unary.now) }
 {
-    matches!(unary, NamedUnary::FinalGroup)
+    match unary {
+        NamedUnary::FinalGroup => true,
+        NamedUnary::PartialSort(_) => under,
+        _ => false,
+    }
 }
 
 /// The typed nodes of a tree whose top has this number, and the number after its last. The flag says whether the way up from
-/// here through exchanges alone reaches a final group.
+/// here through exchanges and partial sorts alone reaches a final group.
 #[tactic(auto, unfolding(crate::specs::Resolve::typed_in))]
 pub fn typed_in(
     alloc: Global,
@@ -129,7 +134,8 @@ pub fn typed_in(
             Ok((node, number + 1))
         }
         Node::Unary(claim, unary, input) => {
-            let (below, next) = typed_in(alloc, declared, is_final(unary), number + 1, input)?;
+            let reached = under_final(under, unary);
+            let (below, next) = typed_in(alloc, declared, reached, number + 1, input)?;
             let node = unary_typed(alloc, declared, under, number, claim, unary, below)?;
             Ok((node, next))
         }

@@ -1,46 +1,59 @@
-//! Groups in two phases: what a final group takes from its partial one.
+//! Groups in two phases: what a final group takes from its partial one, and what stands between the two.
 
 ghost use Rattle.std.specs.Prelude.{◌≡◌, ◌<◌, ◌^◌, map, option_map, IfOk};
+ghost use Rattle.vx_catalog_relations.specs.Catalog.{all_below};
 ghost use Rattle.vx_plan_json.specs.Fault.{Gives};
-ghost use Rattle.vx_plan_nodes.specs.Outline.{aggregate_of, unary_of, outline_of};
+ghost use Rattle.vx_plan_nodes.specs.Outline.{aggregate_of, outline_of};
 ghost use Rattle.vx_plan_nodes.specs.Phases.{first_columns, merged, merging};
-ghost use Rattle.vx_plan.specs.Resolve.{test_phase, parts_made, parts_of};
+ghost use Rattle.vx_plan.specs.Resolve.{test_phase, parts_of, sorts_before};
 
 use std::alloc::{AllocError, Global};
 use vx_plan_json::PlanFault;
-use vx_plan_nodes::{Aggregate, Phase, TypedNode, Unary};
+use vx_plan_nodes::{Aggregate, Phase, SortPhase, TypedNode, Unary};
 
-/// A partial group stands below a final one, with exchanges alone between.
+/// A partial group or a partial sort stands where groups are in parts.
 #[tactic(auto, unfolding(crate::specs::Resolve::test_phase))]
-pub fn test_phase(node: u32, under: bool) -> Result<(), PlanFault>
-    ensures { Gives (λ _. tt) result (test_phase node under) }
+pub fn test_phase(node: u32, fits: bool) -> Result<(), PlanFault>
+    ensures { Gives (λ _. tt) result (test_phase node fits) }
 {
-    if !under {
+    if !fits {
         return Err(PlanFault::PhaseMismatch { node });
     }
     Ok(())
 }
 
-// The columns and the aggregates of a partial group.
-fn parts_made(unary: &Unary) -> Option<(&[usize], &[Aggregate])>
-    ensures { option_map (λ g. (g.0.now, map aggregate_of g.1.now)) result ≡ parts_made (unary_of unary.now) }
-{
-    match unary {
-        Unary::Group(Phase::Partial, by, aggregates) => {
-            Some((by.as_slice(), aggregates.as_slice()))
-        }
-        _ => None,
-    }
-}
-
-/// The same of the first node from here down that is no exchange.
+/// The columns and the aggregates of the first node from here down that is neither an exchange nor a partial sort, if it is a
+/// partial group.
 pub fn parts_of(node: &TypedNode) -> Option<(&[usize], &[Aggregate])>
     ensures { option_map (λ g. (g.0.now, map aggregate_of g.1.now)) result ≡ parts_of (outline_of node.now) }
 {
     match node {
-        TypedNode::Unary(_, unary, _) => parts_made(unary),
+        TypedNode::Unary(_, Unary::Group(Phase::Partial, by, aggregates), _) => {
+            Some((by.as_slice(), aggregates.as_slice()))
+        }
+        TypedNode::Unary(_, Unary::Sort(SortPhase::Partial, _), input) => parts_of(input),
         TypedNode::Exchange(_, _, input) => parts_of(input),
-        TypedNode::Scan(_, _) | TypedNode::Binary(_, _, _, _) => None,
+        _ => None,
+    }
+}
+
+// Whether all columns are before this one.
+fn are_before(end: usize, columns: &[usize]) -> bool
+    ensures { result ≡ all_below end columns.now }
+{
+    columns.iter().all(|column| *column < end)
+}
+
+/// Whether the partial sorts from here down to the first node that is neither an exchange nor such a sort are on columns before this one.
+pub fn sorts_before(end: usize, node: &TypedNode) -> bool
+    ensures { result ≡ sorts_before end (outline_of node.now) }
+{
+    match node {
+        TypedNode::Unary(_, Unary::Sort(SortPhase::Partial, columns), input) => {
+            are_before(end, columns.as_slice()) && sorts_before(end, input)
+        }
+        TypedNode::Exchange(_, _, input) => sorts_before(end, input),
+        _ => true,
     }
 }
 

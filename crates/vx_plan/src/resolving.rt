@@ -62,8 +62,9 @@ fn test_ranges(alloc: Global, ranges: &[NamedRange]) -> Result<(), PlanFault>
 
 /// The typed plan of a plan over a catalog: column positions, types, and preorder numbers of nodes, the left input
 /// before the right one. The refusal is the first: the sizes' `BadSize`, the ranges' `BadRange`, then the nodes in
-/// post-order. At a node `PhaseMismatch` comes first: of a final group over no partial one, and of a partial group from which
-/// no way up through exchanges alone leads to a final one. Then the tests of its operator come before those of its claim,
+/// post-order. At a node `PhaseMismatch` comes first: of a final group over no partial one, or over a partial sort on a column that
+/// the partial one does not group by; of a partial group from which no way up through exchanges and partial sorts alone leads to a
+/// final one; and of a partial sort that stands on no such way. Then the tests of its operator come before those of its claim,
 /// each in the order `UnknownRelation`, `BadSize`, `UnknownRange`, `UnknownColumn`, `DuplicateColumn`, `TooWide`, `TypeMismatch`.
 #[tactic(auto, unfolding(crate::specs::Resolve::resolved))]
 pub fn resolve(alloc: Global, plan: &Plan, catalog: &Catalog) -> Result<TypedPlan, PlanFault>

@@ -4,21 +4,21 @@ ghost use Rattle.std.specs.Prelude.{◌≡◌, map, string_bytes, IfOk};
 ghost use Rattle.std.specs.Arc.{arc_value};
 ghost use Rattle.vx_plan_json.specs.Fault.{Gives};
 ghost use Rattle.vx_plan_json.specs.Document.{side_form, condition_form, output_form, function_form, aggregate_form, unary_form};
-ghost use Rattle.vx_plan_nodes.specs.Outline.{side_of, condition_of, aggregate_of, phase_of, columns_of, columns, outline_of};
-ghost use Rattle.vx_plan.specs.Resolve.{find_side, find_condition, find_conditions, select_shape, output_name, find_kept, find_all_kept, kept_shape, project_shape, distinct_shape, sort_shape, find_function, find_aggregates, find_group, test_group, group_shape, partial_shape, parts_of, final_shape, unary_shape};
+ghost use Rattle.vx_plan_nodes.specs.Outline.{side_of, condition_of, aggregate_of, phase_of, is_of_parts, columns_of, columns, outline_of};
+ghost use Rattle.vx_plan.specs.Resolve.{find_side, find_condition, find_conditions, select_shape, output_name, find_kept, find_all_kept, kept_shape, project_shape, distinct_shape, sort_shape, partial_sort_shape, find_function, find_aggregates, find_group, test_group, group_shape, partial_shape, parts_of, final_shape, unary_shape};
 ghost use Rattle.vx_plan.specs.Shaped.{shape_of};
 
 use crate::columns::{columns, group_names, group_types, kept_types, output_names, own_columns};
 use crate::fits::{are_aggregates, are_conditions};
 use crate::lookup::{find_column, find_columns, test_distinct, test_match, test_width};
-use crate::phases::{first_columns, merged, parts_of, test_phase};
+use crate::phases::{first_columns, merged, parts_of, sorts_before, test_phase};
 use std::alloc::Global;
 use std::sync::Arc;
 use vx_plan_json::{
     NamedAggregate, NamedCondition, NamedFunction, NamedOutput, NamedSide, NamedUnary, PlanFault,
 };
 use vx_plan_nodes::{
-    Aggregate, Columns, Condition, Name, Phase, Projected, Side, TypedNode, Unary,
+    Aggregate, Columns, Condition, Name, Phase, Projected, Side, SortPhase, TypedNode, Unary,
 };
 use vx_rows_values::ColType;
 
@@ -186,19 +186,35 @@ fn distinct_shape(
 #[tactic(auto, unfolding(crate::specs::Resolve::sort_shape))]
 fn sort_shape(
     alloc: Global,
+    phase: SortPhase,
     node: u32,
     input: &Arc<Columns>,
     names: &[String],
 ) -> Result<UnaryShape, PlanFault>
-    ensures { Gives shape_of result (sort_shape node (columns_of (arc_value input.now)) (map string_bytes names.now)) }
+    ensures { Gives shape_of result (sort_shape (is_of_parts phase) node (columns_of (arc_value input.now)) (map string_bytes names.now)) }
 {
     let found = find_columns(alloc, node, input.names.as_slice(), names)?;
     test_distinct(alloc, node, names)?;
     let columns = Arc::try_clone(input)?;
     Ok(UnaryShape {
-        unary: Unary::Sort(found),
+        unary: Unary::Sort(phase, found),
         columns,
     })
+}
+
+// A partial sort is to stand between a partial group and its final one.
+#[tactic(auto, unfolding(crate::specs::Resolve::partial_sort_shape))]
+fn partial_sort_shape(
+    alloc: Global,
+    between: bool,
+    node: u32,
+    input: &Arc<Columns>,
+    names: &[String],
+) -> Result<UnaryShape, PlanFault>
+    ensures { Gives shape_of result (partial_sort_shape between node (columns_of (arc_value input.now)) (map string_bytes names.now)) }
+{
+    test_phase(node, between)?;
+    sort_shape(alloc, SortPhase::Partial, node, input, names)
 }
 
 #[tactic(auto, unfolding(crate::specs::Resolve::find_function))]
@@ -321,14 +337,16 @@ fn partial_shape(
     group_shape(alloc, Phase::Partial, node, input, by, aggregates)
 }
 
-// A final group puts together what the partial one below it gives, and has its columns.
+// A final group puts together what the partial one below it gives, and has its columns. The sorts between are on columns that the
+// partial one groups by.
 #[tactic(auto, unfolding(crate::specs::Resolve::final_shape))]
 fn final_shape(alloc: Global, node: u32, input: &TypedNode) -> Result<UnaryShape, PlanFault>
-    ensures { Gives shape_of result (final_shape node (columns (outline_of input.now)) (parts_of (outline_of input.now))) }
+    ensures { Gives shape_of result (final_shape node (outline_of input.now) (parts_of (outline_of input.now))) }
 {
     let Some((by, aggregates)) = parts_of(input) else {
         return Err(PlanFault::PhaseMismatch { node });
     };
+    test_phase(node, sorts_before(by.len(), input))?;
     let keys = first_columns(alloc, by.len())?;
     let found = merged(alloc, by.len(), aggregates)?;
     let columns = Arc::try_clone(columns(input))?;
@@ -338,8 +356,8 @@ fn final_shape(alloc: Global, node: u32, input: &TypedNode) -> Result<UnaryShape
     })
 }
 
-/// An operator by positions, and its output. Whether the way up through exchanges alone reaches a final group decides for a
-/// partial one.
+/// An operator by positions, and its output. Whether the way up through exchanges and partial sorts alone reaches a final group
+/// decides for a partial one and for a partial sort, which is to have a partial group below as well.
 #[tactic(auto, unfolding(crate::specs::Resolve::unary_shape))]
 pub fn unary_shape(
     alloc: Global,
@@ -355,7 +373,13 @@ pub fn unary_shape(
         NamedUnary::Select(conditions) => select_shape(alloc, node, columns, conditions.as_slice()),
         NamedUnary::Project(outputs) => project_shape(alloc, node, columns, outputs.as_slice()),
         NamedUnary::Distinct(outputs) => distinct_shape(alloc, node, columns, outputs.as_slice()),
-        NamedUnary::Sort(names) => sort_shape(alloc, node, columns, names.as_slice()),
+        NamedUnary::Sort(names) => {
+            sort_shape(alloc, SortPhase::Plain, node, columns, names.as_slice())
+        }
+        NamedUnary::PartialSort(names) => {
+            let between = under && parts_of(input).is_some();
+            partial_sort_shape(alloc, between, node, columns, names.as_slice())
+        }
         NamedUnary::Group(by, aggregates) => {
             let (by, aggregates) = (by.as_slice(), aggregates.as_slice());
             group_shape(alloc, Phase::Plain, node, columns, by, aggregates)

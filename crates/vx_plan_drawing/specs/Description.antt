@@ -5,7 +5,7 @@ use Rattle.serde_json.specs.Data.{string}
 use Rattle.serde_json.specs.Written.{compact_text}
 use Rattle.vx_rows_values.specs.Values.{Val, num, text, Name}
 use Rattle.vx_rows_values.specs.Test.{test_text}
-use Rattle.vx_plan_json.specs.Document.{PartForm, one, any, all, hash_part, range_part, ClaimForm, SideForm, column, constant, ConditionForm, OutputForm, FunctionForm, least, greatest, sum, count_rows, AggregateForm, ScanForm, UnaryForm, select, project, distinct, sort, group, partial_group, final_group, BinaryForm, union, join, KindForm, hash, range, round, broadcast, gather, concat, Tree, scan, unary, binary, exchange}
+use Rattle.vx_plan_json.specs.Document.{PartForm, one, any, all, hash_part, range_part, ClaimForm, SideForm, column, constant, ConditionForm, OutputForm, FunctionForm, least, greatest, sum, count_rows, AggregateForm, ScanForm, UnaryForm, select, project, distinct, sort, partial_sort, group, partial_group, final_group, BinaryForm, union, join, KindForm, hash, range, round, broadcast, gather, concat, Tree, scan, unary, binary, exchange}
 
 -- texts in a row, a separator before each but the first
 abbrev pub separated : List ℕ → (is_later : Bool) → List (List ℕ) → List ℕ
@@ -97,6 +97,7 @@ unary_text (select cs) = codes "select " ++ separated (codes " and ") false (map
 unary_text (project outputs) = codes "project [" ++ kept_list outputs
 unary_text (distinct outputs) = codes "distinct [" ++ kept_list outputs
 unary_text (sort names) = codes "sort " ++ list_text names
+unary_text (partial_sort names) = codes "partial-sort " ++ list_text names
 unary_text (group by aggregates) = codes "group " ++ group_text by aggregates
 unary_text (partial_group by aggregates) = codes "partial-group " ++ group_text by aggregates
 unary_text final_group = codes "final-group"

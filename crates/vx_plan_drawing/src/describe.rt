@@ -188,6 +188,10 @@ fn push_unary(alloc: Global, text: &mut String, operator: &NamedUnary) -> Result
             text.push_str("sort ")?;
             push_list(text, columns.as_slice())
         }
+        NamedUnary::PartialSort(columns) => {
+            text.push_str("partial-sort ")?;
+            push_list(text, columns.as_slice())
+        }
         NamedUnary::Group(by, aggregates) => {
             push_group(text, "group ", by.as_slice(), aggregates.as_slice())
         }

@@ -11,11 +11,11 @@ use Rattle.vx_rows_values.specs.Test as comparison
 use Rattle.vx_catalog_json.specs.Look.{name_in, each_onto}
 use Rattle.vx_plan_json.specs.Look.{name_at, text_at, value_in, each_in, some_in}
 use Rattle.vx_rows_values.specs.Lists.{is_some_list}
-use Rattle.vx_plan_json.specs.Document.{PartForm, one, any, all, hash_part, range_part, ClaimForm, SideForm, column, constant, ConditionForm, OutputForm, FunctionForm, least, greatest, sum, count_rows, AggregateForm, ScanForm, UnaryForm, select, project, distinct, sort, group, partial_group, final_group, BinaryForm, union, join, KindForm, hash, range, round, broadcast, gather, concat, Tree, scan, unary, binary, exchange, Document, tree_nodes, tree_levels}
+use Rattle.vx_plan_json.specs.Document.{PartForm, one, any, all, hash_part, range_part, ClaimForm, SideForm, column, constant, ConditionForm, OutputForm, FunctionForm, least, greatest, sum, count_rows, AggregateForm, ScanForm, UnaryForm, select, project, distinct, sort, partial_sort, group, partial_group, final_group, BinaryForm, union, join, KindForm, hash, range, round, broadcast, gather, concat, Tree, scan, unary, binary, exchange, Document, tree_nodes, tree_levels}
 use Rattle.vx_rows_values.specs.Ranges.{RangeForm}
 use Rattle.vx_plan_json.specs.Form.{names_in, some_names_in, hash_part_in, range_part_in, part_in, keys_in, claim_in, claimed, test_named, side_in, condition_in, renamed_in, output_in, function_at, aggregate_in, pair_in}
 use Rattle.vx_plan_json.specs.Formed.{are_names, are_some_names, is_range_form, is_head_form, is_part_form, is_claim_form, is_side_form, is_condition_form, is_new_name, is_output_form, is_function_form, is_aggregate_form, is_scan_form, is_unary_form, is_pair_form, is_binary_form, is_kind_form, is_merge_form, is_tree_form}
-use Rattle.vx_plan_json.specs.Operators.{own_scan, own_unary, own_binary, own_exchange, own_in, scan_in, scan_own, select_in, outputs_in, sort_in, lists_in, group_in, partial_in, final_in, phased_in, unary_in, unary_own, join_in, union_in, hash_in, range_in, sized_in, gather_in, concat_in, kind_in, merge_in, exchange_own}
+use Rattle.vx_plan_json.specs.Operators.{own_scan, own_unary, own_binary, own_exchange, own_in, scan_in, scan_own, select_in, outputs_in, sort_in, partial_sort_in, sorted_in, lists_in, group_in, partial_in, final_in, phased_in, unary_in, unary_own, join_in, union_in, hash_in, range_in, sized_in, gather_in, concat_in, kind_in, merge_in, exchange_own}
 use Rattle.vx_plan_json.specs.Reading.{node_in, declared_in, head_of, head_in, document_in}
 use Rattle.vx_plan_json.specs.Written.{list_json, names_json, value_json, with_some, with_text, range_json, part_json, with_part, claim_members, with_object, with_claim, with_side, condition_json, output_json, with_function, aggregate_json, pair_json, with_scan, with_unary, with_binary, with_kind, scan_json, unary_json, binary_json, exchange_json, node_json, with_total, document_json}
 use Rattle.vx_plan_json.proofs.Holds.{and-left, and-right}
@@ -197,11 +197,12 @@ scan-back c s h k =
     (λ e c g. scan_claimed e c g s.relation s.shared s.size s.prefix r z) c h
 
 unary_bare : (op : UnaryForm) (d : Data) → is_unary_form op ≡ true → own_in (object (put (codes "input") d (with_unary op no_members))) ≡ Some (own_unary bare op d)
-unfolding own_in text_at unary_own unary_in select_in outputs_in sort_in lists_in group_in partial_in final_in phased_in claimed
+unfolding own_in text_at unary_own unary_in select_in outputs_in sort_in partial_sort_in sorted_in lists_in group_in partial_in final_in phased_in claimed
 unary_bare (select cs) d h = rw (some-back is_condition_form condition_in condition_json condition-back cs h) refl
 unary_bare (project os) d h = rw (some-back is_output_form output_in output_json output-back os h) refl
 unary_bare (distinct os) d h = rw (some-back is_output_form output_in output_json output-back os h) refl
 unary_bare (sort cols) d h = rw (some_names-back cols h) refl
+unary_bare (partial_sort cols) d h = rw (some_names-back cols h) refl
 unary_bare (group [] []) d h = cc
 unary_bare (group [] (a ∷ as')) d h = rw (names-back [] refl, list-back is_aggregate_form aggregate_in aggregate_json aggregate-back (a ∷ as') h) refl
 unary_bare (group (n ∷ ns) as') d h = rw (names-back (n ∷ ns) (and-left (are_names (n ∷ ns)) (list_all is_aggregate_form as') h), list-back is_aggregate_form aggregate_in aggregate_json aggregate-back as' (and-right (are_names (n ∷ ns)) (list_all is_aggregate_form as') h)) refl
@@ -212,11 +213,12 @@ unary_bare final_group d h = refl
 
 unary_claimed : (e : Data) (c : ClaimForm) → claim_in e ≡ Some c → (op : UnaryForm) (d : Data) → is_unary_form op ≡ true
     → own_in (object (put (codes "input") d (with_unary op (member (codes "claim") e no_members)))) ≡ Some (own_unary c op d)
-unfolding own_in text_at unary_own unary_in select_in outputs_in sort_in lists_in group_in partial_in final_in phased_in claimed
+unfolding own_in text_at unary_own unary_in select_in outputs_in sort_in partial_sort_in sorted_in lists_in group_in partial_in final_in phased_in claimed
 unary_claimed e c g (select cs) d h = rw (g, some-back is_condition_form condition_in condition_json condition-back cs h) refl
 unary_claimed e c g (project os) d h = rw (g, some-back is_output_form output_in output_json output-back os h) refl
 unary_claimed e c g (distinct os) d h = rw (g, some-back is_output_form output_in output_json output-back os h) refl
 unary_claimed e c g (sort cols) d h = rw (g, some_names-back cols h) refl
+unary_claimed e c g (partial_sort cols) d h = rw (g, some_names-back cols h) refl
 unary_claimed e c g (group [] []) d h = cc
 unary_claimed e c g (group [] (a ∷ as')) d h = rw (g, names-back [] refl, list-back is_aggregate_form aggregate_in aggregate_json aggregate-back (a ∷ as') h) refl
 unary_claimed e c g (group (n ∷ ns) as') d h = rw (g, names-back (n ∷ ns) (and-left (are_names (n ∷ ns)) (list_all is_aggregate_form as') h), list-back is_aggregate_form aggregate_in aggregate_json aggregate-back as' (and-right (are_names (n ∷ ns)) (list_all is_aggregate_form as') h)) refl

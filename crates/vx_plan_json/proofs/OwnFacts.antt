@@ -8,9 +8,9 @@ use Rattle.vx_plan_json.specs.Look.{name_at, text_at, each_in, some_in, or_defau
 use Rattle.vx_rows_values.specs.Lists.{is_some_list}
 use Rattle.vx_plan_json.specs.Fault.{Refusal, too_deep, ◌>>=◌}
 use Rattle.vx_rows_values.specs.Values.{Name}
-use Rattle.vx_plan_json.specs.Document.{AggregateForm, select, project, distinct, sort, group, partial_group, final_group, BinaryForm, union, join, hash, range, round, broadcast, gather, concat, KindForm, Tree, unary, binary, exchange}
+use Rattle.vx_plan_json.specs.Document.{AggregateForm, select, project, distinct, sort, partial_sort, group, partial_group, final_group, BinaryForm, union, join, hash, range, round, broadcast, gather, concat, KindForm, Tree, unary, binary, exchange}
 use Rattle.vx_plan_json.specs.Form.{names_in, some_names_in, claimed, condition_in, output_in, aggregate_in, pair_in}
-use Rattle.vx_plan_json.specs.Operators.{OwnForm, own_scan, own_unary, own_binary, own_exchange, mode_named, scan_in, scan_own, select_in, outputs_in, sort_in, group_or, lists_in, group_in, partial_in, final_in, phase_named, group_by, phased_in, unary_in, unary_own, method_named, join_in, union_in, binary_own, hash_in, range_in, sized_in, gather_in, concat_in, kind_in, merge_in, merge_by, exchange_own, own_named, own_in}
+use Rattle.vx_plan_json.specs.Operators.{OwnForm, own_scan, own_unary, own_binary, own_exchange, mode_named, scan_in, scan_own, select_in, outputs_in, sort_in, partial_sort_in, sort_named, sort_by, sorted_in, group_or, lists_in, group_in, partial_in, final_in, phase_named, group_by, phased_in, unary_in, unary_own, method_named, join_in, union_in, binary_own, hash_in, range_in, sized_in, gather_in, concat_in, kind_in, merge_in, merge_by, exchange_own, own_named, own_in}
 use Rattle.vx_plan_json.specs.Reading.{node_in, with_inputs}
 use Rattle.vx_plan_json.specs.Formed.{are_names, are_some_names, is_claim_form, is_condition_form, is_output_form, is_aggregate_form, is_scan_form, is_group_form, is_unary_form, is_pair_form, is_binary_form, is_kind_form, is_merge_form, is_tree_form}
 use Rattle.vx_plan_json.proofs.Holds.{and-left, and-right, and-both, Within, within_then, within_any, within_map, within_if, Holds, holds_then}
@@ -63,6 +63,23 @@ sort-within d =
     within_if is_unary_form (has_only (codes "op" ∷ codes "columns" ∷ codes "input" ∷ codes "claim" ∷ []) d) _ None
     (within_map are_some_names is_unary_form sort (option_and_then some_names_in (get (codes "columns") d)) (within_any are_some_names some_names_in (get (codes "columns") d) some_names_within) (λ ns h. h)) tt
 
+partial_sort-within : (d : Data) → Within is_unary_form (partial_sort_in d)
+unfolding partial_sort_in
+partial_sort-within d =
+    within_if is_unary_form (has_only (codes "op" ∷ codes "phase" ∷ codes "columns" ∷ codes "input" ∷ codes "claim" ∷ []) d) _ None
+    (within_map are_some_names is_unary_form partial_sort (option_and_then some_names_in (get (codes "columns") d)) (within_any are_some_names some_names_in (get (codes "columns") d) some_names_within) (λ ns h. h)) tt
+
+sort_named-within : (s : List ℕ) (d : Data) → Within is_unary_form (sort_named s d)
+sort_named-within s d = within_if is_unary_form (bytes_eq s (codes "partial")) (partial_sort_in d) None (partial_sort-within d) tt
+
+sort_by-within : (o : Option Data) (d : Data) → Within is_unary_form (sort_by o d)
+sort_by-within None d = sort-within d
+sort_by-within (Some p) d = within_any is_unary_form (λ s. sort_named s d) (as_str p) (λ s. sort_named-within s d)
+
+sorted-within : (d : Data) → Within is_unary_form (sorted_in d)
+unfolding sorted_in
+sorted-within d = sort_by-within (get (codes "phase") d) d
+
 group_or-within : (by : List Name) (aggregates : List AggregateForm) → are_names by ≡ true → list_all is_aggregate_form aggregates ≡ true → Within (λ (g : List Name × List AggregateForm). is_group_form g.0 g.1) (group_or by aggregates)
 group_or-within [] [] h k = tt
 group_or-within [] (a ∷ as') h k = k
@@ -112,7 +129,7 @@ unary-within s d =
     within_if is_unary_form (bytes_eq s (codes "select")) (select_in d) _ (select-within d)
     (within_if is_unary_form (bytes_eq s (codes "project")) (option_map project (outputs_in d)) _ (within_map (λ xs. is_some_list xs && list_all is_output_form xs) is_unary_form project (outputs_in d) (outputs-within d) (λ os h. h))
     (within_if is_unary_form (bytes_eq s (codes "distinct")) (option_map distinct (outputs_in d)) _ (within_map (λ xs. is_some_list xs && list_all is_output_form xs) is_unary_form distinct (outputs_in d) (outputs-within d) (λ os h. h))
-    (within_if is_unary_form (bytes_eq s (codes "sort")) (sort_in d) _ (sort-within d)
+    (within_if is_unary_form (bytes_eq s (codes "sort")) (sorted_in d) _ (sorted-within d)
     (within_if is_unary_form (bytes_eq s (codes "group")) (phased_in d) None (phased-within d) tt))))
 
 unary_own-within : (s : List ℕ) (d : Data) → Within is_own_form (unary_own s d)

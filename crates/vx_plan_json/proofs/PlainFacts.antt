@@ -10,7 +10,7 @@ use Rattle.serde_json.specs.View.{items_of, members_view}
 use Rattle.serde_json.specs.declared.value.Value.{Value}
 use Rattle.vx_rows_values.specs.Values.{Val, num, text, Name}
 use Rattle.vx_rows_values.specs.Test.{test_text}
-use Rattle.vx_plan_json.specs.Document.{PartForm, one, any, all, hash_part, range_part, ClaimForm, SideForm, column, constant, ConditionForm, OutputForm, FunctionForm, least, greatest, sum, count_rows, AggregateForm, ScanForm, UnaryForm, select, project, distinct, sort, group, partial_group, final_group, BinaryForm, union, join, KindForm, hash, range, round, broadcast, gather, concat, Tree, scan, unary, binary, exchange, Document, tree_levels}
+use Rattle.vx_plan_json.specs.Document.{PartForm, one, any, all, hash_part, range_part, ClaimForm, SideForm, column, constant, ConditionForm, OutputForm, FunctionForm, least, greatest, sum, count_rows, AggregateForm, ScanForm, UnaryForm, select, project, distinct, sort, partial_sort, group, partial_group, final_group, BinaryForm, union, join, KindForm, hash, range, round, broadcast, gather, concat, Tree, scan, unary, binary, exchange, Document, tree_levels}
 use Rattle.vx_rows_values.specs.Ranges.{RangeForm}
 use Rattle.vx_plan_json.specs.Written.{list_json, names_json, value_json, with_some, with_text, range_json, part_json, with_part, claim_members, with_object, with_claim, with_side, condition_json, renamed_json, output_json, with_call, with_function, aggregate_json, pair_json, with_some_text, mode_text, with_scan, with_lists, with_phase, with_unary, method_text, with_binary, with_kind, node_json, with_total, document_json}
 
@@ -174,6 +174,8 @@ with_unary-plain (select cs) ms q = put-plain 3 (codes "where") _ _ (more (omega
 with_unary-plain (project os) ms q = put-plain 3 (codes "columns") _ _ (more (omega arith) (list-plain 1 output_json output-plain os)) (with_text-plain 3 (codes "op") (codes "project") ms q)
 with_unary-plain (distinct os) ms q = put-plain 3 (codes "columns") _ _ (more (omega arith) (list-plain 1 output_json output-plain os)) (with_text-plain 3 (codes "op") (codes "distinct") ms q)
 with_unary-plain (sort cols) ms q = put-plain 3 (codes "columns") _ _ (names-plain 2 cols) (with_text-plain 3 (codes "op") (codes "sort") ms q)
+with_unary-plain (partial_sort cols) ms q =
+    put-plain 3 (codes "columns") _ _ (names-plain 2 cols) (with_text-plain 3 (codes "phase") (codes "partial") _ (with_text-plain 3 (codes "op") (codes "sort") ms q))
 with_unary-plain (group by aggregates) ms q = lists-plain by aggregates _ (with_text-plain 3 (codes "op") (codes "group") ms q)
 with_unary-plain (partial_group by aggregates) ms q = lists-plain by aggregates _ (phase-plain (codes "partial") ms q)
 with_unary-plain final_group ms q = phase-plain (codes "final") ms q

@@ -68,12 +68,13 @@ pub record ScanForm : Type 0 where
   pub size : Name
   pub prefix : List ℕ
 
--- a final group has the columns and the aggregates of the partial one below it
+-- a partial sort is of parts of groups; a final group has the columns and the aggregates of the partial one below it
 pub data UnaryForm : Type 0 where
   select : List ConditionForm → UnaryForm
   project : List OutputForm → UnaryForm
   distinct : List OutputForm → UnaryForm
   sort : List Name → UnaryForm
+  partial_sort : List Name → UnaryForm
   group : List Name → List AggregateForm → UnaryForm
   partial_group : List Name → List AggregateForm → UnaryForm
   final_group : UnaryForm
@@ -156,6 +157,7 @@ unary_form (op.Select conditions) = select (map condition_form conditions.items)
 unary_form (op.Project outputs) = project (map output_form outputs.items)
 unary_form (op.Distinct outputs) = distinct (map output_form outputs.items)
 unary_form (op.Sort columns) = sort (map string_bytes columns.items)
+unary_form (op.PartialSort columns) = partial_sort (map string_bytes columns.items)
 unary_form (op.Group by aggregates) = group (map string_bytes by.items) (map aggregate_form aggregates.items)
 unary_form (op.PartialGroup by aggregates) = partial_group (map string_bytes by.items) (map aggregate_form aggregates.items)
 unary_form op.FinalGroup = final_group

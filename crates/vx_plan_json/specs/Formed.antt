@@ -4,7 +4,7 @@ use Rattle.std.specs.List.{list_all}
 use Rattle.vx_rows_values.specs.Types.{is_held}
 use Rattle.vx_rows_values.specs.Lists.{is_some_list}
 use Rattle.vx_rows_values.specs.Values.{Name}
-use Rattle.vx_plan_json.specs.Document.{PartForm, one, any, all, hash_part, range_part, ClaimForm, SideForm, column, constant, ConditionForm, OutputForm, FunctionForm, least, greatest, sum, count_rows, AggregateForm, ScanForm, UnaryForm, select, project, distinct, sort, group, partial_group, final_group, BinaryForm, union, join, KindForm, hash, range, round, broadcast, gather, concat, Tree, scan, unary, binary, exchange}
+use Rattle.vx_plan_json.specs.Document.{PartForm, one, any, all, hash_part, range_part, ClaimForm, SideForm, column, constant, ConditionForm, OutputForm, FunctionForm, least, greatest, sum, count_rows, AggregateForm, ScanForm, UnaryForm, select, project, distinct, sort, partial_sort, group, partial_group, final_group, BinaryForm, union, join, KindForm, hash, range, round, broadcast, gather, concat, Tree, scan, unary, binary, exchange}
 use Rattle.vx_rows_values.specs.Ranges.{RangeForm}
 
 abbrev pub are_names : List Name → Bool
@@ -66,6 +66,7 @@ is_unary_form (select cs) = is_some_list cs && list_all is_condition_form cs
 is_unary_form (project os) = is_some_list os && list_all is_output_form os
 is_unary_form (distinct os) = is_some_list os && list_all is_output_form os
 is_unary_form (sort names) = are_some_names names
+is_unary_form (partial_sort names) = are_some_names names
 is_unary_form (group by aggregates) = is_group_form by aggregates
 is_unary_form (partial_group by aggregates) = is_group_form by aggregates
 is_unary_form final_group = true

@@ -6,7 +6,7 @@ use Rattle.serde_json.specs.View.{view}
 use Rattle.vx_catalog_json.specs.Look.{has_only}
 use Rattle.vx_plan_json.specs.Look.{name_at, text_at, each_in, some_in, or_default}
 use Rattle.vx_rows_values.specs.Values.{Name}
-use Rattle.vx_plan_json.specs.Document.{ClaimForm, ScanForm, OutputForm, AggregateForm, UnaryForm, select, project, distinct, sort, group, partial_group, final_group, BinaryForm, union, join, KindForm, hash, range, round, broadcast, gather, concat, claim_form, scan_form, unary_form, binary_form, kind_form}
+use Rattle.vx_plan_json.specs.Document.{ClaimForm, ScanForm, OutputForm, AggregateForm, UnaryForm, select, project, distinct, sort, partial_sort, group, partial_group, final_group, BinaryForm, union, join, KindForm, hash, range, round, broadcast, gather, concat, claim_form, scan_form, unary_form, binary_form, kind_form}
 use Rattle.vx_plan_json.specs.Form.{names_in, some_names_in, claimed, condition_in, output_in, aggregate_in, pair_in}
 use Rattle.vx_plan_json.specs.declared.operators.Own.{Own}
 use Rattle.vx_plan_json.specs.declared.operators.Own.TheVariants as own
@@ -61,6 +61,21 @@ unfoldable pub sort_in : Data → Option UnaryForm
 sort_in d = if has_only (codes "op" ∷ codes "columns" ∷ codes "input" ∷ codes "claim" ∷ []) d
     then option_map sort (option_and_then some_names_in (get (codes "columns") d)) else None
 
+unfoldable pub partial_sort_in : Data → Option UnaryForm
+partial_sort_in d = if has_only (codes "op" ∷ codes "phase" ∷ codes "columns" ∷ codes "input" ∷ codes "claim" ∷ []) d
+    then option_map partial_sort (option_and_then some_names_in (get (codes "columns") d)) else None
+
+abbrev pub sort_named : List ℕ → Data → Option UnaryForm
+sort_named s d = if bytes_eq s (codes "partial") then partial_sort_in d else None
+
+-- a sort by what its member `phase` says, if there is one
+abbrev pub sort_by : Option Data → Data → Option UnaryForm
+sort_by None d = sort_in d
+sort_by (Some p) d = option_and_then (λ s. sort_named s d) (as_str p)
+
+unfoldable pub sorted_in : Data → Option UnaryForm
+sorted_in d = sort_by (get (codes "phase") d) d
+
 -- not both lists are empty
 abbrev pub group_or : List Name → List AggregateForm → Option (List Name × List AggregateForm)
 group_or [] [] = None
@@ -101,7 +116,7 @@ unary_in s d =
     if bytes_eq s (codes "select") then select_in d
     else (if bytes_eq s (codes "project") then option_map project (outputs_in d)
     else (if bytes_eq s (codes "distinct") then option_map distinct (outputs_in d)
-    else (if bytes_eq s (codes "sort") then sort_in d
+    else (if bytes_eq s (codes "sort") then sorted_in d
     else (if bytes_eq s (codes "group") then phased_in d else None))))
 
 unfoldable pub unary_own : List ℕ → Data → Option OwnForm

@@ -5,7 +5,7 @@ use Rattle.serde_json.specs.Find.{of_integer}
 use Rattle.serde_json.specs.View.{items_of}
 use Rattle.vx_rows_values.specs.Values.{Val, num, text, Name}
 use Rattle.vx_rows_values.specs.Test as comparison
-use Rattle.vx_plan_json.specs.Document.{PartForm, one, any, all, hash_part, range_part, ClaimForm, SideForm, column, constant, ConditionForm, OutputForm, FunctionForm, least, greatest, sum, count_rows, AggregateForm, ScanForm, UnaryForm, select, project, distinct, sort, group, partial_group, final_group, BinaryForm, union, join, KindForm, hash, range, round, broadcast, gather, concat, Tree, scan, unary, binary, exchange, Document}
+use Rattle.vx_plan_json.specs.Document.{PartForm, one, any, all, hash_part, range_part, ClaimForm, SideForm, column, constant, ConditionForm, OutputForm, FunctionForm, least, greatest, sum, count_rows, AggregateForm, ScanForm, UnaryForm, select, project, distinct, sort, partial_sort, group, partial_group, final_group, BinaryForm, union, join, KindForm, hash, range, round, broadcast, gather, concat, Tree, scan, unary, binary, exchange, Document}
 use Rattle.vx_rows_values.specs.Ranges.{RangeForm}
 
 abbrev pub list_json : {X : Type 0} → (X → Data) → List X → Data
@@ -121,6 +121,7 @@ with_unary (select cs) ms = put (codes "where") (list_json condition_json cs) (w
 with_unary (project os) ms = put (codes "columns") (list_json output_json os) (with_text (codes "op") (codes "project") ms)
 with_unary (distinct os) ms = put (codes "columns") (list_json output_json os) (with_text (codes "op") (codes "distinct") ms)
 with_unary (sort cols) ms = put (codes "columns") (names_json cols) (with_text (codes "op") (codes "sort") ms)
+with_unary (partial_sort cols) ms = put (codes "columns") (names_json cols) (with_text (codes "phase") (codes "partial") (with_text (codes "op") (codes "sort") ms))
 with_unary (group by aggregates) ms = with_lists by aggregates (with_text (codes "op") (codes "group") ms)
 with_unary (partial_group by aggregates) ms = with_lists by aggregates (with_phase (codes "partial") ms)
 with_unary final_group ms = with_phase (codes "final") ms

@@ -47,8 +47,9 @@ pub enum PlanFault {
     /// Over 64 output columns.
     #[error("P12 TooWide node={node}")]
     TooWide { node: u32 },
-    /// A final group whose first node below it that is no exchange is no partial group, or a partial group that no final
-    /// group takes up through exchanges alone.
+    /// A final group whose first node below it that is neither an exchange nor a partial sort is no partial group, or that has such a
+    /// sort below it on a column that the partial group is not by; a partial group that no final group takes up through exchanges
+    /// and partial sorts alone; or a partial sort that is not between the two.
     #[error("P13 PhaseMismatch node={node}")]
     PhaseMismatch { node: u32 },
 }

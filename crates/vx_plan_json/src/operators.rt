@@ -7,7 +7,7 @@ ghost use Rattle.vx_catalog_json.specs.Look.{Finds, Parses};
 ghost use Rattle.vx_plan_json.specs.Look.{or_default};
 ghost use Rattle.vx_plan_json.specs.Document.{output_form, aggregate_form, scan_form, unary_form, pair_form, binary_form, kind_form};
 ghost use Rattle.vx_plan_json.specs.Form.{some_names_in};
-ghost use Rattle.vx_plan_json.specs.Operators.{own_form, mode_named, scan_in, scan_own, select_in, outputs_in, sort_in, lists_in, group_in, partial_in, final_in, phase_named, phased_in, unary_in, unary_own, method_named, join_in, union_in, binary_own, hash_in, range_in, sized_in, gather_in, concat_in, kind_in, merge_by, exchange_own, own_named, own_in};
+ghost use Rattle.vx_plan_json.specs.Operators.{own_form, mode_named, scan_in, scan_own, select_in, outputs_in, sort_in, partial_sort_in, sort_named, sorted_in, lists_in, group_in, partial_in, final_in, phase_named, phased_in, unary_in, unary_own, method_named, join_in, union_in, binary_own, hash_in, range_in, sized_in, gather_in, concat_in, kind_in, merge_by, exchange_own, own_named, own_in};
 ghost use Rattle.vx_plan_json.specs.Written.{with_text, with_some_text, with_scan, with_lists, with_phase, with_unary, with_join, with_binary, with_kind};
 
 use crate::forms::{AggregateReader, ConditionReader, OutputReader, PairReader, read_node_claim};
@@ -99,12 +99,40 @@ fn read_outputs(alloc: Global, value: &Json) -> Result<Vec<NamedOutput>, Misread
 }
 
 #[tactic(auto, unfolding(crate::specs::Operators::sort_in, crate::specs::Form::some_names_in))]
-fn read_sort(alloc: Global, value: &Json) -> Result<NamedUnary, Misread>
+fn read_plain_sort(alloc: Global, value: &Json) -> Result<NamedUnary, Misread>
     ensures { Parses unary_form result (sort_in (view value.now)) }
 {
     test_members(value, &["op", "columns", "input", "claim"])?;
     let columns = read_some::<NameReader>(alloc, get_member(value, "columns")?)?;
     Ok(NamedUnary::Sort(columns))
+}
+
+#[tactic(auto, unfolding(crate::specs::Operators::partial_sort_in, crate::specs::Form::some_names_in))]
+fn read_partial_sort(alloc: Global, value: &Json) -> Result<NamedUnary, Misread>
+    ensures { Parses unary_form result (partial_sort_in (view value.now)) }
+{
+    test_members(value, &["op", "phase", "columns", "input", "claim"])?;
+    let columns = read_some::<NameReader>(alloc, get_member(value, "columns")?)?;
+    Ok(NamedUnary::PartialSort(columns))
+}
+
+fn read_sort_phase(alloc: Global, phase: &str, value: &Json) -> Result<NamedUnary, Misread>
+    ensures { Parses unary_form result (sort_named phase.now (view value.now)) }
+{
+    match phase {
+        "partial" => read_partial_sort(alloc, value),
+        _ => Err(Misread::NotOfForm),
+    }
+}
+
+#[tactic(auto, unfolding(crate::specs::Operators::sorted_in))]
+fn read_sort(alloc: Global, value: &Json) -> Result<NamedUnary, Misread>
+    ensures { Parses unary_form result (sorted_in (view value.now)) }
+{
+    match value.get("phase") {
+        Some(phase) => read_sort_phase(alloc, get_text(phase)?, value),
+        None => read_plain_sort(alloc, value),
+    }
 }
 
 // The columns and the aggregates of a group. Not both lists are empty.
@@ -431,6 +459,11 @@ pub fn put_unary(members: &mut Members, alloc: Global, unary: &NamedUnary) -> Re
         }
         NamedUnary::Sort(names) => {
             put_text(members, alloc, "op", "sort")?;
+            put_list(members, alloc, "columns", names.as_slice())
+        }
+        NamedUnary::PartialSort(names) => {
+            put_text(members, alloc, "op", "sort")?;
+            put_text(members, alloc, "phase", "partial")?;
             put_list(members, alloc, "columns", names.as_slice())
         }
         NamedUnary::Group(by, aggregates) => {

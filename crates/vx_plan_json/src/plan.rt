@@ -92,13 +92,14 @@ impl Drop for NamedScan {
     }
 }
 
-/// An operator over one input. A group in two phases is a partial group, exchanges, and a final group that has the columns
+/// An operator over one input. A group in two phases is a partial group, exchanges and partial sorts, and a final group that has the columns
 /// and the aggregates of the partial one.
 pub enum NamedUnary {
     Select(Vec<NamedCondition>),
     Project(Vec<NamedOutput>),
     Distinct(Vec<NamedOutput>),
     Sort(Vec<String>),
+    PartialSort(Vec<String>),
     Group(Vec<String>, Vec<NamedAggregate>),
     PartialGroup(Vec<String>, Vec<NamedAggregate>),
     FinalGroup,
@@ -111,6 +112,7 @@ impl Drop for NamedUnary {
             NamedUnary::Project(_) => {}
             NamedUnary::Distinct(_) => {}
             NamedUnary::Sort(_) => {}
+            NamedUnary::PartialSort(_) => {}
             NamedUnary::Group(_, _) => {}
             NamedUnary::PartialGroup(_, _) => {}
             NamedUnary::FinalGroup => {}

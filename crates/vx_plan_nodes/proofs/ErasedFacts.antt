@@ -5,7 +5,7 @@ use Rattle.vx_rows_values.proofs.Booleans.{and-left, and-right, and-both}
 use Rattle.std.proofs.Common.{◌≡◌, ℕ, suc, ◌+◌, ◌==◌, nat_lt, nat_le, Bool, true, ◌&&◌, List, length, refl, sym, ap, ◌∙◌, subst, arith, eq-eqb, zero, ◌<◌, false, not, cond, [], ◌∷◌, ◌++◌, map, ap₂, true≢false, append_assoc, length-append, ◌≤◌}
 use Rattle.vx_rows_values.specs.declared.value.ColType.{ColType}
 use Rattle.vx_catalog_relations.specs.Relation.{Relation}
-use Rattle.vx_catalog_relations.specs.Catalog.{relation_at}
+use Rattle.vx_catalog_relations.specs.Catalog.{relation_at, all_below}
 use Rattle.vx_plan_nodes.specs.Plan.{Claim, Plan, scan, unary, binary, exchange, Aggregate, least, greatest, sum, count_rows, Unary, select, project, distinct, sort, group, plain, partial, final}
 use Rattle.vx_plan_nodes.specs.Types.{unary_types, binary_types, types_of, aggregate_type}
 use Rattle.vx_plan_nodes.specs.Typed.{Scope, is_claim, is_unary, is_binary, is_size, is_output, typed, IsTyped}
@@ -13,7 +13,7 @@ use Rattle.vx_plan_nodes.specs.Numbering.{nodes, is_numbered}
 use Rattle.vx_plan_nodes.specs.Erase.{no_claim, nodes_left, erase_from, at_once, erase}
 use Rattle.vx_plan_nodes.specs.Outline as outline
 use Rattle.vx_rows_values.specs.Types.{type_at}
-use Rattle.vx_plan_nodes.specs.Phases.{columns_eq, aggregates_eq, columns_from, first_columns, merging, merged, is_partial, is_final, is_open, opens, phase_fits, both_closed}
+use Rattle.vx_plan_nodes.specs.Phases.{columns_eq, aggregates_eq, columns_from, first_columns, merging, merged, unary_open, is_final, is_open, opens, phase_fits, both_closed}
 use Rattle.vx_plan_nodes.proofs.PhaseEqual.{columns_eq-is, aggregates_eq-is}
 
 -- nothing is open in a plan without exchanges
@@ -21,16 +21,16 @@ pub erased-closed : (i : ℕ) (p : Plan) → is_open (erase_from i p) ≡ false
 erased-closed i (scan n c r m z) = refl
 erased-closed i (unary n c op p) = go (is_final op) (erased-closed i p)
   where
-    plain_op : (op : Unary) → is_partial (at_once op) ≡ false
-    plain_op (select cs) = refl
-    plain_op (project cols) = refl
-    plain_op (distinct cols) = refl
-    plain_op (sort cols) = refl
-    plain_op (group phase by aggregates) = refl
+    plain_op : (op : Unary) (below : Bool) → unary_open (at_once op) below ≡ false
+    plain_op (select cs) below = refl
+    plain_op (project cols) below = refl
+    plain_op (distinct cols) below = refl
+    plain_op (sort of_parts cols) below = refl
+    plain_op (group phase by aggregates) below = refl
 
     go : (b : Bool) → is_open (erase_from i p) ≡ false → is_open (cond b (erase_from i p) (unary i no_claim (at_once op) (erase_from (i + 1) p))) ≡ false
     go true h = h
-    go false h = plain_op op
+    go false h = plain_op op (is_open (erase_from (i + 1) p))
 erased-closed i (binary n c op p q) = refl
 erased-closed i (exchange n c k m p) = erased-closed i p
 
@@ -91,7 +91,9 @@ final-types catalog keys puts (scan n c r m z) e = absurd (true≢false (sym e))
 final-types catalog keys puts (unary n c (select cs) p) e = absurd (true≢false (sym e))
 final-types catalog keys puts (unary n c (project cols) p) e = absurd (true≢false (sym e))
 final-types catalog keys puts (unary n c (distinct cols) p) e = absurd (true≢false (sym e))
-final-types catalog keys puts (unary n c (sort cols) p) e = absurd (true≢false (sym e))
+final-types catalog keys puts (unary n c (sort false cols) p) e = absurd (true≢false (sym e))
+final-types catalog keys puts (unary n c (sort true cols) p) e =
+    final-types catalog keys puts p (and-right (all_below (length keys) cols) (opens keys puts p) e)
 final-types catalog keys puts (unary n c (group plain by aggregates) p) e = absurd (true≢false (sym e))
 final-types catalog keys puts (unary n c (group partial by aggregates) p) e =
     let k = columns_eq-is keys (first_columns (length by)) (and-left (columns_eq keys (first_columns (length by))) (aggregates_eq puts (merged (length by) aggregates)) e) in
@@ -109,21 +111,21 @@ pub once-types : (op : Unary) (ts : List ColType) → unary_types (at_once op) t
 once-types (select cs) ts = refl
 once-types (project cols) ts = refl
 once-types (distinct cols) ts = refl
-once-types (sort cols) ts = refl
+once-types (sort of_parts cols) ts = refl
 once-types (group phase by aggregates) ts = refl
 
 once-unary : (op : Unary) (ts : List ColType) → is_unary ts (at_once op) ≡ is_unary ts op
 once-unary (select cs) ts = refl
 once-unary (project cols) ts = refl
 once-unary (distinct cols) ts = refl
-once-unary (sort cols) ts = refl
+once-unary (sort of_parts cols) ts = refl
 once-unary (group phase by aggregates) ts = refl
 
 once-fits : (op : Unary) (p : Plan) → is_open p ≡ false → phase_fits (at_once op) p ≡ true
 once-fits (select cs) p e = ap not e
 once-fits (project cols) p e = ap not e
 once-fits (distinct cols) p e = ap not e
-once-fits (sort cols) p e = ap not e
+once-fits (sort of_parts cols) p e = ap not e
 once-fits (group phase by aggregates) p e = ap not e
 
 pub typed-below : (s : Scope) (n : ℕ) (c : Claim) (op : Unary) (p : Plan) → typed s (unary n c op p) ≡ true → (typed s p ≡ true) × (phase_fits op p ≡ true)
@@ -147,7 +149,7 @@ erased-types s i (unary n c op p) h =
     go (select cs) f ih = over (select cs) ih
     go (project cols) f ih = over (project cols) ih
     go (distinct cols) f ih = over (distinct cols) ih
-    go (sort cols) f ih = over (sort cols) ih
+    go (sort of_parts cols) f ih = over (sort of_parts cols) ih
     go (group plain by aggregates) f ih = over (group plain by aggregates) ih
     go (group partial by aggregates) f ih = over (group partial by aggregates) ih
     go (group final by aggregates) f ih = ih i ∙ sym (final-types (relation_at s.catalog) by aggregates p f)

@@ -51,7 +51,7 @@ abbrev pub described : Unary → Described
 described (select cs) = record { copying = whole_rows; meets = None; order = order_kept; keys = keys_kept }
 described (project cols) = record { copying = columns_kept cols; meets = None; order = order_kept; keys = keys_kept }
 described (distinct cols) = record { copying = columns_kept cols; meets = Some cols; order = order_kept; keys = key_of_first (length cols) }
-described (sort cols) = record { copying = whole_rows; meets = None; order = sorted_on cols; keys = keys_kept }
+described (sort of_parts cols) = record { copying = whole_rows; meets = None; order = sorted_on cols; keys = cond of_parts no_key keys_kept }
 described (group plain by aggregates) = record { copying = columns_kept by; meets = Some by; order = order_kept; keys = key_of_first (length by) }
 described (group partial by aggregates) = record { copying = columns_kept by; meets = None; order = order_kept; keys = no_key }
 described (group final by aggregates) = record { copying = columns_kept by; meets = Some by; order = order_kept; keys = key_of_first (length by) }

@@ -1,6 +1,6 @@
 -- The plan without its exchanges.
 use Rattle.std.specs.Prelude.{ℕ, ◌+◌, false, [], cond}
-use Rattle.vx_plan_nodes.specs.Plan.{one_worker, one, Claim, Plan, scan, unary, binary, exchange, Unary, group, plain}
+use Rattle.vx_plan_nodes.specs.Plan.{one_worker, one, Claim, Plan, scan, unary, binary, exchange, Unary, group, plain, sort}
 use Rattle.vx_plan_nodes.specs.Phases.{is_final}
 
 -- at part one, without order and keys
@@ -14,13 +14,14 @@ nodes_left (unary n c op p) = cond (is_final op) (nodes_left p) (1 + nodes_left 
 nodes_left (binary n c op p q) = 1 + nodes_left p + nodes_left q
 nodes_left (exchange n c k m p) = nodes_left p
 
--- a grouping of all rows at once
+-- a grouping of all rows at once, and a sort of whole rows
 abbrev pub at_once : Unary → Unary
 at_once (group phase by aggregates) = group plain by aggregates
+at_once (sort of_parts cols) = sort false cols
 at_once op = op
 
--- the plan without exchanges, numbered in preorder from i: one worker everywhere, every scan whole, no claims. A final, the exchanges below it and its partial
--- become one grouping over the input of the partial: the partial is made plain, and the final is left out
+-- the plan without exchanges, numbered in preorder from i: one worker everywhere, every scan whole, no claims. A final, the exchanges and sorts below it and
+-- its partial become one grouping over the input of the partial, below these sorts: the partial is made plain, and the final is left out
 abbrev pub erase_from : ℕ → Plan → Plan
 erase_from i (scan n c r m z) = scan i no_claim r false one_worker
 erase_from i (unary n c op p) = cond (is_final op) (erase_from i p) (unary i no_claim (at_once op) (erase_from (i + 1) p))

@@ -21,6 +21,8 @@ use Rattle.vx_plan_nodes.specs.declared.typed.Aggregate.TheVariants as aggregate
 use Rattle.vx_plan_nodes.specs.declared.typed.Columns as rust_columns
 use Rattle.vx_plan_nodes.specs.declared.typed.Phase as rust_phase
 use Rattle.vx_plan_nodes.specs.declared.typed.Phase.TheVariants as phase
+use Rattle.vx_plan_nodes.specs.declared.typed.SortPhase as rust_sort_phase
+use Rattle.vx_plan_nodes.specs.declared.typed.SortPhase.TheVariants as sort_phase
 use Rattle.vx_plan_nodes.specs.declared.typed.Head as rust_head
 use Rattle.vx_plan_nodes.specs.declared.typed.Unary as rust_unary
 use Rattle.vx_plan_nodes.specs.declared.typed.Unary.TheVariants as op
@@ -109,11 +111,15 @@ phase_of phase.Plain = plain
 phase_of phase.Partial = partial
 phase_of phase.Final = final
 
+abbrev pub is_of_parts : rust_sort_phase.SortPhase → Bool
+is_of_parts sort_phase.Plain = false
+is_of_parts sort_phase.Partial = true
+
 abbrev pub unary_of : rust_unary.Unary → Unary
 unary_of (op.Select conditions) = select (map condition_of conditions.items)
 unary_of (op.Project kept) = project (map (λ k. k.column) kept.items)
 unary_of (op.Distinct kept) = distinct (map (λ k. k.column) kept.items)
-unary_of (op.Sort cols) = sort cols.items
+unary_of (op.Sort phase cols) = sort (is_of_parts phase) cols.items
 unary_of (op.Group phase by aggregates) = group (phase_of phase) by.items (map aggregate_of aggregates.items)
 
 -- which kept columns have a new name
@@ -121,7 +127,7 @@ abbrev pub renamed_of : rust_unary.Unary → List Bool
 renamed_of (op.Select conditions) = []
 renamed_of (op.Project kept) = map (λ k. k.renamed) kept.items
 renamed_of (op.Distinct kept) = map (λ k. k.renamed) kept.items
-renamed_of (op.Sort cols) = []
+renamed_of (op.Sort phase cols) = []
 renamed_of (op.Group phase by aggregates) = []
 
 abbrev pub binary_of : rust_binary.Binary → Binary

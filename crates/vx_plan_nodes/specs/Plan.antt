@@ -51,12 +51,12 @@ pub data Phase : Type 0 where
   final : Phase
 
 -- operators over one input; of a projection, a distinct and a group the columns are those of the input that are kept.
--- A final grouping has the columns and the aggregates that it takes from its partial's output
+-- A sort of parts stands between a partial grouping and its final one. A final grouping has the columns and the aggregates that it takes from its partial's output
 pub data Unary : Type 0 where
   select : List Condition → Unary
   project : List ℕ → Unary
   distinct : List ℕ → Unary
-  sort : List ℕ → Unary
+  sort : (of_parts : Bool) → List ℕ → Unary
   group : Phase → List ℕ → List Aggregate → Unary
 
 -- operators over two inputs; a join by the pairs (left column, right column), by merging or by hashing

@@ -124,7 +124,7 @@ abbrev pub unary_rows : Unary → List Row → Option (List Row)
 unary_rows (select cs) xs = Some (filter (passes cs) xs)
 unary_rows (project cols) xs = Some (map (pick cols) xs)
 unary_rows (distinct cols) xs = Some (firsts (map (pick cols) xs))
-unary_rows (sort cols) xs = Some (sort_on cols xs)
+unary_rows (sort of_parts cols) xs = Some (sort_on cols xs)
 unary_rows (group phase by aggregates) xs = group_rows by aggregates xs
 
 -- the list that an operator makes of the lists of its left and its right input

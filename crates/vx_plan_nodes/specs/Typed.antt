@@ -99,7 +99,7 @@ abbrev pub is_unary : List ColType → Unary → Bool
 is_unary types (select cs) = is_some_list cs && list_all (is_condition types) cs
 is_unary types (project cols) = is_some_list cols && all_below (length types) cols
 is_unary types (distinct cols) = is_some_list cols && all_below (length types) cols
-is_unary types (sort cols) = is_some_list cols && are_columns (length types) cols
+is_unary types (sort of_parts cols) = is_some_list cols && are_columns (length types) cols
 is_unary types (group phase by aggregates) =
     (is_some_list by || is_some_list aggregates) && (are_columns (length types) by && list_all (is_aggregate types) aggregates)
 

@@ -21,7 +21,7 @@ abbrev pub unary_types : Unary → List ColType → List ColType
 unary_types (select cs) types = types
 unary_types (project cols) types = map (type_at types) cols
 unary_types (distinct cols) types = map (type_at types) cols
-unary_types (sort cols) types = types
+unary_types (sort of_parts cols) types = types
 unary_types (group phase by aggregates) types = map (type_at types) by ++ map (aggregate_type types) aggregates
 
 -- of an operator over two inputs
@@ -41,7 +41,7 @@ abbrev pub unary_width : Unary → ℕ → ℕ
 unary_width (select cs) w = w
 unary_width (project cols) w = length cols
 unary_width (distinct cols) w = length cols
-unary_width (sort cols) w = w
+unary_width (sort of_parts cols) w = w
 unary_width (group phase by aggregates) w = length by + length aggregates
 
 abbrev pub binary_width : Binary → ℕ → ℕ → ℕ

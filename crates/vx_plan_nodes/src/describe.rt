@@ -6,7 +6,7 @@ ghost use Rattle.vx_plan_nodes.specs.Describe.{place, right_of, described, descr
 ghost use Rattle.vx_plan_nodes.specs.DescribeView.{described_of, described_both_of};
 ghost use Rattle.vx_plan_nodes.specs.Outline.{unary_of, binary_of};
 
-use crate::typed::{Binary, Phase, Projected, Unary};
+use crate::typed::{Binary, Phase, Projected, SortPhase, Unary};
 use vx_rows_values::ColType;
 use vx_rows_values::limits::MAX_COLUMNS;
 
@@ -196,11 +196,17 @@ impl Unary {
                 order: OrderAfter::Kept,
                 keys: KeysAfter::First(kept.len()),
             },
-            Unary::Sort(columns) => Described {
+            Unary::Sort(SortPhase::Plain, columns) => Described {
                 copying: Copying::WholeRows,
                 meets: None,
                 order: OrderAfter::SortedOn(columns.as_slice()),
                 keys: KeysAfter::Kept,
+            },
+            Unary::Sort(SortPhase::Partial, columns) => Described {
+                copying: Copying::WholeRows,
+                meets: None,
+                order: OrderAfter::SortedOn(columns.as_slice()),
+                keys: KeysAfter::NoKey,
             },
             Unary::Group(Phase::Plain, by, _) | Unary::Group(Phase::Final, by, _) => Described {
                 copying: Copying::Kept(KeptColumns::Keys(by.as_slice())),

@@ -19,6 +19,6 @@ pub use parts::{copied_part, kind_part, routed_part};
 pub use router::Router;
 pub use typed::{
     Aggregate, Binary, Claim, Columns, Condition, Exchange, ExchangeKind, Head, Part, Phase,
-    Projected, Route, ScanNode, Side, Size, TypedNode, Unary,
+    Projected, Route, ScanNode, Side, Size, SortPhase, TypedNode, Unary,
 };
 pub use typed_plan::TypedPlan;

@@ -153,6 +153,15 @@ pub enum Phase {
     Final,
 }
 
+/// Which rows a sort has.
+#[derive(Clone, Copy, PartialEq, Eq)]
+pub enum SortPhase {
+    /// Whole rows.
+    Plain,
+    /// Parts of groups: it stands between a partial grouping and its final one.
+    Partial,
+}
+
 /// An operator over one input, by the columns of that input.
 pub enum Unary {
     /// The rows of which all conditions hold.
@@ -162,7 +171,7 @@ pub enum Unary {
     /// These columns of each row, each list of values once.
     Distinct(Vec<Projected>),
     /// The rows in ascending order on these columns; rows that are equal on them keep theirs.
-    Sort(Vec<usize>),
+    Sort(SortPhase, Vec<usize>),
     /// For each key the values in these columns, and then the aggregates of its rows.
     Group(Phase, Vec<usize>, Vec<Aggregate>),
 }
@@ -173,7 +182,7 @@ impl Drop for Unary {
             Unary::Select(_) => {}
             Unary::Project(_) => {}
             Unary::Distinct(_) => {}
-            Unary::Sort(_) => {}
+            Unary::Sort(_, _) => {}
             Unary::Group(_, _, _) => {}
         }
     }

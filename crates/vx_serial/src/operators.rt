@@ -90,7 +90,7 @@ pub fn unary_rows(
             let columns = kept_columns(alloc, kept.as_slice())?;
             Ok(distinct(alloc, seed, rows, columns.as_slice())?)
         }
-        Unary::Sort(columns) => Ok(sorted_chunks(alloc, rows, columns.as_slice())?),
+        Unary::Sort(_, columns) => Ok(sorted_chunks(alloc, rows, columns.as_slice())?),
         Unary::Group(_, by, aggregates) => {
             let by = by.as_slice();
             groups_of(alloc, seed, number, rows, by, aggregates.as_slice())
