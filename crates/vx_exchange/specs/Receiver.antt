@@ -88,5 +88,6 @@ receiver_abides s l h = record {
   ended = λ e. (h.all_closed (sym h.same ∙ e), subst (λ o. UnlessFailed o (Makes (receiver_op s) l l.gave.rows)) (sym h.same ∙ e) h.makes);
   passes = λ f e. absurd e;
   tests = h.tests;
+  holds_back = tt;
   blame = λ f e. inr (h.blame f (sym h.same ∙ e));
 }

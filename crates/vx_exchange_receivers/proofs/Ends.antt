@@ -72,6 +72,7 @@ abides-running port l e b ours = record {
   ended = λ f. cc;
   passes = λ f h. absurd h;
   tests = λ i c. absurd (none-strange port l ours i c);
+  holds_back = tt;
   blame = λ f h. cc;
 }
 
@@ -82,6 +83,7 @@ abides-ended port l e b closed makes ours = record {
   ended = λ f. (closed, makes);
   passes = λ f h. absurd h;
   tests = λ i c. absurd (none-strange port l ours i c);
+  holds_back = tt;
   blame = λ f h. cc;
 }
 
@@ -92,6 +94,7 @@ abides-failed port l f e b tests blame = record {
   ended = λ h. cc;
   passes = λ g h. absurd h;
   tests = tests;
+  holds_back = tt;
   blame = λ g h. let s : f ≡ g = cc in inr (subst (λ x. OwnBlame (receive port) l x) s blame);
 }
 

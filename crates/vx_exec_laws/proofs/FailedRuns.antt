@@ -38,6 +38,7 @@ abides-group = record {
   ended = λ e. absurd (not-ended e);
   passes = λ f e. absurd (ended-failed f e);
   tests = tt;
+  holds_back = inl refl;
   blame = λ f e.
       let P : Fault → Type 0 = λ x. OwnBlame (one_op 0 (group plain [] (sum 0 ∷ []))) grouping x in
       inr (subst P (same-fault (Own Overflow 0) f e) (refl, refl, inl refl));
@@ -56,7 +57,7 @@ failed-worker = record {
   out = stopped;
   abides = (
     grouping,
-    (scanning, record { scanned = refl; came = refl }, record { before = begun_whole scan_op scanning refl; ended = λ e. (refl, refl); passes = λ f e. e; tests = tt; blame = λ f e. inl e }, refl),
+    (scanning, record { scanned = refl; came = refl }, record { before = begun_whole scan_op scanning refl; ended = λ e. (refl, refl); passes = λ f e. e; tests = tt; holds_back = tt; blame = λ f e. inl e }, refl),
     abides-group,
     refl,
   );

@@ -32,7 +32,7 @@ well-producer i e = record {
   abides = (
     record { left = heard i 1; right = fresh; came = λ j. []; gave = heard i 1 },
     record { scanned = refl; came = refl },
-    record { before = begun_whole _ _ refl; ended = λ e. (refl, refl); passes = λ f e. e; tests = tt; blame = λ f e. inl e },
+    record { before = begun_whole _ _ refl; ended = λ e. (refl, refl); passes = λ f e. e; tests = tt; holds_back = tt; blame = λ f e. inl e },
     refl,
   );
   ended = refl;
@@ -97,6 +97,7 @@ well-consumer = record {
       ended = λ e. (two (λ i. has_last (put i 0) ≡ true) refl refl, (shuffled, refl, λ e. absurd (true≢false (sym e))));
       passes = λ f e. absurd e;
       tests = λ i c. absurd (none-came (IsFor root_end i) (put i 0) (all-for i) c);
+      holds_back = tt;
       blame = λ f e. cc;
     },
     refl,

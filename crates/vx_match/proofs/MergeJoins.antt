@@ -85,6 +85,7 @@ module _ (n : ℕ) (on : List (ℕ × ℕ)) where
       ended = λ e. absurd (running-ended (sym (o ∙ runs) ∙ e));
       passes = λ f e. elim e [ inl h ↦ absurd (not-failed k.left_ended l.left.over f m.left_over h) | inr h ↦ absurd (not-failed k.right_ended l.right.over f m.right_over h) ];
       tests = tt;
+      holds_back = tt;
       blame = λ f e. absurd (running-failed f (sym (o ∙ runs) ∙ e));
     };
   }
@@ -168,6 +169,7 @@ module _ (n : ℕ) (on : List (ℕ × ℕ)) where
         ended = λ e. absurd (failed-ended f e);
         passes = λ g e. elim e [ inl q ↦ q | inr q ↦ absurd (not-failed k.right_ended l.right.over g was.right_over q) ];
         tests = tt;
+        holds_back = tt;
         blame = λ g e. inl (inl e);
       };
     }
@@ -181,6 +183,7 @@ module _ (n : ℕ) (on : List (ℕ × ℕ)) where
         ended = λ e. absurd (failed-ended f e);
         passes = λ g e. elim e [ inl q ↦ absurd (not-failed k.left_ended l.left.over g was.left_over q) | inr q ↦ q ];
         tests = tt;
+        holds_back = tt;
         blame = λ g e. inl (inr e);
       };
     }
@@ -203,6 +206,7 @@ module _ (n : ℕ) (on : List (ℕ × ℕ)) where
           ended = λ q. absurd (failed-ended g q);
           passes = λ f q. elim q [ inl r ↦ absurd (not-failed k.left_ended l.left.over f a r) | inr r ↦ absurd (not-failed k.right_ended l.right.over f b r) ];
           tests = tt;
+          holds_back = tt;
           blame = λ f q. inr (own-blame e (with_over l (Failed g)) f blame (same-fault g f q));
         };
       }
@@ -243,6 +247,7 @@ module _ (n : ℕ) (on : List (ℕ × ℕ)) where
             ended = λ q. ((now.left_over ∙ ap over_of r.1, now.right_over ∙ ap over_of r.2), all);
             passes = λ f q. elim q [ inl r ↦ absurd (not-failed k.left_ended l.left.over f now.left_over r) | inr r ↦ absurd (not-failed k.right_ended l.right.over f now.right_over r) ];
             tests = tt;
+            holds_back = tt;
             blame = λ f q. absurd (ended-failed f q);
           };
         }

@@ -91,6 +91,8 @@ impl StepKernel for FirstRows {
 
     ghost serial = { λ s xs ys made. ap Some (sym made.1 ∙ made.0) };
 
+    ghost at_once = { λ s n l. tt };
+
     fn step(&mut self, batch: Rows) -> Result<Rows, AllocError> {
         self.seen.keep_new(&batch, self.columns.as_slice())
     }

@@ -13,7 +13,7 @@ use Rattle.vx_ops.specs.declared.fault.StreamState.{StreamState}
 use Rattle.vx_ops.specs.declared.fault.StreamState.TheVariants.{Running, Ended, Failed}
 use Rattle.vx_ops.specs.CollectingKernel.{MayOverflow}
 use Rattle.vx_ops.specs.Collecting.{IsCollected}
-use Rattle.vx_ops.proofs.Turns.{with_refusal, running-ended, running-failed, ended-failed, failed-ended, failed-running, ended-running, same-fault, own-memory}
+use Rattle.vx_ops.proofs.Turns.{with_refusal, running-ended, running-failed, ended-failed, failed-ended, failed-running, ended-running, same-fault, own-memory, one-held-back}
 
 -- the ledger after rows came
 abbrev pub with_taken : Ledger → List Row → Ledger
@@ -53,6 +53,7 @@ module _ (n : ℕ) (op : Unary) (none : unary_rows op [] ≡ Some []) where
       ended = λ e. absurd (running-ended (sym o ∙ e));
       passes = λ f e. absurd (running-failed f (sym a ∙ e));
       tests = tt;
+      holds_back = one-held-back n op l (inr g);
       blame = λ f e. absurd (running-failed f (sym o ∙ e));
     };
   }
@@ -79,6 +80,7 @@ module _ (n : ℕ) (op : Unary) (none : unary_rows op [] ≡ Some []) where
           ended = λ e. absurd (failed-ended (Own NoMemory m) e);
           passes = λ f e. absurd (running-failed f (sym r.0 ∙ e));
           tests = tt;
+          holds_back = one-held-back n op k (inr r.2);
           blame = λ f e. inr (own-memory n op m k f (same-fault (Own NoMemory m) f e));
         };
       }
@@ -95,6 +97,7 @@ module _ (n : ℕ) (op : Unary) (none : unary_rows op [] ≡ Some []) where
           ended = λ e. absurd (failed-ended g e);
           passes = λ f e. e;
           tests = tt;
+          holds_back = one-held-back n op (with_overs l (Failed g) (Failed g)) (inr r.2);
           blame = λ f e. inl e;
         };
       }
@@ -112,6 +115,7 @@ module _ (n : ℕ) (op : Unary) (none : unary_rows op [] ≡ Some []) where
           ended = λ e. absurd (failed-ended (Own NoMemory m) e);
           passes = λ f e. absurd (ended-failed f e);
           tests = tt;
+          holds_back = one-held-back n op k (inl refl);
           blame = λ f e. inr (own-memory n op m k f (same-fault (Own NoMemory m) f e));
         };
       }
@@ -129,6 +133,7 @@ module _ (n : ℕ) (op : Unary) (none : unary_rows op [] ≡ Some []) where
           ended = λ e. absurd (failed-ended (Own Overflow n) e);
           passes = λ f e. absurd (ended-failed f e);
           tests = tt;
+          holds_back = one-held-back n op k (inl refl);
           blame = λ f e. inr (own-overflow k f (overflows n op k refl (may r.1)) (same-fault (Own Overflow n) f e));
         };
       }
@@ -147,6 +152,7 @@ module _ (n : ℕ) (op : Unary) (none : unary_rows op [] ≡ Some []) where
           ended = λ e. (refl, all);
           passes = λ f e. absurd (ended-failed f e);
           tests = tt;
+          holds_back = one-held-back n op k (inl refl);
           blame = λ f e. absurd (ended-failed f e);
         };
       }
@@ -165,6 +171,7 @@ module _ (n : ℕ) (op : Unary) (none : unary_rows op [] ≡ Some []) where
           ended = λ e. absurd (running-ended (sym h.stands ∙ e));
           passes = λ f e. absurd (ended-failed f e);
           tests = tt;
+          holds_back = one-held-back n op k (inl refl);
           blame = λ f e. absurd (running-failed f (sym h.stands ∙ e));
         };
       }
@@ -181,6 +188,7 @@ module _ (n : ℕ) (op : Unary) (none : unary_rows op [] ≡ Some []) where
           ended = λ e. (r.0, r.1);
           passes = λ f e. absurd (ended-failed f (sym r.0 ∙ e));
           tests = tt;
+          holds_back = one-held-back n op (with_end l) (inl r.0);
           blame = λ f e. absurd (ended-failed f e);
         };
       }

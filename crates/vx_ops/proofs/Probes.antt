@@ -1,5 +1,5 @@
 -- Turns of an operator that builds a table of its right input before it reads its left one.
-use Rattle.std.proofs.Common.{◌≡◌, ℕ, List, [], ◌++◌, Option, Some, None, refl, sym, ap, ◌∙◌, subst, inl, inr, Bool, true, false, append-nil, append_assoc}
+use Rattle.std.proofs.Common.{◌≡◌, ◌⊎◌, ℕ, List, [], ◌++◌, Option, Some, None, refl, sym, ap, ◌∙◌, subst, inl, inr, Bool, true, false, append-nil, append_assoc}
 use Rattle.vx_rows_values.specs.Values.{Row}
 use Rattle.vx_rows.specs.View.{RowsView}
 use Rattle.vx_ports.specs.Packets.{rows_of}
@@ -19,7 +19,7 @@ use Rattle.vx_ops.specs.declared.turn.Want.TheVariants as want
 use Rattle.vx_ops.specs.declared.turn.Got.{Got}
 use Rattle.vx_ops.specs.declared.turn.Got.TheVariants as got
 use Rattle.vx_ops.specs.declared.turn.Polled.TheVariants as polled
-use Rattle.vx_ops.proofs.Turns.{running-ended, running-failed, ended-failed, failed-ended, failed-running, ended-running, same-fault}
+use Rattle.vx_ops.proofs.Turns.{running-ended, running-failed, ended-failed, failed-ended, failed-running, ended-running, same-fault, two-held-back}
 
 -- the ledger after rows were returned
 abbrev pub with_joined : Ledger → List Row → Ledger
@@ -44,6 +44,12 @@ unfailed n op R B ready rest l f a p (inl e) = running-failed f (sym a ∙ e)
 unfailed n op R B false None l f a p (inr e) = running-failed f (sym p.0 ∙ e)
 unfailed n op R B false (Some t) l f a p (inr e) = p
 unfailed n op R B true rest l f a p (inr e) = ended-failed f (sym p.0 ∙ e)
+
+-- either its right input has ended, or it has returned nothing
+held-back : (op : Binary) (R B : List Row → Type 0) (ready : Bool) (rest : Option RowsView) (l : Ledger) → ProbingPhase op R B ready rest l → (l.right.over ≡ Ended) ⊎ (l.gave.rows ≡ [])
+held-back op R B false None l p = inr p.3
+held-back op R B false (Some t) l p = absurd p
+held-back op R B true rest l p = inl p.0
 
 right-left : want.Right ≡ want.Left → ⊥
 right-left e = cc
@@ -79,6 +85,7 @@ module _ (n : ℕ) (op : Binary) (empty : (rs : List Row) → binary_rows op [] 
       ended = λ e. absurd (running-ended (sym o ∙ e));
       passes = λ f e. absurd (unfailed n op R B ready rest l f a p e);
       tests = tt;
+      holds_back = two-held-back n op l (held-back op R B ready rest l p);
       blame = λ f e. absurd (running-failed f (sym o ∙ e));
     };
   }
@@ -87,8 +94,8 @@ module _ (n : ℕ) (op : Binary) (empty : (rs : List Row) → binary_rows op [] 
   own-memory m l f e = let P : Fault → Type 0 = λ v. OwnBlame (two_op n op) l v in subst P e tt
 
   -- memory ran out, whatever state that leaves
-  refused : (S C : List Row → Type 0) (ready : Bool) (rest : Option RowsView) (l : Ledger) (m : ℕ) → l.gave.over ≡ Failed (Own NoMemory m) → Begun (two_op n op) l → ((f : Fault) → InputFault (two_op n op) l f → ⊥) → IsProbing n op S C ready rest (Failed (Own NoMemory m)) l
-  refused S C ready rest l m o b u = record {
+  refused : (S C : List Row → Type 0) (ready : Bool) (rest : Option RowsView) (l : Ledger) (m : ℕ) → l.gave.over ≡ Failed (Own NoMemory m) → Begun (two_op n op) l → (l.right.over ≡ Ended) ⊎ (l.gave.rows ≡ []) → ((f : Fault) → InputFault (two_op n op) l f → ⊥) → IsProbing n op S C ready rest (Failed (Own NoMemory m)) l
+  refused S C ready rest l m o b w u = record {
     stands = o;
     left = λ e. absurd (failed-running (Own NoMemory m) e);
     runs = λ e. absurd (failed-running (Own NoMemory m) e);
@@ -97,6 +104,7 @@ module _ (n : ℕ) (op : Binary) (empty : (rs : List Row) → binary_rows op [] 
       ended = λ e. absurd (failed-ended (Own NoMemory m) (sym o ∙ e));
       passes = λ f e. absurd (u f e);
       tests = tt;
+      holds_back = two-held-back n op l w;
       blame = λ f e. inr (own-memory m l f (same-fault (Own NoMemory m) f (sym o ∙ e)));
     };
   }
@@ -113,7 +121,7 @@ module _ (n : ℕ) (op : Binary) (empty : (rs : List Row) → binary_rows op [] 
     build-refused ready rest t m h =
         let p = h.runs refl in
         let k = after l want.Right (got.Input (polled.Gave t)) (polled.Fault (Own NoMemory m)) in
-        refused S C ready rest k m refl (begun-none k p.3) (λ f. elim [ inl e ↦ running-failed f (sym (h.left refl) ∙ e) | inr e ↦ running-failed f (sym p.0 ∙ e) ])
+        refused S C ready rest k m refl (begun-none k p.3) (inr p.3) (λ f. elim [ inl e ↦ running-failed f (sym (h.left refl) ∙ e) | inr e ↦ running-failed f (sym p.0 ∙ e) ])
 
     -- the right input ended
     pub build-ready : (R l.right.rows → C l.right.rows) → IsProbing n op R B false None Running l → IsProbing n op S C true None Running (after l want.Right (got.Input polled.End) polled.Waiting)
@@ -127,7 +135,7 @@ module _ (n : ℕ) (op : Binary) (empty : (rs : List Row) → binary_rows op [] 
     finish-refused ready rest m h =
         let p = h.runs refl in
         let k = after l want.Right (got.Input polled.End) (polled.Fault (Own NoMemory m)) in
-        refused S C ready rest k m refl (begun-none k p.3) (λ f. elim [ inl e ↦ running-failed f (sym (h.left refl) ∙ e) | inr e ↦ ended-failed f e ])
+        refused S C ready rest k m refl (begun-none k p.3) (inl refl) (λ f. elim [ inl e ↦ running-failed f (sym (h.left refl) ∙ e) | inr e ↦ ended-failed f e ])
 
     -- the right input failed
     pub right-fault : (ready : Bool) (rest : Option RowsView) (g : Fault) → IsProbing n op R B false None Running l → IsProbing n op S C ready rest (Failed g) (after l want.Right (got.Input (polled.Fault g)) (polled.Fault g))
@@ -142,6 +150,7 @@ module _ (n : ℕ) (op : Binary) (empty : (rs : List Row) → binary_rows op [] 
             ended = λ e. absurd (failed-ended g e);
             passes = λ f. elim [ inl e ↦ absurd (running-failed f (sym (h.left refl) ∙ e)) | inr e ↦ e ];
             tests = tt;
+            holds_back = two-held-back n op _ (inr p.3);
             blame = λ f e. inl (inr e);
           };
         }
@@ -167,7 +176,7 @@ module _ (n : ℕ) (op : Binary) (empty : (rs : List Row) → binary_rows op [] 
     pub probe-refused : (was ready : Bool) (rest : Option RowsView) (t : RowsView) (m : ℕ) → IsProbing n op R B was (Some t) Running l → IsProbing n op S C ready rest (Failed (Own NoMemory m)) (gives l (polled.Fault (Own NoMemory m)))
     probe-refused was ready rest t m h =
         let p = h.runs refl in
-        refused S C ready rest (gives l (polled.Fault (Own NoMemory m))) m refl (begun-again (begun-phase R B was (Some t) l p)) (λ f e. unfailed n op R B was (Some t) l f (h.left refl) p e)
+        refused S C ready rest (gives l (polled.Fault (Own NoMemory m))) m refl (begun-again (begun-phase R B was (Some t) l p)) (held-back op R B was (Some t) l p) (λ f e. unfailed n op R B was (Some t) l f (h.left refl) p e)
       where
         begun-again : Begun (two_op n op) l → Begun (two_op n op) (gives l (polled.Fault (Own NoMemory m)))
         begun-again b = record { inputs = b.inputs; begins = record { left = b.begins.left; right = b.begins.right; came = b.begins.came }; whole = b.whole; makes = b.makes; gave = b.gave }
@@ -191,6 +200,7 @@ module _ (n : ℕ) (op : Binary) (empty : (rs : List Row) → binary_rows op [] 
             ended = λ e. ((refl, p.0), all);
             passes = λ f. elim [ inl e ↦ absurd (ended-failed f e) | inr e ↦ absurd (ended-failed f (sym p.0 ∙ e)) ];
             tests = tt;
+            holds_back = two-held-back n op _ (inl p.0);
             blame = λ f e. absurd (ended-failed f e);
           };
         }
@@ -208,6 +218,7 @@ module _ (n : ℕ) (op : Binary) (empty : (rs : List Row) → binary_rows op [] 
             ended = λ e. absurd (failed-ended g e);
             passes = λ f. elim [ inl e ↦ e | inr e ↦ absurd (ended-failed f (sym p.0 ∙ e)) ];
             tests = tt;
+            holds_back = two-held-back n op _ (inl p.0);
             blame = λ f e. inl (inl e);
           };
         }

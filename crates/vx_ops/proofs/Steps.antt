@@ -3,7 +3,7 @@ use Rattle.std.proofs.Common.{◌≡◌, ℕ, List, ◌++◌, Some, refl, sym, �
 use Rattle.vx_rows_values.specs.Values.{Row}
 use Rattle.vx_plan_nodes.specs.Plan.{Unary}
 use Rattle.vx_plan_nodes.specs.Serial.{unary_rows}
-use Rattle.vx_ops.specs.Ledger.{Ledger, one_op}
+use Rattle.vx_ops.specs.Ledger.{Ledger, one_op, HoldsBack}
 use Rattle.vx_ops.specs.Begun.{all_of, begun_whole}
 use Rattle.vx_ops.specs.declared.fault.Code.TheVariants.{NoMemory}
 use Rattle.vx_ops.specs.declared.fault.Fault.{Fault}
@@ -21,7 +21,7 @@ with_rows l xs ys = record l { left = record { rows = l.left.rows ++ xs; over = 
 abbrev pub with_over : Ledger → StreamState → Ledger
 with_over l o = record l { left = record { rows = l.left.rows; over = o }; gave = record { rows = l.gave.rows; over = o } }
 
-module _ (n : ℕ) (op : Unary) where
+module _ (n : ℕ) (op : Unary) (at_once : (l : Ledger) → HoldsBack (one_op n op) l) where
   pub step-running : (H : List Row → List Row → Type 0) (l : Ledger) → l.left.over ≡ Running → H l.left.rows l.gave.rows → unary_rows op l.left.rows ≡ Some l.gave.rows → l.gave.over ≡ Running → IsStepped n op H Running l
   step-running H l a t m o = record {
     stands = o;
@@ -31,6 +31,7 @@ module _ (n : ℕ) (op : Unary) where
       ended = λ e. absurd (running-ended (sym o ∙ e));
       passes = λ f e. absurd (running-failed f (sym a ∙ e));
       tests = tt;
+      holds_back = at_once l;
       blame = λ f e. absurd (running-failed f (sym o ∙ e));
     };
   }
@@ -51,6 +52,7 @@ module _ (n : ℕ) (op : Unary) where
           ended = λ e. (refl, r.2);
           passes = λ f e. absurd (ended-failed f e);
           tests = tt;
+          holds_back = at_once (with_over l Ended);
           blame = λ f e. absurd (ended-failed f e);
         };
       }
@@ -66,6 +68,7 @@ module _ (n : ℕ) (op : Unary) where
           ended = λ e. absurd (failed-ended g e);
           passes = λ f e. e;
           tests = tt;
+          holds_back = at_once (with_over l (Failed g));
           blame = λ f e. inl e;
         };
       }
@@ -88,6 +91,7 @@ module _ (n : ℕ) (op : Unary) where
           ended = λ e. absurd (failed-ended (Own NoMemory m) e);
           passes = λ f e. absurd (running-failed f (sym r.0 ∙ e));
           tests = tt;
+          holds_back = at_once k;
           blame = λ f e. inr (own-memory n op m k f (same-fault (Own NoMemory m) f e));
         };
       }

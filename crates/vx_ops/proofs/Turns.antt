@@ -1,8 +1,8 @@
 -- What the proofs of the turns of both machines rest on.
-use Rattle.std.proofs.Common.{◌≡◌, ℕ, List, ◌++◌, subst}
+use Rattle.std.proofs.Common.{◌≡◌, ◌⊎◌, ℕ, List, [], ◌++◌, subst, true, false}
 use Rattle.vx_rows_values.specs.Values.{Row}
-use Rattle.vx_plan_nodes.specs.Plan.{Unary}
-use Rattle.vx_ops.specs.Ledger.{Ledger, one_op, OwnBlame}
+use Rattle.vx_plan_nodes.specs.Plan.{Unary, select, project, distinct, sort, group, Binary, union, join}
+use Rattle.vx_ops.specs.Ledger.{Ledger, one_op, two_op, OwnBlame, HoldsBack}
 use Rattle.vx_ops.specs.declared.fault.Code.TheVariants.{NoMemory}
 use Rattle.vx_ops.specs.declared.fault.Fault.{Fault}
 use Rattle.vx_ops.specs.declared.fault.Fault.TheVariants.{Own}
@@ -36,3 +36,17 @@ same-fault f g e = cc
 -- lack of memory is a fault of an operator's own
 pub own-memory : (n : ℕ) (op : Unary) (m : ℕ) (l : Ledger) (f : Fault) → Own NoMemory m ≡ f → OwnBlame (one_op n op) l f
 own-memory n op m l f e = let P : Fault → Type 0 = λ v. OwnBlame (one_op n op) l v in subst P e tt
+
+-- an operator whose input has ended, or that has returned nothing, returned nothing too early
+pub one-held-back : (n : ℕ) (op : Unary) (l : Ledger) → (l.left.over ≡ Ended) ⊎ (l.gave.rows ≡ []) → HoldsBack (one_op n op) l
+one-held-back n (group phase by aggregates) l h = h
+one-held-back n (sort of_parts cols) l h = h
+one-held-back n (select cs) l h = tt
+one-held-back n (project cols) l h = tt
+one-held-back n (distinct cols) l h = tt
+
+-- the same of one whose right input has ended
+pub two-held-back : (n : ℕ) (op : Binary) (l : Ledger) → (l.right.over ≡ Ended) ⊎ (l.gave.rows ≡ []) → HoldsBack (two_op n op) l
+two-held-back n (join false on) l h = h
+two-held-back n (join true on) l h = tt
+two-held-back n union l h = tt

@@ -37,6 +37,7 @@ module _ (n : ℕ) where
       ended = λ e. absurd (running-ended (sym o ∙ e));
       passes = λ f e. absurd (unfailed n b l f r e);
       tests = tt;
+      holds_back = tt;
       blame = λ f e. absurd (running-failed f (sym o ∙ e));
     };
   }
@@ -71,6 +72,7 @@ module _ (n : ℕ) where
           ended = λ e. ((r.0, refl), h.rows);
           passes = λ f e. absurd (ended-input f e r.0);
           tests = tt;
+          holds_back = tt;
           blame = λ f e. absurd (ended-failed f e);
         };
       }
@@ -90,6 +92,7 @@ module _ (n : ℕ) where
       ended = λ e. absurd (failed-ended g e);
       passes = λ f e. left-failed f e;
       tests = tt;
+      holds_back = tt;
       blame = λ f e. inl (inl e);
     };
   }
@@ -106,6 +109,7 @@ module _ (n : ℕ) where
       ended = λ e. absurd (failed-ended g e);
       passes = λ f e. right-failed f e;
       tests = tt;
+      holds_back = tt;
       blame = λ f e. inl (inr e);
     };
   }

@@ -3,7 +3,7 @@ use Rattle.std.specs.Prelude.{ℕ, ◌≡◌, ◌<◌, ◌⊎◌, true, false, L
 use Rattle.vx_rows_values.specs.Values.{Row}
 use Rattle.vx_rows_values.specs.Order.{sorted}
 use Rattle.vx_rows_values.specs.declared.value.ColType.{ColType}
-use Rattle.vx_plan_nodes.specs.Plan.{Unary, group, Binary, join}
+use Rattle.vx_plan_nodes.specs.Plan.{Unary, sort, group, Binary, join}
 use Rattle.vx_plan_nodes.specs.Serial.{unary_rows, binary_rows, group_rows}
 use Rattle.vx_plan_nodes.specs.Streams.{Dealt, joined}
 use Rattle.vx_ports.specs.Packets.{PacketView, rows_of, has_last, has_fault}
@@ -116,10 +116,18 @@ abbrev pub TestsPackets : Op → Ledger → Type 0
 TestsPackets (receive port) l = (i : ℕ) → Came (λ p. IsFor port i p → ⊥) (l.came i) → l.gave.over ≡ Failed (Own Stranger port.exchange)
 TestsPackets op l = Unit {0}
 
+-- a group and a sort return nothing before their input has ended, a hash join nothing before its right input has
+abbrev pub HoldsBack : Op → Ledger → Type 0
+HoldsBack (one_op n (group phase by aggregates)) l = (l.left.over ≡ Ended) ⊎ (l.gave.rows ≡ [])
+HoldsBack (one_op n (sort of_parts cols)) l = (l.left.over ≡ Ended) ⊎ (l.gave.rows ≡ [])
+HoldsBack (two_op n (join false on)) l = (l.right.over ≡ Ended) ⊎ (l.gave.rows ≡ [])
+HoldsBack op l = Unit {0}
+
 -- what is known of a source after any turns
 pub record Abides (op : Op) (l : Ledger) : Type 0 where
   pub before : Begun op l
   pub ended : l.gave.over ≡ Ended → InputsEnded op l × Makes op l l.gave.rows
   pub passes : (f : Fault) → InputFault op l f → l.gave.over ≡ Failed f
   pub tests : TestsPackets op l
+  pub holds_back : HoldsBack op l
   pub blame : (f : Fault) → l.gave.over ≡ Failed f → InputFault op l f ⊎ OwnBlame op l f

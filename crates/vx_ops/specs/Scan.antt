@@ -23,6 +23,7 @@ scan_abides s l h = record {
   ended = λ e. (h.input ∙ sym h.over ∙ e, h.rows);
   passes = λ f e. h.over ∙ sym h.input ∙ e;
   tests = tt;
+  holds_back = tt;
   blame = λ f e. inl (h.input ∙ sym h.over ∙ e);
 }
 

@@ -87,6 +87,8 @@ impl StepKernel for Projection {
 
     ghost serial = { λ s xs ys made. ap Some (sym made) };
 
+    ghost at_once = { λ s n l. tt };
+
     fn step(&mut self, batch: Rows) -> Result<Rows, AllocError> {
         batch.project(self.alloc, self.columns.as_slice())
     }

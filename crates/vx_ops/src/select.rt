@@ -68,6 +68,8 @@ impl StepKernel for Selection {
 
     ghost serial = { λ s xs ys made. ap Some (sym made) };
 
+    ghost at_once = { λ s n l. tt };
+
     fn step(&mut self, batch: Rows) -> Result<Rows, AllocError> {
         chosen(self.alloc, self.conditions.as_slice(), &batch)
     }

@@ -7,10 +7,11 @@ use vx_rows_views::Rows;
 ///
 /// What an operator of one input computes, a batch at a time: `Stepping` makes a source of it.
 pub trait StepKernel: Drop {
-    ghost use Rattle.std.specs.Prelude.{◌≡◌, ◌≤◌, ◌++◌, List, length, Some, IfOk};
+    ghost use Rattle.std.specs.Prelude.{ℕ, ◌≡◌, ◌≤◌, ◌++◌, List, length, Some, IfOk};
     ghost use Rattle.vx_rows_values.specs.Values.{Row};
     ghost use Rattle.vx_plan_nodes.specs.Plan.{Unary};
     ghost use Rattle.vx_plan_nodes.specs.Serial.{unary_rows};
+    ghost use Rattle.vx_ops.specs.Ledger.{Ledger, one_op, HoldsBack};
     ghost use Rattle.vx_ops.specs.Turn.{Shape};
 
     // The operator.
@@ -33,4 +34,7 @@ pub trait StepKernel: Drop {
 
     // All that it returned is what the operator makes of all that it read, by its serial meaning.
     ghost serial: { (s : Self) (xs ys : List Row) → HasMade s xs ys → unary_rows (unary s) xs ≡ Some ys };
+
+    // The operator is none that has to hold its rows back until its input has ended.
+    ghost at_once: { (s : Self) (n : ℕ) (l : Ledger) → HoldsBack (one_op n (unary s)) l };
 }

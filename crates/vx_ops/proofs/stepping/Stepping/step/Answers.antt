@@ -20,5 +20,5 @@ returns-else-len-eq0-clause-stands g c l h =
     let V : Unary → Type 0 = λ u. IsStepped s.node u (K.HasMade j) s.over (with_rows l xs ys) in
     let M : Unary → Type 0 = λ u. unary_rows u (l.left.rows ++ xs) ≡ Some (l.gave.rows ++ ys) in
     let done : IsStepped s.node (K.unary k) (K.HasMade j) Running (with_rows l xs ys)
-    = step-rows s.node (K.unary k) (K.HasMade k) (K.HasMade j) l xs ys (λ t. c.in-Ok.ensures.made l.left.rows l.gave.rows t) (λ t. subst M c.step.ensures.unary (g.met.K.StepKernel.serial j (l.left.rows ++ xs) (l.gave.rows ++ ys) t)) (subst P c.requires.running h) in
+    = step-rows s.node (K.unary k) (g.met.K.StepKernel.at_once k s.node) (K.HasMade k) (K.HasMade j) l xs ys (λ t. c.in-Ok.ensures.made l.left.rows l.gave.rows t) (λ t. subst M c.step.ensures.unary (g.met.K.StepKernel.serial j (l.left.rows ++ xs) (l.gave.rows ++ ys) t)) (subst P c.requires.running h) in
     subst V (sym c.step.ensures.unary) (subst R (sym c.requires.running) done)
