@@ -148,7 +148,8 @@ pub fn sorted(alloc: Global, words: &str) -> Option<String> {
     let Ok(columns) = Vec::from_slice(alloc, &[0]) else {
         return None;
     };
-    let Ok(mut sort) = Sort::new(alloc, SORT_NODE, SortPhase::Plain, columns, &[ColType::Int]) else {
+    let Ok(mut sort) = Sort::new(alloc, SORT_NODE, SortPhase::Plain, columns, &[ColType::Int])
+    else {
         return None;
     };
     turns_of(alloc, &mut sort, words)

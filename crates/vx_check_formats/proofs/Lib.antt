@@ -1,1 +1,2 @@
 pub mod PlainFacts
+pub mod NodeFacts

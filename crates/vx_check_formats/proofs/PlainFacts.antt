@@ -1,20 +1,27 @@
 -- The JSON of a plan has no float, and does not nest deep.
-use Rattle.std.proofs.Common.{◌≡◌, ℕ, suc, ◌≤◌, ◌++◌, List, [], ◌∷◌, map, Bool, false, codes, Ordering, Less, Equal, Greater, refl, arith}
+use Rattle.std.proofs.Common.{◌≡◌, ℕ, ℤ, pos, negsuc, suc, ◌≤◌, ◌++◌, List, [], ◌∷◌, map, flat_map, Bool, false, codes, Ordering, Less, Equal, Greater, refl, arith, true, cond}
 use Rattle.std.proofs.lemmas.Bool.{or_from}
 use Rattle.std.proofs.Math.Nat.{max-le}
 use Rattle.std.specs.Ordering.{nat_cmp, match_ordering}
 use Rattle.std.specs.Cmp.Lexicographic.{slice_cmp}
 use Rattle.serde_json.specs.Data.{Data, boolean, number, unsigned, string, array, object, Members, no_members, member, put, depth, items_depth, members_depth}
 use Rattle.serde_json.specs.Written.{has_float, items_have_float, members_have_float}
+use Rattle.serde_json.specs.Find.{of_integer}
 use Rattle.serde_json.specs.View.{items_of}
 use Rattle.vx_rows_values.specs.declared.value.ColType.{ColType}
 use Rattle.vx_rows_values.specs.declared.value.ColType.TheVariants as type
-use Rattle.vx_rows_values.specs.Values.{Name}
+use Rattle.vx_rows_values.specs.Values.{Name, Val, num, text}
 use Rattle.vx_plan_nodes.specs.Plan.{Size, one_worker, group_of, Route, Part, one, any, all, routed, Claim, ExchangeKind, route_to, round, broadcast, gather, concat, size}
 use Rattle.vx_plan_nodes.specs.Names.{Names}
 use Rattle.vx_plan_nodes.specs.Outline.{Outline, scan, unary, binary, exchange, Columns, top, columns, plan_in}
+use Rattle.vx_plan_nodes.specs.Phases.{first_columns}
+use Rattle.vx_plan_nodes.specs.Types.{width}
+use Rattle.vx_catalog_relations.specs.Catalog.{relation_at}
+use Rattle.vx_plan_facts.specs.Equal.{Equality, equal_at}
+use Rattle.vx_plan_facts.specs.Fixed.{Values, fixed_at}
+use Rattle.vx_plan_facts.specs.Facts.{each_once}
 use Rattle.vx_check.specs.Explain.{name_at, description}
-use Rattle.vx_check_formats.specs.Json.{columns_json, keys_json, type_json, size_json, route_word, route_name, routed_json, part_json, with_claim, op_word, with_operator, inputs, with_workers, with_output, with_kind, with_exchange, node_json, nodes_json, outline_json}
+use Rattle.vx_check_formats.specs.Json.{columns_json, keys_json, type_json, size_json, route_word, route_name, routed_json, part_json, with_claim, op_word, with_operator, inputs, with_workers, classes, value_json, fixed_json, all_fixed, with_facts, with_output, with_kind, with_exchange, node_json, nodes_json, outline_json, fixed_if, is_first}
 
 -- no deeper than n, and without floats
 pub record IsPlain (n : ℕ) (d : Data) : Type 0 where
@@ -61,19 +68,43 @@ text-plain n s = record { low = omega arith; exact = refl }
 number-plain : (n k : ℕ) → IsPlain n (number (unsigned k))
 number-plain n k = record { low = omega arith; exact = refl }
 
+integer-plain : (n : ℕ) (z : ℤ) → IsPlain n (number (of_integer z))
+integer-plain n (pos k) = record { low = omega arith; exact = refl }
+integer-plain n (negsuc k) = record { low = omega arith; exact = refl }
+
 truth-plain : (n : ℕ) (b : Bool) → IsPlain n (boolean b)
 truth-plain n b = record { low = omega arith; exact = refl }
 
-items-plain : {X : Type 0} (n : ℕ) (json : X → Data) → ((x : X) → IsPlain n (json x)) → (xs : List X) → (items_depth (items_of (map json xs)) ≤ n) × (items_have_float (items_of (map json xs)) ≡ false)
-items-plain n json plain [] = (omega arith, refl)
-items-plain n json plain (x ∷ xs) =
-    let rest = items-plain n json plain xs in
-    (max-le (plain x).low rest.0, or_from (has_float (json x)) (items_have_float (items_of (map json xs))) (plain x).exact rest.1)
+-- each of these is plain
+abbrev EachPlain : ℕ → List Data → Type 0
+EachPlain n [] = Unit {0}
+EachPlain n (d ∷ ds) = IsPlain n d × EachPlain n ds
+
+each-append : (n : ℕ) (ds es : List Data) → EachPlain n ds → EachPlain n es → EachPlain n (ds ++ es)
+each-append n [] es p q = q
+each-append n (d ∷ ds) es p q = (p.0, each-append n ds es p.1 q)
+
+each-map : {X : Type 0} (n : ℕ) (json : X → Data) → ((x : X) → IsPlain n (json x)) → (xs : List X) → EachPlain n (map json xs)
+each-map n json plain [] = tt
+each-map n json plain (x ∷ xs) = (plain x, each-map n json plain xs)
+
+each-flat : {X : Type 0} (n : ℕ) (json : X → List Data) → ((x : X) → EachPlain n (json x)) → (xs : List X) → EachPlain n (flat_map json xs)
+each-flat n json plain [] = tt
+each-flat n json plain (x ∷ xs) = each-append n (json x) (flat_map json xs) (plain x) (each-flat n json plain xs)
+
+each-items : (n : ℕ) (ds : List Data) → EachPlain n ds → (items_depth (items_of ds) ≤ n) × (items_have_float (items_of ds) ≡ false)
+each-items n [] p = (omega arith, refl)
+each-items n (d ∷ ds) p =
+    let rest = each-items n ds p.1 in
+    (max-le p.0.low rest.0, or_from (has_float d) (items_have_float (items_of ds)) p.0.exact rest.1)
+
+array-plain : (n : ℕ) (ds : List Data) → EachPlain n ds → IsPlain (suc n) (array (items_of ds))
+array-plain n ds p =
+    let m = each-items n ds p in
+    record { low = let l = m.0 in omega (arith, l); exact = m.1 }
 
 list-plain : {X : Type 0} (n : ℕ) (json : X → Data) → ((x : X) → IsPlain n (json x)) → (xs : List X) → IsPlain (suc n) (array (items_of (map json xs)))
-list-plain n json plain xs =
-    let m = items-plain n json plain xs in
-    record { low = let l = m.0 in omega (arith, l); exact = m.1 }
+list-plain n json plain xs = array-plain n (map json xs) (each-map n json plain xs)
 
 -- ---- a node's members
 
@@ -113,6 +144,22 @@ claim-plain : (s : Names) (names : List Name) (c : Claim) (ms : Members) → Are
 claim-plain s names c ms q =
     put-plain 2 (codes "keys") _ _ (keys-plain 0 names c.keys) (put-plain 2 (codes "order") _ _ (columns-plain 1 names c.order) (put-plain 2 (codes "part") _ _ (part-plain 0 s names c.part) q))
 
+value-plain : (n : ℕ) (v : Val) → IsPlain n (value_json v)
+value-plain n (num z) = integer-plain n z
+value-plain n (text s) = text-plain n s
+
+fixed-plain : (n : ℕ) (names : List Name) (c : ℕ) (v : Val) → IsPlain (suc n) (fixed_json names c v)
+fixed-plain n names c v = object-plain n _ (put-plain n (codes "value") _ _ (value-plain n v) (put-plain n (codes "column") _ _ (text-plain n (name_at names c)) (none-plain n)))
+
+if-plain : (n : ℕ) (b : Bool) (ds : List Data) → EachPlain n ds → EachPlain n (cond b ds [])
+if-plain n true ds h = h
+if-plain n false ds h = tt
+
+facts-plain : (names : List Name) (w : ℕ) (e : Equality) (f : Values) (ms : Members) → ArePlain 2 ms → ArePlain 2 (with_facts names w e f ms)
+facts-plain names w e f ms q =
+    put-plain 2 (codes "fixed") _ _ (array-plain 1 (all_fixed names w e f) (each-flat 1 (fixed_if names e f) (λ c. if-plain 1 (is_first e c) (map (fixed_json names c) (each_once (f c))) (each-map 1 (fixed_json names c) (fixed-plain 0 names c) (each_once (f c)))) (first_columns w)))
+    (put-plain 2 (codes "equal") _ _ (keys-plain 0 names (classes w e)) q)
+
 output-plain : (c : Columns) (ms : Members) → ArePlain 2 ms → ArePlain 2 (with_output c ms)
 output-plain c ms q = put-plain 2 (codes "types") _ _ (list-plain 1 type_json (type-plain 1) c.types) (put-plain 2 (codes "output") _ _ (list-plain 1 string (text-plain 1) c.names) q)
 
@@ -135,34 +182,17 @@ exchange-plain s (exchange h k m t) ms q = put-plain 2 (codes "merge") _ _ (colu
 node-plain : (s : Names) (t : Outline) → IsPlain 3 (node_json s t)
 unfolding node_json
 node-plain s t =
-    object-plain 2 _ (exchange-plain s t _ (output-plain (columns t) _ (claim-plain s (columns t).names (top t).claim _ (workers-plain s t _ (operator-plain s t _ (none-plain 2))))))
+    let catalog = relation_at s.catalog in
+    object-plain 2 _ (exchange-plain s t _ (output-plain (columns t) _
+    (facts-plain (columns t).names (width catalog (plan_in t)) (equal_at catalog (plan_in t)) (fixed_at catalog (plan_in t)) _
+    (claim-plain s (columns t).names (top t).claim _ (workers-plain s t _ (operator-plain s t _ (none-plain 2)))))))
 
--- each of these is plain
-abbrev EachPlain : List Data → Type 0
-EachPlain [] = Unit {0}
-EachPlain (d ∷ ds) = IsPlain 3 d × EachPlain ds
-
-each-append : (ds es : List Data) → EachPlain ds → EachPlain es → EachPlain (ds ++ es)
-each-append [] es p q = q
-each-append (d ∷ ds) es p q = (p.0, each-append ds es p.1 q)
-
-each-items : (ds : List Data) → EachPlain ds → (items_depth (items_of ds) ≤ 3) × (items_have_float (items_of ds) ≡ false)
-each-items [] p = (omega arith, refl)
-each-items (d ∷ ds) p =
-    let rest = each-items ds p.1 in
-    (max-le p.0.low rest.0, or_from (has_float d) (items_have_float (items_of ds)) p.0.exact rest.1)
-
-nodes-plain : (s : Names) (t : Outline) → EachPlain (nodes_json s t)
+nodes-plain : (s : Names) (t : Outline) → EachPlain 3 (nodes_json s t)
 nodes-plain s (scan h r m z p) = (node-plain s (scan h r m z p), tt)
 nodes-plain s (unary h op f t) = (node-plain s (unary h op f t), nodes-plain s t)
-nodes-plain s (binary h op t u) = (node-plain s (binary h op t u), each-append (nodes_json s t) (nodes_json s u) (nodes-plain s t) (nodes-plain s u))
+nodes-plain s (binary h op t u) = (node-plain s (binary h op t u), each-append 3 (nodes_json s t) (nodes_json s u) (nodes-plain s t) (nodes-plain s u))
 nodes-plain s (exchange h k m t) = (node-plain s (exchange h k m t), nodes-plain s t)
-
-array-plain : (ds : List Data) → EachPlain ds → IsPlain 4 (array (items_of ds))
-array-plain ds p =
-    let m = each-items ds p in
-    record { low = let l = m.0 in omega (arith, l); exact = m.1 }
 
 pub outline-plain : (s : Names) (total : Bool) (t : Outline) → IsPlain 5 (outline_json s total t)
 outline-plain s total t =
-    object-plain 4 _ (put-plain 4 (codes "total") _ _ (truth-plain 4 total) (put-plain 4 (codes "nodes") _ _ (array-plain (nodes_json s t) (nodes-plain s t)) (none-plain 4)))
+    object-plain 4 _ (put-plain 4 (codes "total") _ _ (truth-plain 4 total) (put-plain 4 (codes "nodes") _ _ (array-plain 3 (nodes_json s t) (nodes-plain s t)) (none-plain 4)))

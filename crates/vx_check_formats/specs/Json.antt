@@ -1,15 +1,23 @@
 -- A plan as a JSON value: its nodes in preorder, each with what it is, where its rows come from and what it claims.
-use Rattle.std.specs.Prelude.{ℕ, ◌++◌, Bool, cond, List, [], ◌∷◌, map, codes}
+use Rattle.std.specs.Prelude.{ℕ, ◌==◌, ◌++◌, Bool, false, not, cond, List, [], ◌∷◌, map, filter, flat_map, codes}
+use Rattle.std.specs.List.{list_any}
 use Rattle.serde_json.specs.Data.{Data, boolean, number, unsigned, string, array, object, Members, no_members, put}
+use Rattle.serde_json.specs.Find.{of_integer}
 use Rattle.serde_json.specs.View.{items_of}
 use Rattle.vx_rows_values.specs.declared.value.ColType.{ColType}
 use Rattle.vx_rows_values.specs.declared.value.ColType.TheVariants as type
-use Rattle.vx_rows_values.specs.Values.{Name}
+use Rattle.vx_rows_values.specs.Values.{Name, Val, num, text}
 use Rattle.vx_plan_nodes.specs.Plan.{Size, one_worker, group_of, Route, by_hash, by_range, Part, one, any, all, routed, Claim, Unary, select, project, distinct, sort, group, Phase, plain, partial, final, Binary, union, join, ExchangeKind, route_to, round, broadcast, gather, concat, size}
 use Rattle.vx_plan_nodes.specs.Names.{Names}
 use Rattle.vx_plan_nodes.specs.Outline.{Outline, scan, unary, binary, exchange, Columns, top, columns, plan_in}
 use Rattle.vx_plan_nodes.specs.declared.typed_plan.TypedPlan.{TypedPlan}
 use Rattle.vx_plan_nodes.specs.TypedView.{resolved_of}
+use Rattle.vx_plan_nodes.specs.Phases.{first_columns}
+use Rattle.vx_plan_nodes.specs.Types.{width}
+use Rattle.vx_catalog_relations.specs.Catalog.{relation_at}
+use Rattle.vx_plan_facts.specs.Equal.{Equality, equal_at}
+use Rattle.vx_plan_facts.specs.Fixed.{Values, fixed_at}
+use Rattle.vx_plan_facts.specs.Facts.{each_once}
 use Rattle.vx_check.specs.Explain.{name_at, description}
 
 -- ---- columns, sizes, routes and types
@@ -59,6 +67,53 @@ part_json s names (routed r cols) = routed_json s names r cols
 -- a claim, over columns of these names
 abbrev pub with_claim : Names → List Name → Claim → Members → Members
 with_claim s names c ms = put (codes "keys") (keys_json names c.keys) (put (codes "order") (columns_json names c.order) (put (codes "part") (part_json s names c.part) ms))
+
+-- ---- what is known of columns
+
+-- those of w columns that are equal to this one
+abbrev pub class_at : ℕ → Equality → ℕ → List ℕ
+class_at w e c = filter (e c) (first_columns w)
+
+-- two columns or more, of which this one is the first
+abbrev pub begins_with : ℕ → List ℕ → Bool
+begins_with c (d ∷ x ∷ cols) = d == c
+begins_with c cols = false
+
+-- the class of a column, where it stands
+abbrev pub class_if : ℕ → List ℕ → List (List ℕ)
+class_if c class = cond (begins_with c class) (class ∷ []) []
+
+-- the columns that are equal to others, each class where its first one stands
+abbrev pub classes : ℕ → Equality → List (List ℕ)
+classes w e = flat_map (λ c. class_if c (class_at w e c)) (first_columns w)
+
+abbrev pub value_json : Val → Data
+value_json (num z) = number (of_integer z)
+value_json (text s) = string s
+
+-- a column with a value that it has in every row
+abbrev pub fixed_json : List Name → ℕ → Val → Data
+fixed_json names c v = object (put (codes "value") (value_json v) (put (codes "column") (string (name_at names c)) no_members))
+
+-- no column before it is equal to it
+abbrev pub is_first : Equality → ℕ → Bool
+is_first e c = not (list_any (λ d. e d c) (first_columns c))
+
+-- a column with its values, if it is the first of its class
+abbrev pub fixed_if : List Name → Equality → Values → ℕ → List Data
+fixed_if names e f c = cond (is_first e c) (map (fixed_json names c) (each_once (f c))) []
+
+-- the fixed ones of w columns, of equal ones the first
+abbrev pub all_fixed : List Name → ℕ → Equality → Values → List Data
+all_fixed names w e f = flat_map (fixed_if names e f) (first_columns w)
+
+abbrev pub with_facts : List Name → ℕ → Equality → Values → Members → Members
+with_facts names w e f ms = put (codes "fixed") (array (items_of (all_fixed names w e f))) (put (codes "equal") (keys_json names (classes w e)) ms)
+
+-- of the columns of a node
+abbrev pub with_facts_at : Names → Outline → Members → Members
+with_facts_at s t ms =
+    with_facts (columns t).names (width (relation_at s.catalog) (plan_in t)) (equal_at (relation_at s.catalog) (plan_in t)) (fixed_at (relation_at s.catalog) (plan_in t)) ms
 
 -- ---- operators
 
@@ -128,7 +183,7 @@ with_exchange s (exchange h k m t) ms = put (codes "merge") (columns_json (colum
 -- ---- nodes
 
 unfoldable pub node_json : Names → Outline → Data
-node_json s t = object (with_exchange s t (with_output (columns t) (with_claim s (columns t).names (top t).claim (with_workers s t (with_operator s t no_members)))))
+node_json s t = object (with_exchange s t (with_output (columns t) (with_facts_at s t (with_claim s (columns t).names (top t).claim (with_workers s t (with_operator s t no_members))))))
 
 -- in preorder, as the lines of the text that explains the plan
 abbrev pub nodes_json : Names → Outline → List Data

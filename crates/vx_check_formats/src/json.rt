@@ -1,60 +1,31 @@
 //! A checked plan as JSON.
 
 ghost use Rattle.std.specs.Prelude.{◌≡◌, ◌++◌, ◌∷◌, [], map, string_bytes, codes, OnOk, IfOk, Some};
-ghost use Rattle.serde_json.specs.Data.{string, put, number, unsigned};
+ghost use Rattle.serde_json.specs.Data.{number, unsigned};
 ghost use Rattle.serde_json.specs.Read.{read};
 ghost use Rattle.serde_json.specs.View.{view, members_view};
 ghost use Rattle.serde_json.specs.Written.{compact_text};
-ghost use Rattle.vx_plan_nodes.specs.Outline.{outline_of, top, size_of, part_of, claim_of, kind_of, route_of, unary_of, binary_of, phase_of, columns_of};
+ghost use Rattle.vx_catalog_relations.specs.Catalog.{relation_at};
+ghost use Rattle.vx_plan_facts.specs.Facts.{AreFactsOf, StandAt, AreNumbered};
+ghost use Rattle.vx_plan_facts.specs.FactsView.{facts_of};
+ghost use Rattle.vx_plan_nodes.specs.Outline.{outline_of, plan_of, top, size_of, part_of, claim_of, kind_of, route_of, unary_of, binary_of, phase_of, columns_of};
 ghost use Rattle.vx_plan_nodes.specs.TypedView.{names_in};
 ghost use Rattle.vx_check_rules.specs.CheckedView.{typed_plan};
-ghost use Rattle.vx_check.specs.Explain.{name_at};
-ghost use Rattle.vx_check_formats.specs.Json.{columns_json, keys_json, names_json, type_json, types_json, size_json, routed_json, part_json, with_claim, phase_word, unary_word, binary_word, op_word, with_operator, inputs, with_workers, with_output, with_route, with_kind, with_exchange, node_json, nodes_json, plan_json};
+ghost use Rattle.vx_check_formats.specs.Json.{keys_json, names_json, type_json, types_json, size_json, routed_json, part_json, with_claim, phase_word, unary_word, binary_word, op_word, with_operator, inputs, with_workers, with_output, with_route, with_kind, with_exchange, node_json, nodes_json, plan_json};
 
+use crate::columns::{Members, columns_json, put_text, text_json};
+use crate::facts::put_facts;
 use crate::words::{route_name, route_word};
 use serde_json::{Map, Value as Json, put};
 use std::alloc::{AllocError, Global};
-use vx_check::{column_names, description, name_at, push_name};
+use vx_check::{column_names, description, name_at};
 use vx_check_rules::CheckedPlan;
+use vx_plan_facts::{ColumnFacts, column_facts};
 use vx_plan_nodes::{
     Binary, Claim, Columns, Exchange, ExchangeKind, Name, Part, Phase, Route, Size, SortPhase,
     TypedNode, TypedPlan, Unary,
 };
 use vx_rows_values::ColType;
-
-type Members = Map<String, Json>;
-
-fn text_json(alloc: Global, text: &str) -> Result<Json, AllocError>
-    ensures { IfOk result (λ d. view d ≡ string text.now) }
-{
-    Ok(Json::String(String::from_str(alloc, text)?))
-}
-
-fn put_text(members: &mut Members, alloc: Global, key: &str, text: &str) -> Result<(), AllocError>
-    ensures { OnOk result (members_view members.new.entries ≡ put key.now (string text.now) (members_view members.old.entries)) }
-{
-    put(members, alloc, key, text_json(alloc, text)?)
-}
-
-// The name with this number; past the end the empty one.
-fn name_json(alloc: Global, names: &[Name], number: usize) -> Result<Json, AllocError>
-    ensures { IfOk result (λ d. view d ≡ string (name_at names.now number)) }
-{
-    let mut text = String::new(alloc);
-    push_name(&mut text, names, number)?;
-    Ok(Json::String(text))
-}
-
-// Columns by their names.
-fn columns_json(alloc: Global, names: &[Name], columns: &[usize]) -> Result<Json, AllocError>
-    ensures { IfOk result (λ d. view d ≡ columns_json names.now columns.now) }
-{
-    let mut list = Vec::new(alloc);
-    for column in columns {
-        list.push(name_json(alloc, names, *column)?)?;
-    }
-    Ok(Json::Array(list))
-}
 
 fn keys_json(alloc: Global, names: &[Name], keys: &[Vec<usize>]) -> Result<Json, AllocError>
     ensures { IfOk result (λ d. view d ≡ keys_json names.now (map (λ k. k.items) keys.now)) }
@@ -368,19 +339,21 @@ fn put_exchange(
 }
 
 #[tactic(auto, unfolding(crate::specs::Json::node_json))]
-fn node_json(alloc: Global, plan: &TypedPlan, node: &TypedNode) -> Result<Json, AllocError>
+fn node_json(
+    alloc: Global,
+    plan: &TypedPlan,
+    node: &TypedNode,
+    facts: &ColumnFacts<'_>,
+) -> Result<Json, AllocError>
+    requires { AreFactsOf (relation_at (names_in plan.now).catalog) (plan_of node.now) (facts_of facts.now) }
     ensures { IfOk result (λ d. view d ≡ node_json (names_in plan.now) (outline_of node.now)) }
 {
     let mut members = Map::new(alloc);
     put_operator(&mut members, alloc, plan, node)?;
     put_workers(&mut members, alloc, plan, node)?;
-    put_claim(
-        &mut members,
-        alloc,
-        plan,
-        column_names(node),
-        &node.head().claim,
-    )?;
+    let names = column_names(node);
+    put_claim(&mut members, alloc, plan, names, &node.head().claim)?;
+    put_facts(&mut members, alloc, names, facts)?;
     put_output(&mut members, alloc, &node.head().columns)?;
     put_exchange(&mut members, alloc, plan, node)?;
     Ok(Json::Object(members))
@@ -391,31 +364,35 @@ fn push_node(
     alloc: Global,
     plan: &TypedPlan,
     node: &TypedNode,
+    facts: &[ColumnFacts<'_>],
 ) -> Result<(), AllocError>
+    requires { StandAt (relation_at (names_in plan.now).catalog) (map facts_of facts.now) (plan_of node.now) }
     ensures { OnOk result (map view list.new.items ≡ map view list.old.items ++ (node_json (names_in plan.now) (outline_of node.now) ∷ [])) }
 {
-    list.push(node_json(alloc, plan, node)?)?;
+    list.push(node_json(alloc, plan, node, &facts[node.head().number as usize])?)?;
     Ok(())
 }
 
-// Adds the node, and then those below it.
+// Adds the node, and then those below it, of which the facts stand by their numbers.
 fn push_nodes(
     list: &mut Vec<Json>,
     alloc: Global,
     plan: &TypedPlan,
     node: &TypedNode,
+    facts: &[ColumnFacts<'_>],
 ) -> Result<(), AllocError>
+    requires { AreNumbered (relation_at (names_in plan.now).catalog) (map facts_of facts.now) (plan_of node.now) }
     ensures { OnOk result (map view list.new.items ≡ map view list.old.items ++ nodes_json (names_in plan.now) (outline_of node.now)) }
 {
-    push_node(list, alloc, plan, node)?;
+    push_node(list, alloc, plan, node, facts)?;
     match node {
         TypedNode::Scan(_, _) => Ok(()),
-        TypedNode::Unary(_, _, input) => push_nodes(list, alloc, plan, input),
+        TypedNode::Unary(_, _, input) => push_nodes(list, alloc, plan, input, facts),
         TypedNode::Binary(_, _, left, right) => {
-            push_nodes(list, alloc, plan, left)?;
-            push_nodes(list, alloc, plan, right)
+            push_nodes(list, alloc, plan, left, facts)?;
+            push_nodes(list, alloc, plan, right, facts)
         }
-        TypedNode::Exchange(_, _, input) => push_nodes(list, alloc, plan, input),
+        TypedNode::Exchange(_, _, input) => push_nodes(list, alloc, plan, input, facts),
     }
 }
 
@@ -423,8 +400,9 @@ fn push_nodes(
 fn plan_json(alloc: Global, plan: &TypedPlan) -> Result<Json, AllocError>
     ensures { IfOk result (λ d. view d ≡ plan_json plan.now) }
 {
+    let facts = column_facts(alloc, plan)?;
     let mut nodes = Vec::new(alloc);
-    push_nodes(&mut nodes, alloc, plan, plan.root())?;
+    push_nodes(&mut nodes, alloc, plan, plan.root(), facts.as_slice())?;
     let mut members = Map::new(alloc);
     put(&mut members, alloc, "nodes", Json::Array(nodes))?;
     put(&mut members, alloc, "total", Json::Bool(plan.is_total()))?;

@@ -1,7 +1,9 @@
 //! A checked plan for other tools: as JSON for programs, and as a graph that Graphviz draws for people.
 #![tactic(auto)]
 
+mod columns;
 mod dot;
+mod facts;
 mod json;
 mod label;
 mod totals;

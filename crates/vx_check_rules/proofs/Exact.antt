@@ -146,6 +146,16 @@ unary-parts (group partial by aggregates) p q e = here (is_one (size p)) (way (c
 unary-parts (group final by aggregates) p q e =
     if-there (is_one (size p)) (is_one (size p) || (has p all || routed_within (claim p).part by)) (way (columns_kept by) (own p ∷ [])) q (unless_one (through (has p) (copied by)) q) e (own-kept by p q)
 
+-- the way of an operator over one input gives what the operator shows
+pub unary-gives : (op : Unary) (p : Plan) (q : Part) → gives (way (described op).copying (own p ∷ [])) q ≡ unless_one (unary_shows op p) q
+unary-gives (select cs) p q = gives-whole (own p ∷ []) (has p) (each-own p) q
+unary-gives (sort of_parts cols) p q = gives-whole (own p ∷ []) (has p) (each-own p) q
+unary-gives (project cols) p q = own-kept cols p q
+unary-gives (distinct cols) p q = own-kept cols p q
+unary-gives (group plain by aggregates) p q = own-kept by p q
+unary-gives (group partial by aggregates) p q = own-kept by p q
+unary-gives (group final by aggregates) p q = own-kept by p q
+
 both-unless : (p q : Plan) (x : Part) → unless_one (both_have p q) x ≡ unless_one (λ y. has p y && has q y) x
 both-unless p q one = refl
 both-unless p q any = refl

@@ -1,4 +1,5 @@
 pub mod Rules
+pub mod Derived
 pub mod Refusal
 pub mod Behaviour
 pub mod Exactly

@@ -9,6 +9,7 @@ ghost use Rattle.vx_check_rules.specs.Exactly.{KeysNameColumns};
 use crate::followed::missing;
 use crate::help_claims::{push_key_help, push_order_help, push_part_help};
 use crate::help_words::{push_json_list, push_json_part};
+use crate::open::is_open;
 use crate::words::{push_list, push_node};
 use std::alloc::{AllocError, Global};
 use vx_check::{column_names, push_between, push_name, push_size};
@@ -221,7 +222,11 @@ fn push_sorted(
     text.push_str(match input {
         TypedNode::Exchange(_, _, _) => " and let it merge on that, or sort above it",
         _ => " if it holds there, or sort above it",
-    })
+    })?;
+    if is_open(input) {
+        text.push_str(" with \"phase\": \"partial\"")?;
+    }
+    Ok(())
 }
 
 fn push_join_sorted(

@@ -1,6 +1,7 @@
 //! What would help where a part, an order or a key is claimed that does not follow.
 
 use crate::help_words::{push_json_keys, push_json_list, push_json_part};
+use crate::open::is_open;
 use crate::words::{push_list, push_node};
 use std::alloc::{AllocError, Global};
 use vx_check::column_names;
@@ -60,7 +61,10 @@ pub fn push_part_help(
 fn push_sorting(text: &mut String, node: &TypedNode) -> Result<(), AllocError> {
     let word = match node {
         TypedNode::Scan(_, _) | TypedNode::Binary(_, _, _, _) => ", or sort above it on ",
-        TypedNode::Unary(_, Unary::Sort(_, _), _) => ", or sort here on ",
+        TypedNode::Unary(_, Unary::Sort(SortPhase::Plain, _), _) => ", or sort here on ",
+        TypedNode::Unary(_, Unary::Sort(SortPhase::Partial, _), _) => {
+            ", or sort here, if the group is by these, on "
+        }
         TypedNode::Unary(_, _, _) => ", or sort below it on ",
         TypedNode::Exchange(_, _, _) => ", or merge here, over an input that is sorted so, on ",
     };
@@ -88,6 +92,9 @@ pub fn push_order_help(
 
 // Adds that the key may be claimed at an input.
 fn push_key_below(text: &mut String, input: &TypedNode) -> Result<(), AllocError> {
+    if is_open(input) {
+        return text.push_str(": parts of groups have none, the final group above has");
+    }
     text.push_str(", or claim the key at ")?;
     push_node(text, input)?;
     text.push_str(" too, if it holds there")

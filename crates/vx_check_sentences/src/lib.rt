@@ -7,6 +7,7 @@ mod followed;
 mod help;
 mod help_claims;
 mod help_words;
+mod open;
 mod sentences;
 mod shown;
 mod told;

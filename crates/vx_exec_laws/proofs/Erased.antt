@@ -1,7 +1,7 @@
 -- The plan without exchanges has the same serial rows.
 use Rattle.std.proofs.Common.{cond, ◌≡◌, ℕ, ◌+◌, List, refl, ap, ◌∙◌, Option, Some, None, sym, true}
 use Rattle.vx_rows_values.specs.Values.{Row}
-use Rattle.vx_plan_nodes.specs.Plan.{Plan, scan, unary, binary, exchange, Unary, group, partial, Aggregate}
+use Rattle.vx_plan_nodes.specs.Plan.{Plan, scan, unary, binary, exchange, Unary, sort, group, partial, Aggregate}
 use Rattle.vx_plan_nodes.specs.Serial.{SerialResult, rows, overflow, or_overflow, after, serial, unary_rows, binary_rows, IsOverflow, group_rows}
 use Rattle.vx_exec_laws.specs.Faults.{ErasedOverflows}
 use Rattle.vx_plan_nodes.specs.Erase.{no_claim, erase_from, nodes_left}
@@ -33,7 +33,7 @@ erase-list catalog db i (unary n c op p) wf =
     let ih : (j : ℕ) → list_of (serial db (erase_from j p)) ≡ list_of (serial db p) = λ j. erase-list catalog db j p (well-under catalog n c op p wf).0 in
     by-phase
     (λ op f. f.fits p ≡ true → list_of (serial db (cond f.ends (erase_from i p) (unary i no_claim f.once (erase_from (i + 1) p)))) ≡ list_of (serial db (unary n c op p)))
-    (λ op v e. over op ih) (λ by aggregates e. over (group partial by aggregates) ih)
+    (λ op v e. over op ih) (λ by aggregates e. over (group partial by aggregates) ih) (λ cols e. over (sort true cols) ih)
     (λ by aggregates e. ih i ∙ again by aggregates (serial db p) (λ xs h. final-serial db by aggregates p e xs h))
     op (well-under catalog n c op p wf).1
   where

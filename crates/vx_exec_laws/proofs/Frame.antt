@@ -1,5 +1,5 @@
 -- The induction on the plan.
-use Rattle.std.proofs.Common.{Option, IsSome, ◌≡◌, ℕ, ◌+◌, ◌<◌, ◌==◌, Bool, true, false, cond, not, ◌&&◌, ◌||◌, ⊎_elim, List, [], ◌∷◌, filter, length, refl, sym, ap, ◌∙◌, subst, arith, true≢false, Some, None, ◌⊎◌, inl, inr, eq-eqb, ◌≤◌}
+use Rattle.std.proofs.Common.{Option, IsSome, ◌≡◌, ℕ, ◌+◌, ◌<◌, ◌==◌, Bool, true, false, cond, not, ◌&&◌, ◌||◌, ⊎_elim, List, [], ◌∷◌, filter, map, length, refl, sym, ap, ◌∙◌, subst, arith, true≢false, Some, None, ◌⊎◌, inl, inr, eq-eqb, ◌≤◌}
 use Rattle.std.proofs.lemmas.Bool.{not-true}
 use Rattle.std.specs.List.{list_all, list_any}
 use Rattle.vx_rows_values.specs.Values.{Row, pick, row_eq}
@@ -8,11 +8,11 @@ use Rattle.vx_rows_values.specs.Bags.{SameRows, total}
 use Rattle.vx_catalog_relations.specs.Relation.{Relation}
 use Rattle.vx_plan_nodes.specs.Types.{well_formed, names_columns, width}
 use Rattle.vx_plan_nodes.specs.Plan.{Claim, Plan, scan, unary, binary, exchange, claim, size, Unary, group, partial, final, Aggregate, least, greatest, sum, count_rows}
-use Rattle.vx_plan_nodes.specs.Serial.{group_keys, group_fits, unary_rows, rows, or_overflow, after, serial, group_rows, SerialResult, overflow, IsTooLong, HasLargeInput, LargePart, is_sum_of, fits, sum_of, count_of, of_key}
+use Rattle.vx_plan_nodes.specs.Serial.{group_keys, group_row, group_fits, unary_rows, rows, or_overflow, after, serial, group_rows, SerialResult, overflow, IsTooLong, HasLargeInput, LargePart, is_sum_of, fits, sum_of, count_of, of_key}
 use Rattle.vx_plan_nodes.specs.Streams.{Streams, joined, workers}
 use Rattle.vx_plan_nodes.specs.Routes.{Routing}
 use Rattle.vx_plan_nodes.specs.Runs.{Runs}
-use Rattle.vx_plan_nodes.specs.Phases.{is_partial, is_final, is_open, opens, phase_fits, spoken, Gives}
+use Rattle.vx_plan_nodes.specs.Phases.{is_partial, is_final, is_open, opens, spoken, Gives, listed}
 use Rattle.vx_check_rules.specs.Rules.{allowed, allowed_here}
 use Rattle.vx_check_rules.specs.Claims.{Given}
 use Rattle.vx_check_rules.proofs.Bools.{or-left, or-right}
@@ -22,33 +22,22 @@ use Rattle.vx_exec_laws.proofs.Bags.{SameRows-sym, and-left, and-right, SameRows
 use Rattle.vx_exec_laws.proofs.Groups.{groups, fits-split}
 use Rattle.vx_exec_laws.proofs.Exchange.{filter-all}
 use Rattle.vx_exec_laws.proofs.Parts.{stream-most}
-use Rattle.vx_exec_laws.proofs.Opened.{opened, opened-as}
+use Rattle.vx_exec_laws.proofs.Opened.{listed_rows, opened, opened-as}
 use Rattle.vx_exec_laws.proofs.Phased.{by-phase}
 use Rattle.vx_exec_laws.proofs.Pieces.{final-fits}
 use Rattle.vx_exec_laws.proofs.Operators.{whole}
-use Rattle.vx_exec_laws.proofs.OneInput.{FitsInput, tests, HoldingOf, Holding, HoldingAt, fitting-at, scan-holds, unary-holds, close, exchange-holds, partial-holds, final-holds}
+use Rattle.vx_exec_laws.proofs.OneInput.{FitsInput, tests, Holding, HoldingAt, fitting-at, scan-holds, unary-holds, close, exchange-holds}
 use Rattle.vx_exec_laws.proofs.TwoInputs.{binary-holds}
-use Rattle.vx_exec_laws.proofs.WellFormed.{well-under, well-both, names}
+use Rattle.vx_exec_laws.proofs.WellFormed.{well-under, well-both, well-phased, names}
 
 module _ (catalog : ℕ → Relation) (db : ℕ → List Row) (sizes : ℕ → ℕ) (goes : Routing) (given : Given catalog db sizes goes) where
-  unary-at : (k : ℕ) (c : Claim) (op : Unary) (p : Plan) (s out : Streams) → phase_fits op p ≡ true → HoldingAt db sizes goes p s → allowed_here catalog (unary k c op p) ≡ true
-      → ((w : ℕ) → w < workers sizes (size p) → unary_rows op (s w) ≡ Some (out w)) → HoldingAt db sizes goes (unary k c op p) out
-  unary-at k c op p s out e h ok run =
-      let own_rows : not (is_open p) ≡ true → Holding db sizes goes p s = λ e. close catalog db sizes goes given p s (not-true (is_open p) e) h in
-      by-phase
-      (λ op f. f.fits p ≡ true → allowed_here catalog (unary k c op p) ≡ true → ((w : ℕ) → w < workers sizes (size p) → unary_rows op (s w) ≡ Some (out w))
-      → HoldingOf goes c (workers sizes (size p)) out (serial db (f.spoken_of p (unary k c op p))) f.gives_of f.listed_of)
-      (λ op w e ok run. unary-holds catalog db sizes goes given k c op w p s out (own_rows e) ok run)
-      (λ by aggregates e ok run. partial-holds catalog db sizes goes given k c by aggregates p s out (own_rows e) ok run)
-      (λ by aggregates e ok run. final-holds catalog db sizes goes given k c by aggregates p s out h e ok run)
-      op e ok run
-
   pub all-hold : (p : Plan) (s : Streams) → well_formed catalog p ≡ true → allowed catalog p ≡ true → Runs db sizes goes p s → HoldingAt db sizes goes p s
   all-hold (scan k c r m z) s wf ok run = scan-holds catalog db sizes goes given k c r m z s ok run
   all-hold (unary k c op p) s wf ok run =
       let here : Bool = allowed_here catalog (unary k c op p) in
-      let h = all-hold p run.0 (well-under catalog k c op p wf).0 (and-left (allowed catalog p) here ok) run.1 in
-      unary-at k c op p run.0 s (well-under catalog k c op p wf).1 h (and-right (allowed catalog p) here ok) run.2
+      let well = well-under catalog k c op p wf in
+      let h = all-hold p run.0 well.0 (and-left (allowed catalog p) here ok) run.1 in
+      unary-holds catalog db sizes goes given k c op p run.0 s (well-phased catalog p well.0) well.1 h (and-right (allowed catalog p) here ok) run.2
   all-hold (binary k c op p q) s wf ok run =
       let here : Bool = allowed_here catalog (binary k c op p q) in
       let rest = and-right (allowed catalog p) (allowed catalog q && here) ok in
@@ -56,8 +45,8 @@ module _ (catalog : ℕ → Relation) (db : ℕ → List Row) (sizes : ℕ → �
       let h = all-hold p run.0 well.0 (and-left (allowed catalog p) (allowed catalog q && here) ok) run.2 in
       let j = all-hold q run.1 well.1 (and-left (allowed catalog q) here rest) run.3 in
       binary-holds catalog db sizes goes given k c op p q run.0 run.1 s
-      (close catalog db sizes goes given p run.0 (not-true (is_open p) (and-left (not (is_open p)) (not (is_open q)) well.2)) h)
-      (close catalog db sizes goes given q run.1 (not-true (is_open q) (and-right (not (is_open p)) (not (is_open q)) well.2)) j)
+      (close catalog db sizes goes given p run.0 (well-phased catalog p well.0) (not-true (is_open p) (and-left (not (is_open p)) (not (is_open q)) well.2)) h)
+      (close catalog db sizes goes given q run.1 (well-phased catalog q well.1) (not-true (is_open q) (and-right (not (is_open p)) (not (is_open q)) well.2)) j)
       well.0 (names catalog p well.0) (and-right (allowed catalog q) here rest) run.4
   all-hold (exchange k c kind merge p) s wf ok run =
       let here : Bool = allowed_here catalog (exchange k c kind merge p) in
@@ -89,7 +78,7 @@ module _ (catalog : ℕ → Relation) (db : ℕ → List Row) (sizes : ℕ → �
       let o = opened keys puts p e in
       let n : ℕ = workers sizes (size p) in
       let all_fit : list_all (group_fits o.by o.aggregates ih.base) (group_keys o.by ih.base) ≡ true
-      = fitted o.by o.aggregates o.node (sym (ap (λ v. after v (λ xs. or_overflow o.node (group_rows o.by o.aggregates xs))) ih.is_serial) ∙ (sym (o.serial_is db) ∙ h)) in
+      = fitted o.by o.aggregates o.node (sym (ap (λ v. after v (λ xs. or_overflow o.node (listed_rows o.by o.aggregates (listed p) xs))) ih.is_serial) ∙ (sym (o.serial_is db) ∙ h)) in
       let each : (xs : List Row) → Gives p ih.base xs → list_all (group_fits keys puts xs) (group_keys keys xs) ≡ true = λ xs g.
       opened-as keys puts p o (λ a b. list_all (group_fits a b xs) (group_keys a xs) ≡ true) (final-fits o.by o.aggregates ih.base xs (o.gives ih.base xs g) all_fit) in
       group-fit keys puts (s w) (⊎_elim
@@ -97,10 +86,10 @@ module _ (catalog : ℕ → Relation) (db : ℕ → List Row) (sizes : ℕ → �
       (λ f. fits-split goes f.0.0 f.0.1 keys puts n s (joined n s) f.0.2 (SameRows-refl (joined n s)) f.0.3 (each (joined n s) f.1) w l)
       (fitting-at catalog db sizes goes given (group final keys puts) p s (λ xs. Gives p ih.base xs) ih.holds.part fit))
     where
-      fitted : (by : List ℕ) (aggregates : List Aggregate) (j : ℕ) → or_overflow j (group_rows by aggregates ih.base) ≡ rows ys → list_all (group_fits by aggregates ih.base) (group_keys by ih.base) ≡ true
+      fitted : (by : List ℕ) (aggregates : List Aggregate) (j : ℕ) → or_overflow j (listed_rows by aggregates (listed p) ih.base) ≡ rows ys → list_all (group_fits by aggregates ih.base) (group_keys by ih.base) ≡ true
       fitted by aggregates j e = go (list_all (group_fits by aggregates ih.base) (group_keys by ih.base)) e
         where
-          go : (b : Bool) → or_overflow j (cond b (Some (groups by aggregates ih.base)) None) ≡ rows ys → b ≡ true
+          go : (b : Bool) → or_overflow j (cond b (Some (map (group_row by aggregates ih.base) (listed p ih.base))) None) ≡ rows ys → b ≡ true
           go true e = refl
           go false e = cc
 
@@ -184,11 +173,12 @@ module _ (catalog : ℕ → Relation) (db : ℕ → List Row) (sizes : ℕ → �
       let P : SerialResult → Type 0 = λ o. HasLargeInput (group partial by aggregates) o ⊎ IsTooLong (group partial by aggregates) o in
       decide by aggregates (list_all (group_fits by aggregates (u w)) (group_keys by (u w))) refl
       (λ bad. subst P (sym ih.is_serial) (partial-large by aggregates (u w) ih.base (λ f. stream-most goes (claim p).part (workers sizes (size p)) u (λ xs. SameRows xs ih.base) f (total f ih.base) (λ xs e. let k = e.totals f in omega (arith, k)) ih.holds.part w l) bad)))
+      (λ cols f t e. inl refl)
       (λ by aggregates f t e. inl (below by aggregates (serial db p) refl h f t e))
       op (well-under catalog k c op p wf).1 t.2 e
     where
       own_rows : HoldingAt db sizes goes p u → not (is_open p) ≡ true → Holding db sizes goes p u
-      own_rows h f = close catalog db sizes goes given p u (not-true (is_open p) f) h
+      own_rows h f = close catalog db sizes goes given p u (well-phased catalog p (well-under catalog k c op p wf).0) (not-true (is_open p) f) h
 
       below : (by : List ℕ) (aggregates : List Aggregate) (o : SerialResult) → serial db p ≡ o → HoldingAt db sizes goes p u → opens by aggregates p ≡ true
           → FitsInput (group final by aggregates) p → after o (λ ys. or_overflow k (group_rows by aggregates ys)) ≡ rows xs → IsSome (group_rows by aggregates (u w))
@@ -204,17 +194,18 @@ module _ (catalog : ℕ → Relation) (db : ℕ → List Row) (sizes : ℕ → �
 pub no-overflow : NoOverflow
 no-overflow catalog db sizes goes given n c op p u = no-overflow-at catalog db sizes goes given n c op p u
 
+-- the plan that a claim speaks of is well formed
+pub well-spoken : (catalog : ℕ → Relation) (p : Plan) → well_formed catalog p ≡ true → well_formed catalog (spoken p) ≡ true
+well-spoken catalog (scan n c r m z) wf = wf
+well-spoken catalog (unary n c op p) wf = by-phase (λ op f. well_formed catalog (unary n c op p) ≡ true → well_formed catalog (f.spoken_of p (spoken p) (unary n c op p)) ≡ true)
+    (λ op w wf. wf) (λ by aggregates wf. and-left (well_formed catalog p) _ wf) (λ cols wf. well-spoken catalog p (and-left (well_formed catalog p) _ wf)) (λ by aggregates wf. wf) op wf
+well-spoken catalog (binary n c op p q) wf = wf
+well-spoken catalog (exchange n c k m p) wf = well-spoken catalog p (and-left (well_formed catalog p) _ wf)
+
 pub sound : Sound
 sound catalog db sizes goes given p s wf ok run =
     let h = all-hold catalog db sizes goes given p s wf ok run in
     record { base = h.base; is_serial = h.is_serial; is_erased = erased-rows catalog db 0 (spoken p) h.base (well-spoken catalog p wf) h.is_serial; holds = h.holds }
-  where
-    well-spoken : (catalog : ℕ → Relation) (p : Plan) → well_formed catalog p ≡ true → well_formed catalog (spoken p) ≡ true
-    well-spoken catalog (scan n c r m z) wf = wf
-    well-spoken catalog (unary n c op p) wf = by-phase (λ op f. well_formed catalog (unary n c op p) ≡ true → well_formed catalog (f.spoken_of p (unary n c op p)) ≡ true)
-        (λ op w wf. wf) (λ by aggregates wf. and-left (well_formed catalog p) _ wf) (λ by aggregates wf. wf) op wf
-    well-spoken catalog (binary n c op p q) wf = wf
-    well-spoken catalog (exchange n c k m p) wf = well-spoken catalog p (and-left (well_formed catalog p) _ wf)
 
 pub sound-throughout : SoundThroughout
 sound-throughout catalog db sizes goes given (scan k c r m z) s wf ok run = sound catalog db sizes goes given (scan k c r m z) s wf ok run

@@ -2,8 +2,8 @@
 use Rattle.std.proofs.Common.{◌≡◌, ℕ, zero, suc, ◌<◌, ◌≤◌, ◌==◌, nat_lt, Bool, true, false, cond, not, ◌&&◌, List, [], ◌∷◌, ◌++◌, map, length, refl, sym, ap, ap₂, ◌∙◌, subst, arith, Some, slice_get, eqb-true, lt-ltb, is_le}
 use Rattle.std.proofs.lemmas.Bool.{not-true}
 use Rattle.std.specs.List.{list_all}
-use Rattle.vx_rows_values.specs.Values.{Row, row_eq, pick}
-use Rattle.vx_rows_values.specs.Order.{agree, sorted, compare_on}
+use Rattle.vx_rows_values.specs.Values.{Row, row_cmp, row_eq, pick}
+use Rattle.vx_rows_values.specs.Order.{agree, sorted, compare_on, insert_sorted, sort_on}
 use Rattle.vx_rows_values.specs.Bags.{total, count, SameRows}
 use Rattle.vx_rows_values.specs.Keys.{HasKey}
 use Rattle.vx_plan_nodes.specs.Plan.{Route, Aggregate}
@@ -17,7 +17,7 @@ use Rattle.vx_exec_laws.proofs.Bags.{and-left, and-right, and-both, total-map, t
 use Rattle.vx_exec_laws.proofs.Parts.{list_all-weaken, list_all-always}
 use Rattle.vx_exec_laws.proofs.Keys.{agree-within}
 use Rattle.vx_rows_values.proofs.Compare.{row_eq-same, row_eq-refl, agree-both}
-use Rattle.vx_exec_laws.proofs.Unary.{map-all, project-sorted}
+use Rattle.vx_exec_laws.proofs.Unary.{sort-all, map-all, project-sorted}
 use Rattle.vx_exec_laws.proofs.Copies.{copied-cons}
 use Rattle.vx_exec_laws.proofs.Join.{total-all-ext, pick-left, value-left}
 use Rattle.vx_exec_laws.proofs.JoinOrder.{all-append, all-and, wide}
@@ -139,6 +139,28 @@ extended-sorted cs v g tail e below (x ∷ xs) w h =
     rw (a, b) (and-right (length y == v) (is_le (compare_on cs x y)) k))
     xs (all-and (λ y. length y == v) (λ y. is_le (compare_on cs x y)) xs later (and-left (list_all (λ y. is_le (compare_on cs x y)) xs) (sorted cs xs) h))))
     (extended-sorted cs v g tail e below xs later (and-right (list_all (λ y. is_le (compare_on cs x y)) xs) (sorted cs xs) h))
+
+-- rows that begin with the columns sorted on are sorted as these are
+pub extended-sort : (cols : List ℕ) (v : ℕ) (g : Row → Row) → ((x : Row) → length x ≡ v → pick cols (g x) ≡ pick cols x)
+    → (xs : List Row) → wide v xs ≡ true → sort_on cols (map g xs) ≡ map g (sort_on cols xs)
+extended-sort cols v g same [] w = refl
+extended-sort cols v g same (x ∷ xs) w =
+    let later = and-right (length x == v) (wide v xs) w in
+    ap (insert_sorted cols (g x)) (extended-sort cols v g same xs later)
+    ∙ insert (eqb-true (length x) v (and-left (length x == v) (wide v xs) w)) (sort_on cols xs) (sort-all (λ row. length row == v) cols xs later)
+  where
+    insert : length x ≡ v → (ys : List Row) → wide v ys ≡ true → insert_sorted cols (g x) (map g ys) ≡ map g (insert_sorted cols x ys)
+    insert l [] w = refl
+    insert l (y ∷ ys) w =
+        let a : pick cols (g x) ≡ pick cols x = same x l in
+        let b : pick cols (g y) ≡ pick cols y = same y (eqb-true (length y) v (and-left (length y == v) (wide v ys) w)) in
+        ap (λ o. cond (is_le o) (g x ∷ g y ∷ map g ys) (g y ∷ insert_sorted cols (g x) (map g ys))) (ap₂ row_cmp a b)
+        ∙ go (is_le (compare_on cols x y)) (insert l ys (and-right (length y == v) (wide v ys) w))
+      where
+        go : (b : Bool) → insert_sorted cols (g x) (map g ys) ≡ map g (insert_sorted cols x ys)
+            → cond b (g x ∷ g y ∷ map g ys) (g y ∷ insert_sorted cols (g x) (map g ys)) ≡ map g (cond b (x ∷ y ∷ ys) (y ∷ insert_sorted cols x ys))
+        go true e = refl
+        go false e = ap (λ l. g y ∷ l) e
 
 pub groups-sorted : (by cs ds : List ℕ) (aggregates : List Aggregate) → copied by cs ≡ Some ds → (xs : List Row) → sorted ds xs ≡ true → sorted cs (groups by aggregates xs) ≡ true
 groups-sorted by cs ds aggregates e xs h =

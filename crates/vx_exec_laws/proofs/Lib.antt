@@ -43,3 +43,13 @@ pub mod Settings
 pub mod TypedPlans
 pub mod PhaseFacts
 pub mod Numbered
+pub mod DerivedMore
+pub mod DerivedStreams
+pub mod DerivedPairs
+pub mod DerivedSerial
+pub mod DerivedOpen
+pub mod DerivedParts
+pub mod DerivedOrders
+pub mod DerivedKeys
+pub mod DerivedNodes
+pub mod DerivedFrame

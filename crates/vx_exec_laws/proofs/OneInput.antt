@@ -1,39 +1,43 @@
 -- The claims of scans, of nodes with one input, and of exchanges.
-use Rattle.std.proofs.Common.{◌≡◌, ℕ, ◌+◌, ◌<◌, ◌==◌, Bool, true, false, cond, ◌&&◌, ◌||◌, ⊎_elim, List, [], ◌∷◌, ◌++◌, map, length, refl, sym, ap, ◌∙◌, subst, arith, true≢false, Option, Some, None, ◌⊎◌, inl, inr, zero, suc, ◌≤◌, ap₂, slice_get}
+use Rattle.std.proofs.Common.{◌≡◌, ℕ, ◌+◌, ◌<◌, Bool, true, false, cond, ◌&&◌, ◌||◌, ⊎_elim, List, [], ◌∷◌, ◌++◌, map, length, refl, sym, ap, ◌∙◌, subst, arith, true≢false, Option, Some, None, ◌⊎◌, inl, inr, zero, suc, ◌≤◌, ap₂, slice_get, not}
+use Rattle.std.proofs.lemmas.Bool.{not-true}
 use Rattle.std.specs.List.{list_all, list_any}
 use Rattle.vx_rows_values.specs.Values.{Row, pick}
-use Rattle.vx_rows_values.specs.Order.{sorted}
-use Rattle.vx_rows_values.specs.Bags.{SameRows}
+use Rattle.vx_rows_values.specs.Order.{agree, sorted, sort_on}
+use Rattle.vx_rows_values.specs.Bags.{count, SameRows}
+use Rattle.vx_rows_values.specs.Keys.{HasKey}
 use Rattle.vx_catalog_relations.specs.Catalog.{all_below}
-use Rattle.vx_catalog_relations.specs.Relation.{Relation, KeysHold}
-use Rattle.vx_plan_nodes.specs.Plan.{Size, Part, one, any, all, routed, Claim, Plan, scan, unary, exchange, claim, size, Unary, group, ExchangeKind, route_to, round, broadcast, gather, target, is_one, partial, final, Aggregate, concat}
+use Rattle.vx_catalog_relations.specs.Relation.{Relation}
+use Rattle.vx_plan_nodes.specs.Plan.{Size, Part, one, any, all, routed, Claim, Plan, scan, unary, exchange, claim, size, Unary, sort, group, ExchangeKind, route_to, round, broadcast, gather, target, is_one, partial, final, Aggregate, concat}
 use Rattle.vx_plan_nodes.specs.Parts.{kind_part}
 use Rattle.vx_plan_nodes.specs.Describe.{Copying, whole_rows, described}
 use Rattle.vx_plan_nodes.specs.Serial.{group_keys, group_fits, unary_rows, SerialResult, rows, or_overflow, after, serial, group_row, aggregate_of, group_rows, of_key}
 use Rattle.vx_plan_nodes.specs.Streams.{Streams, joined, workers}
 use Rattle.vx_plan_nodes.specs.Routes.{Routing}
 use Rattle.vx_plan_nodes.specs.Runs.{Exchanges, Runs}
-use Rattle.vx_plan_nodes.specs.Phases.{columns_from, first_columns, merged, is_partial, is_final, is_open, opens, Parts, spoken, Gives, listed}
-use Rattle.vx_check_rules.specs.Rules.{part_gives, has, copied, covers, is_prefix, within, numbers_below, routed_within, allowed_here, sizes_match, not_replicated, inputs_match, order_given, part_shown, order_shown, keys_shown, goes_on, unary_keys}
-use Rattle.vx_check_rules.specs.Behaviour.{way, own, bare, if_so, meet, over, gives, behaviour, fits, shown_part}
-use Rattle.vx_check_rules.specs.Claims.{PartHolds, OrderHolds, Given, PartOf, ClaimOf}
-use Rattle.vx_check_rules.proofs.Exact.{fits-exactly, parts-exactly}
+use Rattle.vx_plan_nodes.specs.Phases.{columns_from, first_columns, merged, is_partial, is_final, is_open, opens, phase_fits, phased, Parts, spoken, Gives, listed}
+use Rattle.vx_check_rules.specs.Rules.{part_gives, has, unless_one, unary_shows, copied, covers, is_prefix, within, numbers_below, routed_within, allowed_here, sizes_match, not_replicated, inputs_match, order_given, part_shown, order_shown, keys_shown, goes_on, unary_keys}
+use Rattle.vx_check_rules.specs.Behaviour.{sources, order_after, way, own, bare, if_so, meet, over, gives, behaviour, fits, shown_part}
+use Rattle.vx_check_rules.specs.Claims.{PartHolds, Given, PartOf, ClaimOf}
+use Rattle.vx_check_rules.proofs.Exact.{fits-exactly, parts-exactly, sources-kept, unary-gives}
 use Rattle.vx_check_rules.proofs.Bools.{or-false, or-left, any-if}
 use Rattle.vx_exec_laws.proofs.Bags.{SameRows-sym, and-left, and-right, SameRows-refl, SameRows-trans}
 use Rattle.vx_exec_laws.proofs.Parts.{InRange, single-of, from_single-of, has-part, one-worker, some-workers, or-cases}
 use Rattle.vx_exec_laws.proofs.Orders.{sorted-front, Dealt-sorted}
 use Rattle.vx_exec_laws.proofs.Keys.{covers-key, keys-from}
-use Rattle.vx_exec_laws.proofs.Copies.{if_some-is, copied-cons}
+use Rattle.vx_exec_laws.proofs.Linear.{Linear-map, Linear-sort, sort-total, linear-same, linear-joined}
+use Rattle.vx_exec_laws.proofs.Copies.{copied-cons}
 use Rattle.vx_exec_laws.proofs.Unary.{some-is, project-sorted}
-use Rattle.vx_exec_laws.proofs.Widths.{some-of, firsts-all, picks-wide}
+use Rattle.vx_exec_laws.proofs.Widths.{some-of}
 use Rattle.vx_exec_laws.proofs.Apart.{firsts-sorted}
 use Rattle.vx_exec_laws.proofs.Groups.{groups, groups-joined, fits-joined, extended-sorted, copied-below, groups-key}
 use Rattle.vx_exec_laws.proofs.Exchange.{Dealt-same, exchange-any, broadcast-all, routed-in-stream, single-sorted}
-use Rattle.vx_exec_laws.proofs.Opened.{closed, Opened, opened, opened-as, Gives-order, final-serial}
-use Rattle.vx_exec_laws.proofs.Pieces.{Parts-base, Parts-joined, Parts-groups, final-groups, fits-final}
+use Rattle.vx_exec_laws.proofs.Opened.{closed, listed_rows, Opened, listed-wide, opened, opened-as, Gives-order, final-serial}
+use Rattle.vx_exec_laws.proofs.Pieces.{columns-long, Parts-base, Parts-joined, Parts-groups, final-groups, fits-final}
 use Rattle.vx_exec_laws.proofs.Concat.{ranged, exchange-sorted}
-use Rattle.vx_exec_laws.proofs.Operators.{Made, Meets, Whole, whole, unary-ordered}
-use Rattle.vx_exec_laws.proofs.Places.{part-placed, had-place, each-if, unary-places, Stands, shown-part, made-gives}
+use Rattle.vx_exec_laws.proofs.Operators.{Made, Meets, Whole, whole, keeps, unary-order}
+use Rattle.vx_exec_laws.proofs.Phased.{by-phase}
+use Rattle.vx_exec_laws.proofs.Places.{part-placed, had-place, unary-place, shown-part, made-gives}
 
 pub seven : (a b c d e f g : Bool) → (a && (b && (c && (d && (e && (f && g)))))) ≡ true
     → (a ≡ true) × (b ≡ true) × (c ≡ true) × (d ≡ true) × (e ≡ true) × (f ≡ true) × (g ≡ true)
@@ -106,12 +110,12 @@ pub record Carries (goes : Routing) (m : Option (List ℕ)) (op : List Row → O
   pub joins : (n : ℕ) (s s' : Streams) → Meets goes m n s → from (joined n s) → ((w : ℕ) → w < n → op (s w) ≡ Some (s' w)) → to (joined n s')
 
 -- a part that is made where it is
-made-part : (goes : Routing) → InRange goes → (b : Bool) (p q : Part) (n : ℕ) (s : Streams) (stands : List Row → Type 0) → (b ≡ true → n ≡ 1) → PartOf goes p n s stands
+pub made-part : (goes : Routing) → InRange goes → (b : Bool) (p q : Part) (n : ℕ) (s : Streams) (stands : List Row → Type 0) → (b ≡ true → n ≡ 1) → PartOf goes p n s stands
     → (b || list_any (λ v. gives v q) (way whole_rows (bare p ∷ []) ∷ [])) ≡ true → PartOf goes q n s stands
 made-part goes law b p q n s stands single h e = has-part goes law b p q n s stands single (made-gives b p q e) h
 
 module _ (catalog : ℕ → Relation) (db : ℕ → List Row) (sizes : ℕ → ℕ) (goes : Routing) (given : Given catalog db sizes goes) where
-  some : (z : Size) → 0 < workers sizes z
+  pub some : (z : Size) → 0 < workers sizes z
   some z = some-workers sizes given.some_workers z
 
   -- the ways in which an operator's input fits it
@@ -119,82 +123,148 @@ module _ (catalog : ℕ → Relation) (db : ℕ → List Row) (sizes : ℕ → �
       → FitsInput op p → Fitting goes (described op).meets (is_one (size p)) (claim p).part (workers sizes (size p)) s stands
   fitting-at op p s stands h e = fitting goes given.in_range (workers sizes (size p)) s stands p (described op).meets (described op).copying (one-worker sizes (size p)) e h
 
+  -- by the tests, or as rows that have to meet do
+  abbrev pub FitsStreams : Unary → Plan → Streams → Type 0
+  FitsStreams op p s = FitsInput op p ⊎ (Meets goes (described op).meets (workers sizes (size p)) s × (has p any ≡ true))
+
+  fitting-from : (op : Unary) (p : Plan) (s : Streams) (stands : List Row → Type 0) → PartOf goes (claim p).part (workers sizes (size p)) s stands
+      → FitsStreams op p s → Fitting goes (described op).meets (is_one (size p)) (claim p).part (workers sizes (size p)) s stands
+  fitting-from op p s stands h fit = ⊎_elim (λ e. fitting-at op p s stands h e)
+      (λ m. inr (m.0, has-part goes given.in_range (is_one (size p)) (claim p).part any (workers sizes (size p)) s stands (one-worker sizes (size p)) m.1 h)) fit
+
   -- ---- one step for all operators over one input
 
-  unary-claim : (k : ℕ) (c : Claim) (op : Unary) (p : Plan) (s out : Streams) (from to : List Row → Type 0) (list list' : List Row)
-      → PartOf goes (claim p).part (workers sizes (size p)) s from → OrderHolds (claim p).order (workers sizes (size p)) s list
-      → Carries goes (described op).meets (unary_rows op) from to → allowed_here catalog (unary k c op p) ≡ true
-      → ((w : ℕ) → w < workers sizes (size p) → unary_rows op (s w) ≡ Some (out w)) → sorted c.order list' ≡ true → KeysHold c.keys list'
-      → ClaimOf goes c (workers sizes (size p)) out to list'
-  unary-claim k c op p s out from to list list' part order carries ok run up keys =
-      let h = tests catalog (unary k c op p) ok in
+  unary-together : (op : Unary) (p : Plan) (s out : Streams) (from to : List Row → Type 0) → PartOf goes (claim p).part (workers sizes (size p)) s from → FitsStreams op p s
+      → Carries goes (described op).meets (unary_rows op) from to → ((w : ℕ) → w < workers sizes (size p) → unary_rows op (s w) ≡ Some (out w))
+      → has p any ≡ true → to (joined (workers sizes (size p)) out)
+  unary-together op p s out from to part fit carries run e = ⊎_elim
+      (λ f. from_single-of goes given.in_range all (workers sizes (size p)) out to (f.1 e) (λ w l. carries.alone (s w) (out w) (run w l) (f.0 w l)))
+      (λ f. carries.joins (workers sizes (size p)) s out f.0 f.1 run)
+      (fitting-from op p s from part fit)
+
+  unary-part : (op : Unary) (p : Plan) (s out : Streams) (from to : List Row → Type 0) → PartOf goes (claim p).part (workers sizes (size p)) s from → FitsStreams op p s
+      → Carries goes (described op).meets (unary_rows op) from to → ((w : ℕ) → w < workers sizes (size p) → unary_rows op (s w) ≡ Some (out w))
+      → (q : Part) → (is_one (size p) || unless_one (unary_shows op p) q) ≡ true → PartOf goes q (workers sizes (size p)) out to
+  unary-part op p s out from to part fit carries run q shown =
       let n : ℕ = workers sizes (size p) in
       let one_is : is_one (size p) ≡ true → n ≡ 1 = one-worker sizes (size p) in
       let had : (q : Part) → has p q ≡ true → PartOf goes q n s from = λ q e. has-part goes given.in_range (is_one (size p)) (claim p).part q n s from one_is e part in
       let each : has p all ≡ true → (w : ℕ) → w < n → to (out w) = λ e w l. carries.alone (s w) (out w) (run w l) (had all e w l) in
-      let together : has p any ≡ true → to (joined n out) = λ e. ⊎_elim
-      (λ f. from_single-of goes given.in_range all n out to (f.1 e) (λ w l. carries.alone (s w) (out w) (run w l) (f.0 w l)))
-      (λ f. carries.joins n s out f.0 f.1 run)
-      (fitting-at op p s from part h.2) in
-      record {
-        part = shown-part goes given.in_range (is_one (size p)) (over (described op) p).ways c.part n out to one_is (λ o. together (or-left (is_one (size p)) _ o))
-            (each-if (λ v. Stands n out to v) (meet (described op).meets (own p)) (way (described op).copying (own p ∷ []) ∷ [])
-            (λ m. (((λ e. together (and-left (has p any) true e)), (λ e. each (and-left (has p all) true e))), tt)))
-            (λ w l. unary-places goes op p n w (s w) (out w) (run w l)
-            (λ q e. had-place goes given.in_range (is_one (size p)) (claim p).part q n w one_is l (s w) (part-placed goes (claim p).part n s from part w l) e))
-            h.4;
-        order = ((λ w l. unary-ordered catalog k c op p h.5 (s w) (out w) (run w l) (order.0 w l)), up);
-        keys = keys;
-      }
+      let together : has p any ≡ true → to (joined n out) = unary-together op p s out from to part fit carries run in
+      shown-part goes given.in_range (is_one (size p)) (way (described op).copying (own p ∷ []) ∷ []) q n out to one_is (λ o. together (or-left (is_one (size p)) _ o))
+      (((λ e. together (and-left (has p any) true e)), (λ e. each (and-left (has p all) true e))), tt)
+      (λ w l. unary-place goes op p n w (s w) (out w) (run w l)
+      (λ q e. had-place goes given.in_range (is_one (size p)) (claim p).part q n w one_is l (s w) (part-placed goes (claim p).part n s from part w l) e))
+      (ap (λ b. is_one (size p) || b) (or-false (gives (way (described op).copying (own p ∷ [])) q) ∙ unary-gives op p q) ∙ shown)
+
+  -- what an operator makes of an input of which the claim holds, whatever is claimed of the output: its serial rows, each part that is shown, all rows together,
+  -- and the orders and keys of the list that a claim speaks of, by the order and the keys of the input's
+  pub record Ready (op : Unary) (p : Plan) (out : Streams) (T : List Row → Type 0) (o : SerialResult) (gives_of : List Row → List Row → Type 0) (listed_of : List Row → List Row) : Type 0 where
+    pub base : List Row
+    pub is_serial : o ≡ rows base
+    pub part : (q : Part) → (is_one (size p) || unless_one (unary_shows op p) q) ≡ true → PartOf goes q (workers sizes (size p)) out (λ xs. gives_of base xs)
+    pub together : has p any ≡ true → gives_of base (joined (workers sizes (size p)) out)
+    pub list : List Row
+    pub list_is : T list
+    pub list_sorted : sorted (claim p).order list ≡ true
+    pub ordered : (cs ds below : List ℕ) → sources (described op).copying cs ≡ Some ds → is_prefix ds (order_after (described op).order below) ≡ true → sorted below list ≡ true
+        → sorted cs (listed_of base) ≡ true
+    pub keyed : (x : List ℕ) → unary_keys op (claim p).keys x ≡ true → HasKey x (listed_of base)
 
   -- an operator that is whole
-  pub unary-holds : (k : ℕ) (c : Claim) (op : Unary) → (is_partial op || is_final op) ≡ false → (p : Plan) (s out : Streams) (ih : Holding db sizes goes p s)
-      → allowed_here catalog (unary k c op p) ≡ true → ((w : ℕ) → w < workers sizes (size p) → unary_rows op (s w) ≡ Some (out w)) → Holding db sizes goes (unary k c op p) out
-  unary-holds k c op e p s out ih ok run =
-      let h = tests catalog (unary k c op p) ok in
+  pub whole-ready : (k : ℕ) (op : Unary) → (is_partial op || is_final op) ≡ false → (p : Plan) (s out : Streams) (ih : Holding db sizes goes p s) (T : List Row → Type 0) → T ih.base
+      → FitsStreams op p s → ((w : ℕ) → w < workers sizes (size p) → unary_rows op (s w) ≡ Some (out w))
+      → Ready op p out T (after (serial db p) (λ xs. or_overflow k (unary_rows op xs))) (λ base xs. SameRows xs base) (λ base. base)
+  whole-ready k op e p s out ih T of_list fit run =
       let n : ℕ = workers sizes (size p) in
       let base : List Row = ih.base in
       let facts : Whole goes op = whole goes op e in
       let made : (xs : List Row) × (unary_rows op base ≡ Some xs) = ⊎_elim
       (λ f. let m = facts.of_bags (s 0) base (out 0) (f.0 0 (some (size p))) (run 0 (some (size p))) in (m.out, m.is))
       (λ f. let m = facts.joins n s out base f.0 f.1 run in (m.out, m.is))
-      (fitting-at op p s (λ xs. SameRows xs base) ih.holds.part h.2) in
+      (fitting-from op p s (λ xs. SameRows xs base) ih.holds.part fit) in
       let same : (like : List Row) → Made (unary_rows op) base like → SameRows like made.0 = λ like m.
       let P : List Row → Type 0 = λ xs. SameRows like xs in subst P (some-is m.out made.0 (sym m.is ∙ made.1)) m.same in
+      let carries : Carries goes (described op).meets (unary_rows op) (λ xs. SameRows xs base) (λ xs. SameRows xs made.0)
+      = record { alone = λ xs ys e f. same ys (facts.of_bags xs base ys f e); joins = λ m t t' met f g. same (joined m t') (facts.joins m t t' base met f g) } in
       record {
         base = made.0;
         is_serial = ap (λ x. after x (λ xs. or_overflow k (unary_rows op xs))) ih.is_serial ∙ ap (or_overflow k) made.1;
-        holds = unary-claim k c op p s out (λ xs. SameRows xs base) (λ xs. SameRows xs made.0) base made.0 ih.holds.part ih.holds.order
-            (record { alone = λ xs ys g f. same ys (facts.of_bags xs base ys f g); joins = λ m t t' met f g. same (joined m t') (facts.joins m t t' base met f g) })
-            ok run (unary-ordered catalog k c op p h.5 base made.0 made.1 ih.holds.order.1)
-            (keys-from (unary_keys op (claim p).keys) made.0 (λ x g. facts.keyed (claim p).keys x g base made.0 made.1 ih.holds.keys) c.keys h.6);
+        part = unary-part op p s out (λ xs. SameRows xs base) (λ xs. SameRows xs made.0) ih.holds.part fit carries run;
+        together = unary-together op p s out (λ xs. SameRows xs base) (λ xs. SameRows xs made.0) ih.holds.part fit carries run;
+        list = base;
+        list_is = of_list;
+        list_sorted = ih.holds.order.1;
+        ordered = λ cs ds below c front up. (keeps op).ordered cs ds below c front base made.0 made.1 up;
+        keyed = λ x g. facts.keyed (claim p).keys x g base made.0 made.1 ih.holds.keys;
       }
 
   -- a partial grouping
-  pub partial-holds : (k : ℕ) (c : Claim) (by : List ℕ) (aggregates : List Aggregate) (p : Plan) (s out : Streams) (ih : Holding db sizes goes p s)
-      → allowed_here catalog (unary k c (group partial by aggregates) p) ≡ true
-      → ((w : ℕ) → w < workers sizes (size p) → unary_rows (group partial by aggregates) (s w) ≡ Some (out w))
-      → HoldingAt db sizes goes (unary k c (group partial by aggregates) p) out
-  partial-holds k c by aggregates p s out ih ok run =
-      let h = tests catalog (unary k c (group partial by aggregates) p) ok in
+  pub partial-ready : (by : List ℕ) (aggregates : List Aggregate) (p : Plan) (s out : Streams) (ih : Holding db sizes goes p s) (T : List Row → Type 0) → T ih.base
+      → FitsStreams (group partial by aggregates) p s → ((w : ℕ) → w < workers sizes (size p) → unary_rows (group partial by aggregates) (s w) ≡ Some (out w))
+      → Ready (group partial by aggregates) p out T (serial db p) (λ base xs. Parts by aggregates base xs) (λ base. group_keys by base)
+  partial-ready by aggregates p s out ih T of_list fit run =
+      let op : Unary = group partial by aggregates in
       let base : List Row = ih.base in
       let parts : (xs ys : List Row) → group_rows by aggregates xs ≡ Some ys → Parts by aggregates xs ys = λ xs ys e.
       let P : List Row → Type 0 = λ l. Parts by aggregates xs l in
       subst P (some-of (list_all (group_fits by aggregates xs) (group_keys by xs)) (groups by aggregates xs) ys e).1 (Parts-groups by aggregates xs) in
-      let o = if_some-is (copied by c.order) (λ ds. is_prefix ds (claim p).order) h.5 in
+      let carries : Carries goes (described op).meets (unary_rows op) (λ xs. SameRows xs base) (λ xs. Parts by aggregates base xs)
+      = record {
+        alone = λ xs ys e f. Parts-base by aggregates xs base ys f (parts xs ys e);
+        joins = λ n t t' met f g. Parts-base by aggregates (joined n t) base (joined n t') f (Parts-joined by aggregates n t t' (λ w l. parts (t w) (t' w) (g w l)));
+      } in
       record {
         base = base;
         is_serial = ih.is_serial;
-        holds = unary-claim k c (group partial by aggregates) p s out (λ xs. SameRows xs base) (λ xs. Parts by aggregates base xs) base (group_keys by base) ih.holds.part ih.holds.order
-            (record {
-              alone = λ xs ys e f. Parts-base by aggregates xs base ys f (parts xs ys e);
-              joins = λ n t t' met f g. Parts-base by aggregates (joined n t) base (joined n t') f (Parts-joined by aggregates n t t' (λ w l. parts (t w) (t' w) (g w l)));
-            })
-            ok run (firsts-sorted c.order (map (pick by) base) (project-sorted by c.order o.0 o.1 base (sorted-front o.0 (claim p).order o.2 base ih.holds.order.1)))
-            (keys-from (λ x. false) (group_keys by base) (λ x e. absurd (true≢false (sym e))) c.keys h.6);
+        part = unary-part op p s out (λ xs. SameRows xs base) (λ xs. Parts by aggregates base xs) ih.holds.part fit carries run;
+        together = unary-together op p s out (λ xs. SameRows xs base) (λ xs. Parts by aggregates base xs) ih.holds.part fit carries run;
+        list = base;
+        list_is = of_list;
+        list_sorted = ih.holds.order.1;
+        ordered = λ cs ds below c front up.
+            firsts-sorted cs (map (pick by) base) (project-sorted by cs ds (sym (sources-kept by cs) ∙ c) base (sorted-front ds below front base up));
+        keyed = λ x g. absurd (true≢false (sym g));
       }
 
+  -- a sort of parts: of the same parts, in an order in which the keys are listed too
+  pub parts-sort-ready : (cols : List ℕ) (p : Plan) (s out : Streams) (ih : HoldingAt db sizes goes p s) (T : List Row → Type 0) → T (listed p ih.base)
+      → FitsStreams (sort true cols) p s → ((w : ℕ) → w < workers sizes (size p) → unary_rows (sort true cols) (s w) ≡ Some (out w))
+      → Ready (sort true cols) p out T (serial db (spoken p)) (Gives p) (λ base. sort_on cols (listed p base))
+  parts-sort-ready cols p s out ih T of_list fit run =
+      let op : Unary = sort true cols in
+      let base : List Row = ih.base in
+      let is : (xs ys : List Row) → unary_rows (sort true cols) xs ≡ Some ys → sort_on cols xs ≡ ys = λ xs ys e. some-is (sort_on cols xs) ys e in
+      let carries : Carries goes (described op).meets (unary_rows op) (λ xs. Gives p base xs) (λ xs. Gives p base xs)
+      = record {
+        alone = λ xs ys e f.
+            let P : List Row → Type 0 = λ l. Gives p base l in
+            subst P (is xs ys e) (Gives-order p base xs (sort_on cols xs) (sorted-same xs) f);
+        joins = λ n t t' met f g. Gives-order p base (joined n t) (joined n t')
+            (SameRows-trans (sorted-same (joined n t)) (SameRows-sym (linear-joined (Linear-sort cols) n t t' (λ w l. is (t w) (t' w) (g w l))))) f;
+      } in
+      record {
+        base = base;
+        is_serial = ih.is_serial;
+        part = unary-part op p s out (λ xs. Gives p base xs) (λ xs. Gives p base xs) ih.holds.part fit carries run;
+        together = unary-together op p s out (λ xs. Gives p base xs) (λ xs. Gives p base xs) ih.holds.part fit carries run;
+        list = listed p base;
+        list_is = of_list;
+        list_sorted = ih.holds.order.1;
+        ordered = λ cs ds below c front up. (keeps op).ordered cs ds below c front (listed p base) (sort_on cols (listed p base)) refl up;
+        keyed = λ x g. absurd (true≢false (sym g));
+      }
+    where
+      sorted-same : (xs : List Row) → SameRows xs (sort_on cols xs)
+      sorted-same xs = record { totals = λ f. sym (sort-total f cols xs) }
+
   -- ---- a final grouping
+
+  same-key : (x : List ℕ) (xs ys : List Row) → SameRows xs ys → HasKey x xs → HasKey x ys
+  same-key x xs ys s key row =
+      let a : count (agree x row) xs ≤ 1 = key row in
+      let b : count (agree x row) xs ≡ count (agree x row) ys = s.totals (λ r. cond (agree x row r) 1 0) in
+      omega (arith, a, b)
 
   copied-first : (n i : ℕ) (c d : ℕ) → slice_get (columns_from i n) c ≡ Some d → d ≡ i + c
   copied-first zero i c d e = cc
@@ -209,74 +279,123 @@ module _ (catalog : ℕ → Relation) (db : ℕ → List Row) (sizes : ℕ → �
       let b : w.1 ≡ cs = copied-same n cs w.1 w.4 in
       w.2 ∙ ap₂ (λ x y. x ∷ y) a b
 
-  length-columns : (i n : ℕ) → length (columns_from i n) ≡ n
-  length-columns i zero = refl
-  length-columns i (suc n) = ap suc (length-columns (suc i) n)
-
-  final-of : (k : ℕ) (c : Claim) (p : Plan) (keys_of : List ℕ) (puts_of : List Aggregate) (s out : Streams) (ih : HoldingAt db sizes goes p s) (opened_is : Opened keys_of puts_of p)
+  final-of : (k : ℕ) (p : Plan) (keys_of : List ℕ) (puts_of : List Aggregate) (s out : Streams) (ih : HoldingAt db sizes goes p s) (T : List Row → Type 0) → T (listed p ih.base) → (opened_is : Opened keys_of puts_of p)
       → ((xs : List Row) → serial db p ≡ rows xs → group_rows (first_columns (length opened_is.by)) (merged (length opened_is.by) opened_is.aggregates) xs ≡ Some xs)
-      → allowed_here catalog (unary k c (group final (first_columns (length opened_is.by)) (merged (length opened_is.by) opened_is.aggregates)) p) ≡ true
+      → FitsStreams (group final (first_columns (length opened_is.by)) (merged (length opened_is.by) opened_is.aggregates)) p s
       → ((w : ℕ) → w < workers sizes (size p) → group_rows (first_columns (length opened_is.by)) (merged (length opened_is.by) opened_is.aggregates) (s w) ≡ Some (out w))
-      → Holding db sizes goes (unary k c (group final (first_columns (length opened_is.by)) (merged (length opened_is.by) opened_is.aggregates)) p) out
-  final-of k c p keys_of puts_of s out ih opened_is again ok run =
+      → Ready (group final (first_columns (length opened_is.by)) (merged (length opened_is.by) opened_is.aggregates)) p out T
+      (after (serial db p) (λ xs. or_overflow k (group_rows (first_columns (length opened_is.by)) (merged (length opened_is.by) opened_is.aggregates) xs))) (λ base xs. SameRows xs base) (λ base. base)
+  final-of k p keys_of puts_of s out ih T of_list opened_is again fit run =
       let by : List ℕ = opened_is.by in
       let aggregates : List Aggregate = opened_is.aggregates in
       let keys : List ℕ = first_columns (length by) in
       let puts : List Aggregate = merged (length by) aggregates in
       let op : Unary = group final keys puts in
-      let h = tests catalog (unary k c op p) ok in
       let n : ℕ = workers sizes (size p) in
-      let base' : List Row = groups by aggregates ih.base in
+      let ks : List Row = listed p ih.base in
+      let ks_are : SameRows ks (group_keys by ih.base) = opened_is.listed_same ih.base in
+      let base' : List Row = map (group_row by aggregates ih.base) ks in
+      let regrouped : SameRows (groups by aggregates ih.base) base' = linear-same (Linear-map (group_row by aggregates ih.base)) (SameRows-sym ks_are) in
       let both : (xs ys : List Row) → group_rows keys puts xs ≡ Some ys → (list_all (group_fits keys puts xs) (group_keys keys xs) ≡ true) × (groups keys puts xs ≡ ys)
       = λ xs ys e. some-of (list_all (group_fits keys puts xs) (group_keys keys xs)) (groups keys puts xs) ys e in
-      let whole_of : (xs : List Row) → Gives p ih.base xs → SameRows (groups keys puts xs) base' = λ xs g. final-groups by aggregates ih.base xs (opened_is.gives ih.base xs g) in
-      let fit : list_all (group_fits by aggregates ih.base) (group_keys by ih.base) ≡ true = ⊎_elim
+      let whole_of : (xs : List Row) → Gives p ih.base xs → SameRows (groups keys puts xs) base' = λ xs g. SameRows-trans (final-groups by aggregates ih.base xs (opened_is.gives ih.base xs g)) regrouped in
+      let all_fit : list_all (group_fits by aggregates ih.base) (group_keys by ih.base) ≡ true = ⊎_elim
       (λ f. fits-final by aggregates ih.base (s 0) (opened_is.gives ih.base (s 0) (f.0 0 (some (size p)))) (both (s 0) (out 0) (run 0 (some (size p)))).0)
       (λ f. fits-final by aggregates ih.base (joined n s) (opened_is.gives ih.base (joined n s) f.1)
       (fits-joined goes f.0.0 f.0.1 keys puts n s (joined n s) f.0.2 (SameRows-refl (joined n s)) f.0.3 (λ w l. (both (s w) (out w) (run w l)).0)))
-      (fitting-at op p s (λ xs. Gives p ih.base xs) ih.holds.part h.2) in
-      let below : serial db p ≡ rows base' = opened_is.serial_is db ∙ (ap (λ o. after o (λ xs. or_overflow opened_is.node (group_rows by aggregates xs))) ih.is_serial ∙ ap (λ b. or_overflow opened_is.node (cond b (Some base') None)) fit) in
-      let o = if_some-is (copied keys c.order) (λ ds. is_prefix ds (claim p).order) h.5 in
-      let Q : List ℕ → Type 0 = λ v. sorted v (group_keys by ih.base) ≡ true in
-      let R : List Row → Type 0 = λ l. sorted (claim p).order l ≡ true in
-      let L : ℕ → Type 0 = λ v. all_below v c.order ≡ true in
+      (fitting-from op p s (λ xs. Gives p ih.base xs) ih.holds.part fit) in
+      let below : serial db p ≡ rows base' = opened_is.serial_is db ∙ (ap (λ o. after o (λ xs. or_overflow opened_is.node (listed_rows by aggregates (listed p) xs))) ih.is_serial ∙ ap (λ b. or_overflow opened_is.node (cond b (Some base') None)) all_fit) in
+      let Q : List ℕ → Type 0 = λ v. sorted v ks ≡ true in
+      let carries : Carries goes (described op).meets (unary_rows op) (λ xs. Gives p ih.base xs) (λ xs. SameRows xs base')
+      = record {
+        alone = λ xs ys e g. let P : List Row → Type 0 = λ l. SameRows l base' in subst P (both xs ys e).1 (whole_of xs g);
+        joins = λ m t t' met g e.
+            SameRows-trans (groups-joined goes met.0 met.1 keys puts m t (joined m t) met.2 (SameRows-refl (joined m t)) met.3 t' (λ w l. (both (t w) (t' w) (e w l)).1))
+            (whole_of (joined m t) g);
+      } in
       record {
         base = base';
         is_serial = ap (λ o. after o (λ xs. or_overflow k (group_rows keys puts xs))) below ∙ ap (or_overflow k) (again base' below);
-        holds = unary-claim k c op p s out (λ xs. Gives p ih.base xs) (λ xs. SameRows xs base') (listed p ih.base) base' ih.holds.part ih.holds.order
-            (record {
-              alone = λ xs ys e g. let P : List Row → Type 0 = λ l. SameRows l base' in subst P (both xs ys e).1 (whole_of xs g);
-              joins = λ m t t' met g e.
-                  SameRows-trans (groups-joined goes met.0 met.1 keys puts m t (joined m t) met.2 (SameRows-refl (joined m t)) met.3 t' (λ w l. (both (t w) (t' w) (e w l)).1))
-                  (whole_of (joined m t) g);
-            })
-            ok run
-            (extended-sorted c.order (length by) (group_row by aggregates ih.base) (λ key. map (λ a. aggregate_of a (of_key by key ih.base)) aggregates) (λ key. refl)
-            (subst L (length-columns 0 (length by)) (copied-below keys c.order o.0 o.1)) (group_keys by ih.base) (firsts-all (λ row. length row == length by) (map (pick by) ih.base) (picks-wide by ih.base))
-            (subst Q (copied-same (length by) c.order o.0 o.1) (sorted-front o.0 (claim p).order o.2 (group_keys by ih.base) (subst R (opened_is.listed_is ih.base) ih.holds.order.1))))
-            (keys-from (λ x. within (numbers_below (length keys)) x) base'
-            (λ x e. let W : ℕ → Type 0 = λ v. within (numbers_below v) x ≡ true in groups-key by x aggregates ih.base (subst W (length-columns 0 (length by)) e)) c.keys h.6);
+        part = unary-part op p s out (λ xs. Gives p ih.base xs) (λ xs. SameRows xs base') ih.holds.part fit carries run;
+        together = unary-together op p s out (λ xs. Gives p ih.base xs) (λ xs. SameRows xs base') ih.holds.part fit carries run;
+        list = ks;
+        list_is = of_list;
+        list_sorted = ih.holds.order.1;
+        ordered = λ cs ds below c front up.
+            let o : copied keys cs ≡ Some ds = sym (sources-kept keys cs) ∙ c in
+            let L : ℕ → Type 0 = λ v. all_below v cs ≡ true in
+            extended-sorted cs (length by) (group_row by aggregates ih.base) (λ key. map (λ a. aggregate_of a (of_key by key ih.base)) aggregates) (λ key. refl)
+            (subst L (columns-long 0 (length by)) (copied-below keys cs ds o)) ks (listed-wide by ks ih.base ks_are)
+            (subst Q (copied-same (length by) cs ds o) (sorted-front ds below front ks up));
+        keyed = λ x e. let W : ℕ → Type 0 = λ v. within (numbers_below v) x ≡ true in
+            same-key x (groups by aggregates ih.base) base' regrouped (groups-key by x aggregates ih.base (subst W (columns-long 0 (length by)) e));
       }
 
-  pub final-holds : (k : ℕ) (c : Claim) (keys : List ℕ) (puts : List Aggregate) (p : Plan) (s out : Streams) (ih : HoldingAt db sizes goes p s)
+  pub final-ready : (k : ℕ) (keys : List ℕ) (puts : List Aggregate) (p : Plan) (s out : Streams) (ih : HoldingAt db sizes goes p s) (T : List Row → Type 0) → T (listed p ih.base)
       → opens keys puts p ≡ true
-      → allowed_here catalog (unary k c (group final keys puts) p) ≡ true
+      → FitsStreams (group final keys puts) p s
       → ((w : ℕ) → w < workers sizes (size p) → group_rows keys puts (s w) ≡ Some (out w))
-      → Holding db sizes goes (unary k c (group final keys puts) p) out
-  final-holds k c keys puts p s out ih e ok run =
+      → Ready (group final keys puts) p out T (after (serial db p) (λ xs. or_overflow k (group_rows keys puts xs))) (λ base xs. SameRows xs base) (λ base. base)
+  final-ready k keys puts p s out ih T of_list e fit run =
       let o = opened keys puts p e in
       opened-as keys puts p o
-      (λ a b. ((xs : List Row) → serial db p ≡ rows xs → group_rows a b xs ≡ Some xs) → allowed_here catalog (unary k c (group final a b) p) ≡ true
-      → ((w : ℕ) → w < workers sizes (size p) → group_rows a b (s w) ≡ Some (out w)) → Holding db sizes goes (unary k c (group final a b) p) out)
-      (final-of k c p keys puts s out ih o) (final-serial db keys puts p e) ok run
+      (λ a b. ((xs : List Row) → serial db p ≡ rows xs → group_rows a b xs ≡ Some xs) → FitsStreams (group final a b) p s
+      → ((w : ℕ) → w < workers sizes (size p) → group_rows a b (s w) ≡ Some (out w))
+      → Ready (group final a b) p out T (after (serial db p) (λ xs. or_overflow k (group_rows a b xs))) (λ base xs. SameRows xs base) (λ base. base))
+      (final-of k p keys puts s out ih T of_list o) (final-serial db keys puts p e) fit run
+
+  -- ---- closed nodes and open ones
+
+  pub close : (p : Plan) (s : Streams) → phased p ≡ true → is_open p ≡ false → HoldingAt db sizes goes p s → Holding db sizes goes p s
+  close p s fit e h = closed db p fit e (λ o gives_of listed_of. HoldingOf goes (claim p) (workers sizes (size p)) s o gives_of listed_of → Holding db sizes goes p s) (λ g. g) h
+
+  -- ---- each operator over one input
+
+  pub unary-ready : (k : ℕ) (c : Claim) (op : Unary) (p : Plan) (s out : Streams) → phased p ≡ true → phase_fits op p ≡ true → (ih : HoldingAt db sizes goes p s) (T : List Row → Type 0)
+      → T (listed p ih.base) → (is_open p ≡ false → (xs : List Row) → serial db p ≡ rows xs → T xs)
+      → FitsStreams op p s → ((w : ℕ) → w < workers sizes (size p) → unary_rows op (s w) ≡ Some (out w))
+      → Ready op p out T (serial db (spoken (unary k c op p))) (Gives (unary k c op p)) (listed (unary k c op p))
+  unary-ready k c op p s out phases e ih T of_listed of_serial fit run =
+      let own_rows : not (is_open p) ≡ true → Holding db sizes goes p s = λ e. close p s phases (not-true (is_open p) e) ih in
+      let own_list : (e : not (is_open p) ≡ true) → T (own_rows e).base = λ e. of_serial (not-true (is_open p) e) (own_rows e).base (own_rows e).is_serial in
+      by-phase
+      (λ op f. f.fits p ≡ true → FitsStreams op p s → ((w : ℕ) → w < workers sizes (size p) → unary_rows op (s w) ≡ Some (out w))
+      → Ready op p out T (serial db (f.spoken_of p (spoken p) (unary k c op p))) (f.gives_of (Gives p)) (f.listed_of (listed p)))
+      (λ op w e fit run. whole-ready k op w p s out (own_rows e) T (own_list e) fit run)
+      (λ by aggregates e fit run. partial-ready by aggregates p s out (own_rows e) T (own_list e) fit run)
+      (λ cols e fit run. parts-sort-ready cols p s out ih T of_listed fit run)
+      (λ by aggregates e fit run. final-ready k by aggregates p s out ih T of_listed e fit run)
+      op e fit run
+
+  -- by the tests of the rule table
+  pub unary-holds : (k : ℕ) (c : Claim) (op : Unary) (p : Plan) (s out : Streams) → phased p ≡ true → phase_fits op p ≡ true → HoldingAt db sizes goes p s → allowed_here catalog (unary k c op p) ≡ true
+      → ((w : ℕ) → w < workers sizes (size p) → unary_rows op (s w) ≡ Some (out w)) → HoldingAt db sizes goes (unary k c op p) out
+  unary-holds k c op p s out phases e ih ok run =
+      let h = tests catalog (unary k c op p) ok in
+      let shown = (seven (sizes_match (unary k c op p)) (not_replicated (unary k c op p)) (inputs_match (unary k c op p)) (order_given (unary k c op p)) (part_shown catalog (unary k c op p))
+      (order_shown catalog (unary k c op p)) (keys_shown catalog (unary k c op p)) ok).4 in
+      let r = unary-ready k c op p s out phases e ih (λ xs. Unit {0}) tt (λ e xs is. tt) (inl h.2) run in
+      let o = unary-order catalog k c op p c.order h.5 in
+      record {
+        base = r.base;
+        is_serial = r.is_serial;
+        holds = record {
+          part = r.part c.part shown;
+          order = (
+            (λ w l. (keeps op).ordered c.order o.0 (claim p).order o.1 o.2 (s w) (out w) (run w l) (ih.holds.order.0 w l)),
+            r.ordered c.order o.0 (claim p).order o.1 o.2 r.list_sorted,
+          );
+          keys = keys-from (unary_keys op (claim p).keys) (listed (unary k c op p) r.base) r.keyed c.keys h.6;
+        };
+      }
 
   -- ---- scans
 
-  scan-part : (r : ℕ) (m : Bool) (k : ℕ) (c : Claim) (z : Size) (out : Streams) → Runs db sizes goes (scan k c r m z) out → PartHolds goes (cond m any all) (workers sizes z) out (db r)
+  pub scan-part : (r : ℕ) (m : Bool) (k : ℕ) (c : Claim) (z : Size) (out : Streams) → Runs db sizes goes (scan k c r m z) out → PartHolds goes (cond m any all) (workers sizes z) out (db r)
   scan-part r true k c z out run = Dealt-same run
   scan-part r false k c z out run = λ w l. let P : List Row → Type 0 = λ xs. SameRows xs (db r) in subst P (sym (run w l)) (SameRows-refl (db r))
 
-  scan-order : (r : ℕ) (m : Bool) (k : ℕ) (c : Claim) (z : Size) (out : Streams) → Runs db sizes goes (scan k c r m z) out → (cs : List ℕ) → sorted cs (db r) ≡ true
+  pub scan-order : (r : ℕ) (m : Bool) (k : ℕ) (c : Claim) (z : Size) (out : Streams) → Runs db sizes goes (scan k c r m z) out → (cs : List ℕ) → sorted cs (db r) ≡ true
       → (w : ℕ) → w < workers sizes z → sorted cs (out w) ≡ true
   scan-order r true k c z out run cs up w l = Dealt-sorted run cs up w l
   scan-order r false k c z out run cs up w l = let P : List Row → Type 0 = λ xs. sorted cs xs ≡ true in subst P (sym (run w l)) up
@@ -296,15 +415,10 @@ module _ (catalog : ℕ → Relation) (db : ℕ → List Row) (sizes : ℕ → �
         };
       }
 
-  -- ---- closed nodes and open ones
-
-  pub close : (p : Plan) (s : Streams) → is_open p ≡ false → HoldingAt db sizes goes p s → Holding db sizes goes p s
-  close p s e h = closed db p e (λ o gives_of listed_of. HoldingOf goes (claim p) (workers sizes (size p)) s o gives_of listed_of → Holding db sizes goes p s) (λ g. g) h
-
   -- ---- exchanges, closed or open
 
   -- the part that an exchange makes
-  exchange-made : (kind : ExchangeKind) (merge : List ℕ) (p : Plan) (base : List Row) (m : ℕ) (s s' : Streams) → Gives p base (joined m s)
+  pub exchange-made : (kind : ExchangeKind) (merge : List ℕ) (p : Plan) (base : List Row) (m : ℕ) (s s' : Streams) → Gives p base (joined m s)
       → Exchanges goes kind merge m (workers sizes (target kind)) s s' → PartOf goes (kind_part kind) (workers sizes (target kind)) s' (λ xs. Gives p base xs)
   exchange-made kind merge p base m s s' h x = go kind x
     where
@@ -321,8 +435,16 @@ module _ (catalog : ℕ → Relation) (db : ℕ → List Row) (sizes : ℕ → �
       go gather x = (refl, moved _ (exchange-any goes given.in_range gather merge _ 1 s s' (joined m s) x (omega arith) (λ y e. cc) (λ e. refl) (λ e. cc) (SameRows-refl (joined m s))))
       go concat x = (refl, moved _ (exchange-any goes given.in_range concat merge _ 1 s s' (joined m s) x (omega arith) (λ y e. cc) (λ e. cc) (λ e. refl) (SameRows-refl (joined m s))))
 
+  -- a concat puts out its producers' lists one behind the other
+  pub concat-joined : (merge : List ℕ) (m n : ℕ) (s s' : Streams) → Exchanges goes concat merge m n s s' → (w : ℕ) → w < n → joined m s ≡ s' w
+  concat-joined merge m n s s' x w l = sym (same-joined m (omega arith)) ∙ x.in_order refl w l
+    where
+      same-joined : (k : ℕ) → k ≤ m → joined k (λ i. x.sent i w) ≡ joined k s
+      same-joined zero b = refl
+      same-joined (suc k) b = ap₂ (λ a d. a ++ d) (same-joined k (omega arith)) (sym (x.sends k (omega arith) w l))
+
   -- a concat of streams that a range routed, in order
-  concat-sorted : (kind : ExchangeKind) (merge : List ℕ) (p : Plan) (s : Streams) (ih : HoldingAt db sizes goes p s) (s' : Streams)
+  pub concat-sorted : (kind : ExchangeKind) (merge : List ℕ) (p : Plan) (s : Streams) (ih : HoldingAt db sizes goes p s) (s' : Streams)
       → Exchanges goes kind merge (workers sizes (size p)) (workers sizes (target kind)) s s'
       → goes_on kind (claim p) ≡ true → (w : ℕ) → w < workers sizes (target kind) → sorted (claim p).order (s' w) ≡ true
   concat-sorted (route_to z r cols) merge p s ih s' x e w l = absurd (true≢false (sym e))
@@ -330,18 +452,10 @@ module _ (catalog : ℕ → Relation) (db : ℕ → List Row) (sizes : ℕ → �
   concat-sorted (broadcast z) merge p s ih s' x e w l = absurd (true≢false (sym e))
   concat-sorted gather merge p s ih s' x e w l = absurd (true≢false (sym e))
   concat-sorted concat merge p s ih s' x e w l =
+      let m : ℕ = workers sizes (size p) in
       let P : List Row → Type 0 = λ xs. sorted (claim p).order xs ≡ true in
-      subst P is_joined (ranged goes given.rising (claim p).part (claim p).order m s e ih.holds.order.0 (part-placed goes (claim p).part m s (λ xs. Gives p ih.base xs) ih.holds.part))
-    where
-      m : ℕ
-      m = workers sizes (size p)
-
-      same-joined : (k : ℕ) → k ≤ m → joined k (λ i. x.sent i w) ≡ joined k s
-      same-joined zero b = refl
-      same-joined (suc k) b = ap₂ (λ a d. a ++ d) (same-joined k (omega arith)) (sym (x.sends k (omega arith) w l))
-
-      is_joined : joined m s ≡ s' w
-      is_joined = sym (same-joined m (omega arith)) ∙ x.in_order refl w l
+      subst P (concat-joined merge m 1 s s' x w l)
+      (ranged goes given.rising (claim p).part (claim p).order m s e ih.holds.order.0 (part-placed goes (claim p).part m s (λ xs. Gives p ih.base xs) ih.holds.part))
 
   pub exchange-holds : (k : ℕ) (c : Claim) (kind : ExchangeKind) (merge : List ℕ) (p : Plan) (s out : Streams) (ih : HoldingAt db sizes goes p s) → allowed_here catalog (exchange k c kind merge p) ≡ true
       → Exchanges goes kind merge (workers sizes (size p)) (workers sizes (target kind)) s out

@@ -1,5 +1,5 @@
 -- What the operators over one input do to rows: one record of facts for each operator.
-use Rattle.std.proofs.Common.{◌≡◌, ◌==◌, ◌+◌, ℕ, ◌<◌, Bool, true, false, cond, ◌||◌, List, map, filter, length, refl, sym, ap, ◌∙◌, subst, arith, true≢false, Option, Some, None, IsSome}
+use Rattle.std.proofs.Common.{◌≡◌, ◌==◌, ◌+◌, ℕ, ◌<◌, Bool, true, false, cond, not, ◌||◌, List, map, filter, length, refl, sym, ap, ◌∙◌, subst, arith, true≢false, Option, Some, None, IsSome}
 use Rattle.std.specs.List.{list_all}
 use Rattle.vx_rows_values.specs.Values.{Row, pick}
 use Rattle.vx_rows_values.specs.Order.{agree, sorted, sort_on}
@@ -18,7 +18,7 @@ use Rattle.vx_check_rules.specs.Behaviour.{sources, Sorted, sorted_by, sorts, or
 use Rattle.vx_check_rules.specs.Claims.{InItsStream}
 use Rattle.vx_check_rules.proofs.Exact.{sources-whole, sources-kept, orders-exactly}
 use Rattle.vx_check_rules.proofs.Bools.{or-false}
-use Rattle.vx_exec_laws.proofs.Bags.{and-left, SameRows-trans}
+use Rattle.vx_exec_laws.proofs.Bags.{and-left, and-right, SameRows-trans}
 use Rattle.vx_exec_laws.proofs.Parts.{list_all-weaken}
 use Rattle.vx_exec_laws.proofs.Orders.{sorted-front, sorted-filter, list_all-filter}
 use Rattle.vx_exec_laws.proofs.Keys.{count-filter, covers-key}
@@ -97,19 +97,24 @@ keeps (project cols) = keeps-columns cols (length cols) (unary_rows (project col
 keeps (distinct cols) = keeps-columns cols (length cols) (unary_rows (distinct cols)) (λ xs. firsts (map (pick cols) xs)) (λ xs ys e. some-is _ _ e)
     (λ cs ds c test xs h. keys-all cols (λ row. test (pick cs row)) xs (copied-stems cs ds (pick cols) (λ row. copied-alone cols cs ds row c) test xs h))
     (λ cs ds c xs h. firsts-sorted cs (map (pick cols) xs) (project-sorted cols cs ds c xs h)) (λ xs. firsts-all (λ row. length row == length cols) (map (pick cols) xs) (picks-wide cols xs))
-keeps (sort cols) = keeps-whole (sorted_on cols) (unary_rows (sort cols)) (sort_on cols) (λ xs ys e. some-is _ _ e)
+keeps (sort of_parts cols) = keeps-whole (sorted_on cols) (unary_rows (sort of_parts cols)) (sort_on cols) (λ xs ys e. some-is _ _ e)
     (λ q xs. sort-all q cols xs) (λ cs below front xs h. sorted-front cs cols front (sort_on cols xs) (sort-sorted cols xs))
 keeps (group plain by aggregates) = group-keeps by aggregates
 keeps (group partial by aggregates) = group-keeps by aggregates
 keeps (group final by aggregates) = group-keeps by aggregates
 
+-- the columns that those of an order that is shown are copies of begin the order that the input has, or the one that the operator makes
+pub unary-order : (catalog : ℕ → Relation) (k : ℕ) (c : Claim) (op : Unary) (p : Plan) (order : List ℕ) → orders catalog (unary k c op p) order ≡ true
+    → (ds : List ℕ) × (sources (described op).copying order ≡ Some ds) × (is_prefix ds (order_after (described op).order (claim p).order) ≡ true)
+unary-order catalog k c op p order h =
+    let s : Sorted = sorted_by (described op).copying (order_after (described op).order (claim p).order) in
+    if_some-is (sources s.copying order) (λ cs. is_prefix cs s.order) (sym (or-false (sorts s order)) ∙ (sym (orders-exactly catalog (unary k c op p) order) ∙ h))
+
 -- what an operator gives of rows in order is in the order that is shown
 pub unary-ordered : (catalog : ℕ → Relation) (k : ℕ) (c : Claim) (op : Unary) (p : Plan) → orders catalog (unary k c op p) c.order ≡ true
     → (xs ys : List Row) → unary_rows op xs ≡ Some ys → sorted (claim p).order xs ≡ true → sorted c.order ys ≡ true
 unary-ordered catalog k c op p h xs ys e up =
-    let s : Sorted = sorted_by (described op).copying (order_after (described op).order (claim p).order) in
-    let o = if_some-is (sources s.copying c.order) (λ cs. is_prefix cs s.order) (sym (or-false (sorts s c.order)) ∙ (sym (orders-exactly catalog (unary k c op p) c.order) ∙ h)) in
-    (keeps op).ordered c.order o.0 (claim p).order o.1 o.2 xs ys e up
+    let o = unary-order catalog k c op p c.order h in (keeps op).ordered c.order o.0 (claim p).order o.1 o.2 xs ys e up
 
 -- ---- lists of the same rows, and streams
 
@@ -162,8 +167,11 @@ whole goes (project cols) e = by-row goes (project cols) (map (pick cols)) (λ x
 whole goes (distinct cols) e = whole-by goes (distinct cols) (λ xs. firsts (map (pick cols) xs)) (λ xs. refl)
     (λ xs ys s. firsts-same (picks-same cols s)) (λ n s s' base m h run. firsts-joined goes m.0 m.1 cols n s s' base m.2 run h m.3)
     (λ keys x h xs ks. distinct-key cols x xs (and-left (within (numbers_below (length cols)) x) (within x (numbers_below (length cols))) h))
-whole goes (sort cols) e = by-row goes (sort cols) (sort_on cols) (λ xs. refl) (Linear-sort cols)
-    (λ keys x h xs ks row. let a = sort-total (λ r. cond (agree x row r) 1 0) cols xs in let b = covers-key keys x h xs ks row in omega (arith, a, b))
+whole goes (sort of_parts cols) e = by-row goes (sort of_parts cols) (sort_on cols) (λ xs. refl) (Linear-sort cols)
+    (λ keys x h xs ks row.
+    let a = sort-total (λ r. cond (agree x row r) 1 0) cols xs in
+    let b = covers-key keys x (and-right (not of_parts) (covers keys x) h) xs ks row in
+    omega (arith, a, b))
 whole goes (group partial by aggregates) e = absurd (true≢false e)
 whole goes (group final by aggregates) e = absurd (true≢false e)
 whole goes (group plain by aggregates) e =

@@ -90,12 +90,12 @@ module _ (S : RunModel) (giv : Given S.catalog S.db S.sizes (goes S)) where
       own (select cs) (Own Unsorted node) o b = b
       own (project cols) (Own Unsorted node) o b = b
       own (distinct cols) (Own Unsorted node) o b = b
-      own (sort cols) (Own Unsorted node) o b = b
+      own (sort of_parts cols) (Own Unsorted node) o b = b
       own (group phase by aggregates) (Own Unsorted node) o b = b
       own (select cs) (Own Stranger node) o b = b
       own (project cols) (Own Stranger node) o b = b
       own (distinct cols) (Own Stranger node) o b = b
-      own (sort cols) (Own Stranger node) o b = b
+      own (sort of_parts cols) (Own Stranger node) o b = b
       own (group phase by aggregates) (Own Stranger node) o b = b
   order-fails (binary n c op p q) fit wf ok ts run w l reads begin out h f o e =
       let here : Bool = allowed_here S.catalog (binary n c op p q) in

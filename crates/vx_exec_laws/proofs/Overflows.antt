@@ -32,7 +32,7 @@ use Rattle.vx_exec_laws.proofs.Unary.{some-is}
 use Rattle.vx_exec_laws.proofs.Exchange.{sends-sorted}
 use Rattle.vx_exec_laws.proofs.OneInput.{tests, HoldingAt}
 use Rattle.vx_exec_laws.proofs.Frame.{all-hold, no-overflow-at}
-use Rattle.vx_exec_laws.proofs.WellFormed.{well-under, well-both}
+use Rattle.vx_exec_laws.proofs.WellFormed.{well-under, well-both, well-phased}
 use Rattle.vx_exec_laws.proofs.Erased.{erased-overflows}
 use Rattle.vx_exec_laws.proofs.Settings.{set-given}
 use Rattle.vx_exec_laws.proofs.Choose.{choose, one-more}
@@ -45,6 +45,7 @@ use Rattle.vx_exec_laws.proofs.Opened.{closed-spoken}
 use Rattle.vx_exec_laws.proofs.Phased.{by-phase}
 use Rattle.vx_plan_nodes.specs.Phases.{is_open, opens, phase_fits, spoken, Gives, is_row_of}
 use Rattle.vx_catalog_relations.specs.Relation.{Relation}
+use Rattle.vx_catalog_relations.specs.Catalog.{all_below}
 use Rattle.std.proofs.lemmas.Bool.{not-true}
 use Rattle.std.specs.List.{list_all}
 
@@ -180,13 +181,14 @@ same-length xs ys s = sym (total-ones xs) ∙ (s.totals (λ r. 1) ∙ total-ones
 
 gives-length : (p : Plan) (base xs : List Row) → Gives p base xs → length xs ≤ length base
 gives-length (scan n c r m z) base xs h = let e = same-length xs base h in omega (arith, e)
-gives-length (unary n c op p) base xs h = by-phase (λ op f. f.gives_of base xs → length xs ≤ length base)
+gives-length (unary n c op p) base xs h = by-phase (λ op f. f.gives_of (Gives p) base xs → length xs ≤ length base)
     (λ op w h. let e = same-length xs base h in omega (arith, e))
     (λ by aggregates h.
     let e = row-list by aggregates h.pieces h.each in
     let a : length (map (λ (t : Row × List Row). t.0) h.pieces) ≡ length xs = ap length h.rows_are in
     let b = same-length (flat_map (λ (t : Row × List Row). t.1) h.pieces) base h.whole in
     omega (arith, e, a, b))
+    (λ cols h. gives-length p base xs h)
     (λ by aggregates h. let e = same-length xs base h in omega (arith, e)) op h
 gives-length (binary n c op p q) base xs h = let e = same-length xs base h in omega (arith, e)
 gives-length (exchange n c k m p) base xs h = gives-length p base xs h
@@ -364,9 +366,10 @@ module _ (S : RunModel) (giv : Given S.catalog S.db S.sizes (goes S)) (some : 0 
   open-long : (keys : List ℕ) (puts : List Aggregate) (p : Plan) → opens keys puts p ≡ true → (base : List Row) → serial S.db (spoken p) ≡ rows base → 4611686018427387904 < length base → HasTooLong S.db p
   open-long keys puts (scan n c r m z) e base h l = absurd (true≢false (sym e))
   open-long keys puts (unary n c op p) e base h l = by-phase
-      (λ op f. f.is_of keys puts ≡ true → serial S.db (f.spoken_of p (unary n c op p)) ≡ rows base → HasTooLong S.db (unary n c op p))
+      (λ op f. f.is_of keys puts (opens keys puts p) ≡ true → serial S.db (f.spoken_of p (spoken p) (unary n c op p)) ≡ rows base → HasTooLong S.db (unary n c op p))
       (λ op w e h. absurd (true≢false (sym e)))
       (λ by aggregates e h. let P : SerialResult → Type 0 = λ o. IsTooLong (group partial by aggregates) o in inr (subst P (sym h) l))
+      (λ cols e h. inl (open-long keys puts p (and-right (all_below (length keys) cols) (opens keys puts p) e) base h l))
       (λ by aggregates e h. absurd (true≢false (sym e))) op e h
   open-long keys puts (binary n c op p q) e base h l = absurd (true≢false (sym e))
   open-long keys puts (exchange n c k m p) e base h l = open-long keys puts p e base h l
@@ -389,10 +392,10 @@ module _ (S : RunModel) (giv : Given S.catalog S.db S.sizes (goes S)) (some : 0 
       go phase (well-under S.catalog n c (group phase by aggregates) p wf).1 holds.base holds.is_serial (omega (arith, most, long, ones)))
       why
     where
-      closed : (phase : Phase) → not (is_open p) ≡ true → (base : List Row) → serial S.db (spoken p) ≡ rows base → 4611686018427387904 < length base → HasTooLong S.db (unary n c (group phase by aggregates) p)
-      closed phase e base h big =
-          let P : SerialResult → Type 0 = λ o. IsTooLong (group phase by aggregates) o in
-          let same : serial S.db p ≡ rows base = sym (closed-spoken S.db p (not-true (is_open p) e)) ∙ h in
+      closed : (kind : Phase) → not (is_open p) ≡ true → (base : List Row) → serial S.db (spoken p) ≡ rows base → 4611686018427387904 < length base → HasTooLong S.db (unary n c (group kind by aggregates) p)
+      closed kind e base h big =
+          let P : SerialResult → Type 0 = λ o. IsTooLong (group kind by aggregates) o in
+          let same : serial S.db p ≡ rows base = sym (closed-spoken S.db p (well-phased S.catalog p (well-under S.catalog n c (group phase by aggregates) p wf).0) (not-true (is_open p) e)) ∙ h in
           inr (subst P (sym same) big)
 
       go : (phase : Phase) → phase_fits (group phase by aggregates) p ≡ true → (base : List Row) → serial S.db (spoken p) ≡ rows base → 4611686018427387904 < length base
@@ -422,7 +425,7 @@ module _ (S : RunModel) (giv : Given S.catalog S.db S.sizes (goes S)) (some : 0 
       own (select cs) wf ok o = absurd o
       own (project cols) wf ok o = absurd o
       own (distinct cols) wf ok o = absurd o
-      own (sort cols) wf ok o = absurd o
+      own (sort of_parts cols) wf ok o = absurd o
       own (group phase by aggregates) wf ok o =
           let wp = (well-under S.catalog n c (group phase by aggregates) p wf).0 in
           let okp = and-left (allowed S.catalog p) (allowed_here S.catalog (unary n c (group phase by aggregates) p)) ok in

@@ -21,9 +21,10 @@ use Rattle.vx_exec_laws.proofs.Bags.{total-ones, and-left, and-right, and-both, 
 use Rattle.vx_exec_laws.proofs.Parts.{list_all-weaken}
 use Rattle.vx_exec_laws.proofs.Join.{total-swap, total-all-ext, value-left, value-right}
 use Rattle.vx_exec_laws.proofs.Exchange.{filter-all}
+use Rattle.vx_exec_laws.proofs.Linear.{Linear-map, linear-same}
 use Rattle.vx_exec_laws.proofs.Widths.{length-pick, firsts-all, picks-wide}
 use Rattle.vx_exec_laws.proofs.JoinOrder.{all-append, all-front, all-back, all-and}
-use Rattle.vx_exec_laws.proofs.Apart.{flag-no, flag-yes, sign, firsts-count, same-from-counts, nothing-same, self-counts, Extreme, least-extreme, greatest-extreme, group_row-same, of_key-same}
+use Rattle.vx_exec_laws.proofs.Apart.{flag-no, flag-yes, sign, firsts-count, firsts-at-most, same-from-counts, nothing-same, self-counts, Extreme, least-extreme, greatest-extreme, group_row-same, of_key-same}
 use Rattle.vx_exec_laws.proofs.Groups.{groups, groups-same, keys-all, fits-same-rows}
 
 -- ---- parts in any order
@@ -445,6 +446,10 @@ pick-from i (x ∷ key) row h =
     (λ c l. let e : suc i + c ≡ i + suc c = omega arith in ap (λ k. value_at row k) e ∙ h (suc c) (omega arith)) in
     ap₂ (λ v vs. v ∷ vs) a b
 
+pub columns-long : (i n : ℕ) → length (columns_from i n) ≡ n
+columns-long i zero = refl
+columns-long i (suc n) = ap suc (columns-long (suc i) n)
+
 pub pick-key : (n : ℕ) (key vals : Row) → length key ≡ n → pick (first_columns n) (key ++ vals) ≡ key
 pick-key n key vals e =
     let P : ℕ → Type 0 = λ m. pick (columns_from 0 m) (key ++ vals) ≡ key in
@@ -463,10 +468,22 @@ filter-nothing p (x ∷ xs) h =
     let e : p x ≡ false = not-true (p x) (and-left (not (p x)) (list_all (λ x. not (p x)) xs) h) in
     ap (λ b. cond b (x ∷ filter p xs) (filter p xs)) e ∙ filter-nothing p xs (and-right (not (p x)) (list_all (λ x. not (p x)) xs) h)
 
--- no row stands before an equal one
-abbrev All-apart : List Row → Bool
-All-apart [] = true
-All-apart (y ∷ ys) = list_all (λ z. not (row_eq y z)) ys && All-apart ys
+-- rows of which each stands once are those that stand first
+once-firsts : (ys : List Row) → ((r : Row) → count (row_eq r) ys ≤ 1) → firsts ys ≡ ys
+once-firsts [] h = refl
+once-firsts (y ∷ ys) h =
+    let here = h y in
+    let one = flag-yes (row_eq y y) (row_eq-refl y) in
+    ap (λ l. y ∷ l) (ap (filter (λ z. not (row_eq y z))) (once-firsts ys (λ r. let a = h r in omega (arith, a)))
+    ∙ filter-every (λ z. not (row_eq y z)) ys (absent ys (omega (arith, here, one))))
+  where
+    absent : (zs : List Row) → count (row_eq y) zs ≡ 0 → list_all (λ z. not (row_eq y z)) zs ≡ true
+    absent [] e = refl
+    absent (z ∷ zs) e = go (row_eq y z) refl (absent zs)
+      where
+        go : (b : Bool) → row_eq y z ≡ b → (count (row_eq y) zs ≡ 0 → list_all (λ z. not (row_eq y z)) zs ≡ true) → (not b && list_all (λ z. not (row_eq y z)) zs) ≡ true
+        go true f ih = let a = flag-yes (row_eq y z) f in absurd (omega (arith, a, e))
+        go false f ih = ih (omega (arith, e))
 
 module _ (by : List ℕ) (aggregates : List Aggregate) where
   abbrev keys : List ℕ
@@ -646,38 +663,14 @@ module _ (by : List ℕ) (aggregates : List Aggregate) where
       (SameRows-all (merged-keys ts p.each) (group_fits by aggregates (all-in ts))
       (list_all-weaken (group_fits keys puts (rows-in ts)) (group_fits by aggregates (all-in ts)) (λ key e. sym (merged-row-fits key ts p.each) ∙ e) (group_keys keys (rows-in ts)) k))
 
-  -- the groups are parts of themselves, and a final gives them again, in their order
-  firsts-again : (xs : List Row) → firsts (firsts xs) ≡ firsts xs
-  firsts-again [] = refl
-  firsts-again (x ∷ xs) =
-      let fs : List Row = firsts xs in
-      let p : Row → Bool = λ y. not (row_eq x y) in
-      ap (λ l. x ∷ l) (ap (filter p) (apart-firsts (filter p fs) (apart-filter p fs (apart xs))) ∙ twice p fs)
-    where
-      apart-filter : (p : Row → Bool) (ys : List Row) → All-apart ys ≡ true → All-apart (filter p ys) ≡ true
-      apart-filter p [] h = refl
-      apart-filter p (y ∷ ys) h = go (p y) (apart-filter p ys (and-right (list_all (λ z. not (row_eq y z)) ys) (All-apart ys) h))
-        where
-          go : (b : Bool) → All-apart (filter p ys) ≡ true → All-apart (cond b (y ∷ filter p ys) (filter p ys)) ≡ true
-          go true e = and-both (list_all (λ z. not (row_eq y z)) (filter p ys)) (All-apart (filter p ys))
-              (Rattle.vx_exec_laws.proofs.Orders.list_all-filter (λ z. not (row_eq y z)) p ys (and-left (list_all (λ z. not (row_eq y z)) ys) (All-apart ys) h)) e
-          go false e = e
-
-      apart : (ys : List Row) → All-apart (firsts ys) ≡ true
-      apart [] = refl
-      apart (y ∷ ys) = and-both (list_all (λ z. not (row_eq y z)) (filter (λ z. not (row_eq y z)) (firsts ys))) (All-apart (filter (λ z. not (row_eq y z)) (firsts ys)))
-          (filter-all (λ z. not (row_eq y z)) (firsts ys)) (apart-filter (λ z. not (row_eq y z)) (firsts ys) (apart ys))
-
-      apart-firsts : (ys : List Row) → All-apart ys ≡ true → firsts ys ≡ ys
-      apart-firsts [] h = refl
-      apart-firsts (y ∷ ys) h = ap (λ l. y ∷ l) (ap (filter (λ z. not (row_eq y z))) (apart-firsts ys (and-right (list_all (λ z. not (row_eq y z)) ys) (All-apart ys) h))
-          ∙ filter-every (λ z. not (row_eq y z)) ys (and-left (list_all (λ z. not (row_eq y z)) ys) (All-apart ys) h))
-
-      twice : (p : Row → Bool) (ys : List Row) → filter p (filter p ys) ≡ filter p ys
-      twice p ys = filter-every p (filter p ys) (filter-all p ys)
-
-  groups-keys : (base : List Row) → group_keys keys (groups by aggregates base) ≡ group_keys by base
-  groups-keys base = ap firsts (go (group_keys by base) (firsts-all (λ r. length r == length by) (map (pick by) base) (picks-wide by base))) ∙ firsts-again (map (pick by) base)
+  -- the groups, in any order, are parts of themselves, and a final gives them again, in this order
+  keys-again : (base ks : List Row) → SameRows ks (group_keys by base) → group_keys keys (map (group_row by aggregates base) ks) ≡ ks
+  keys-again base ks s =
+      ap firsts (go ks (SameRows-all (SameRows-sym s) (λ r. length r == length by) (firsts-all (λ r. length r == length by) (map (pick by) base) (picks-wide by base))))
+      ∙ once-firsts ks (λ r.
+      let a : count (row_eq r) ks ≡ count (row_eq r) (group_keys by base) = s.totals (λ x. cond (row_eq r x) 1 0) in
+      let b : count (row_eq r) (group_keys by base) ≤ 1 = firsts-at-most r (map (pick by) base) in
+      omega (arith, a, b))
     where
       go : (ks : List Row) → list_all (λ (r : Row). length r == length by) ks ≡ true → map (pick keys) (map (group_row by aggregates base) ks) ≡ ks
       go [] h = refl
@@ -685,14 +678,13 @@ module _ (by : List ℕ) (aggregates : List Aggregate) where
           ap₂ (λ a b. a ∷ b) (pick-key (length by) k (map (λ a. aggregate_of a (of_key by k base)) aggregates) (eqb-true (length k) (length by) (and-left (length k == length by) (list_all (λ (r : Row). length r == length by) ks) h)))
           (go ks (and-right (length k == length by) (list_all (λ (r : Row). length r == length by) ks) h))
 
-  pub final-again : (base : List Row) → list_all (group_fits by aggregates base) (group_keys by base) ≡ true
-      → group_rows keys puts (groups by aggregates base) ≡ Some (groups by aggregates base)
-  final-again base h =
-      let xs : List Row = groups by aggregates base in
-      let p = Parts-groups by aggregates base in
-      let same : (ks : List Row) → map (group_row keys puts xs) ks ≡ map (group_row by aggregates base) ks = rows-same xs p in
+  pub final-again : (base ks : List Row) → SameRows ks (group_keys by base) → list_all (group_fits by aggregates base) (group_keys by base) ≡ true
+      → group_rows keys puts (map (group_row by aggregates base) ks) ≡ Some (map (group_row by aggregates base) ks)
+  final-again base ks s h =
+      let xs : List Row = map (group_row by aggregates base) ks in
+      let p = Parts-order by aggregates base (groups by aggregates base) xs (linear-same (Linear-map (group_row by aggregates base)) (SameRows-sym s)) (Parts-groups by aggregates base) in
       ap (λ b. cond b (Some (groups keys puts xs)) None) (final-fits base xs p h)
-      ∙ ap (λ l. Some l) (ap (map (group_row keys puts xs)) (groups-keys base) ∙ same (group_keys by base))
+      ∙ ap (λ l. Some l) (ap (map (group_row keys puts xs)) (keys-again base ks s) ∙ rows-same xs p ks)
     where
       rows-same : (xs : List Row) → Parts by aggregates base xs → (ks : List Row) → map (group_row keys puts xs) ks ≡ map (group_row by aggregates base) ks
       rows-same xs p [] = refl

@@ -104,11 +104,15 @@ shown-placed goes law b ways q n w single l ys h e = ⊎_elim
 -- ---- the operators
 
 -- over one input: rows that stem from rows stand where they did
+pub unary-place : (goes : Routing) (op : Unary) (p : Plan) (n w : ℕ) (xs ys : List Row) → unary_rows op xs ≡ Some ys → ((q : Part) → has p q ≡ true → Placed goes q n w xs)
+    → Each (λ v. Places goes n w ys v) (way (described op).copying (own p ∷ []) ∷ [])
+unary-place goes op p n w xs ys e had =
+    ((λ r cs ds c h. (keeps op).stems cs ds c (λ key. goes r key n == w) xs ys e (had (routed r ds) (and-left (has p (routed r ds)) true h))), tt)
+
 pub unary-places : (goes : Routing) (op : Unary) (p : Plan) (n w : ℕ) (xs ys : List Row) → unary_rows op xs ≡ Some ys → ((q : Part) → has p q ≡ true → Placed goes q n w xs)
     → Each (λ v. Places goes n w ys v) (over (described op) p).ways
 unary-places goes op p n w xs ys e had =
-    each-if (λ v. Places goes n w ys v) (meet (described op).meets (own p)) (way (described op).copying (own p ∷ []) ∷ [])
-    (λ m. (λ r cs ds c h. (keeps op).stems cs ds c (λ key. goes r key n == w) xs ys e (had (routed r ds) (and-left (has p (routed r ds)) true h)), tt))
+    each-if (λ v. Places goes n w ys v) (meet (described op).meets (own p)) (way (described op).copying (own p ∷ []) ∷ []) (λ m. unary-place goes op p n w xs ys e had)
 
 -- rows side by side
 union-places : (goes : Routing) (v : ℕ) (p q : Plan) (n w : ℕ) (ls rs : List Row)

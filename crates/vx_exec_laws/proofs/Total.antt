@@ -23,6 +23,7 @@ use Rattle.vx_exec_laws.proofs.Apart.{self-counts, nothing-same, find-in, agree-
 use Rattle.vx_exec_laws.proofs.Erased.{erased-rows}
 use Rattle.vx_exec_laws.proofs.OneInput.{close}
 use Rattle.vx_exec_laws.proofs.Frame.{all-hold}
+use Rattle.vx_exec_laws.proofs.WellFormed.{well-phased}
 
 -- rows of the list that agree on these columns are equal
 abbrev pub Reports : List ℕ → List Row → Type 0
@@ -84,13 +85,13 @@ all-columns-tell n cols xs w h a b ca cb e = agree-all n cols a b w (width-of a 
         (λ r. let s : a ≡ r.0 = row_eq-same a r.0 r.1 in ap length s ∙ eqb-true (length r.0) n r.2)
         (find-in (λ row. length row == n) (row_eq a) xs h)
 
-some-key : (keys : List (List ℕ)) (cols : List ℕ) (xs : List Row) → KeysHold keys xs → list_any (λ k. within k cols) keys ≡ true → Reports cols xs
+pub some-key : (keys : List (List ℕ)) (cols : List ℕ) (xs : List Row) → KeysHold keys xs → list_any (λ k. within k cols) keys ≡ true → Reports cols xs
 some-key [] cols xs h e = absurd (true≢false (sym e))
 some-key (k ∷ keys) cols xs h e = ⊎_elim (λ w. key-tells k cols xs w h.0) (λ l. some-key keys cols xs h.1 l) (or-cases (within k cols) (list_any (λ k. within k cols) keys) e)
 
 pub sound-at-root : SoundAtRoot
 sound-at-root catalog db sizes goes given is_total p s wf shut ok root run =
-    let h = close catalog db sizes goes given p s shut (all-hold catalog db sizes goes given p s wf ok run) in
+    let h = close catalog db sizes goes given p s (well-phased catalog p wf) shut (all-hold catalog db sizes goes given p s wf ok run) in
     let one_size : is_one (size p) ≡ true = and-left (is_one (size p)) (not is_total || is_total_order catalog p) root in
     let n1 : workers sizes (size p) ≡ 1 = one-worker sizes (size p) one_size in
     let all_one : SameRows (joined (workers sizes (size p)) s) h.base = from_single-of goes given.in_range (claim p).part (workers sizes (size p)) s (λ xs. SameRows xs h.base) n1 h.holds.part in

@@ -1,8 +1,9 @@
 -- The claims of nodes with two inputs, by the behaviours of their operators.
-use Rattle.std.proofs.Common.{◌≡◌, ℕ, ◌<◌, ◌==◌, Bool, true, false, ◌&&◌, ◌||◌, List, [], ◌∷◌, ◌++◌, length, sym, ap, ◌∙◌, subst, true≢false}
+use Rattle.std.proofs.Common.{◌≡◌, ℕ, ◌<◌, ◌==◌, Bool, true, ◌&&◌, ◌||◌, List, [], ◌∷◌, ◌++◌, length, sym, ap, ◌∙◌, subst, true≢false}
 use Rattle.vx_rows_values.specs.Values.{Row}
 use Rattle.vx_rows_values.specs.Order.{sorted}
 use Rattle.vx_rows_values.specs.Bags.{SameRows}
+use Rattle.vx_rows_values.specs.Keys.{HasKey}
 use Rattle.vx_catalog_relations.specs.Relation.{Relation, KeysHold}
 use Rattle.vx_plan_nodes.specs.Types.{well_formed, names_columns, width}
 use Rattle.vx_plan_nodes.specs.Plan.{Size, Part, any, all, Claim, Plan, binary, claim, size, Binary, union, join, is_one, size_eq}
@@ -10,8 +11,8 @@ use Rattle.vx_plan_nodes.specs.Describe.{whole_rows, left_of, right_of, describe
 use Rattle.vx_plan_nodes.specs.Serial.{binary_rows, join_rows, rows, after, serial}
 use Rattle.vx_plan_nodes.specs.Streams.{Streams, joined, workers}
 use Rattle.vx_plan_nodes.specs.Routes.{Routing}
-use Rattle.vx_check_rules.specs.Rules.{part_gives, has, allowed_here, routed_alike, join_keys}
-use Rattle.vx_check_rules.specs.Behaviour.{Way, way, own, bare, if_so, ways_over, behaviour}
+use Rattle.vx_check_rules.specs.Rules.{part_gives, has, allowed_here, routed_alike, keys_of}
+use Rattle.vx_check_rules.specs.Behaviour.{Way, way, own, bare, if_so, ways_over, behaviour, shown_part}
 use Rattle.vx_check_rules.specs.Claims.{PartHolds, Given}
 use Rattle.vx_check_rules.proofs.Bools.{or-left}
 use Rattle.vx_exec_laws.proofs.Bags.{and-left, and-right}
@@ -27,17 +28,17 @@ use Rattle.vx_exec_laws.proofs.OneInput.{tests, Holding}
 
 module _ (catalog : ℕ → Relation) (db : ℕ → List Row) (sizes : ℕ → ℕ) (goes : Routing) (given : Given catalog db sizes goes) where
   -- what two inputs with as many workers have
-  record Both (p q : Plan) (s t : Streams) (base rbase : List Row) : Type 0 where
-    part : PartHolds goes (claim p).part (workers sizes (size p)) s base
-    part_right : PartHolds goes (claim q).part (workers sizes (size p)) t rbase
-    left : (x : Part) → has p x ≡ true → PartHolds goes x (workers sizes (size p)) s base
-    right : (x : Part) → has q x ≡ true → PartHolds goes x (workers sizes (size p)) t rbase
-    one_left : is_one (size p) ≡ true → (x : Part) → has p x ≡ true
-    one_right : is_one (size p) ≡ true → (x : Part) → has q x ≡ true
-    base_wide : wide (width catalog p) base ≡ true
-    all_wide : (w : ℕ) → w < workers sizes (size p) → wide (width catalog p) (s w) ≡ true
+  pub record Both (p q : Plan) (s t : Streams) (base rbase : List Row) : Type 0 where
+    pub part : PartHolds goes (claim p).part (workers sizes (size p)) s base
+    pub part_right : PartHolds goes (claim q).part (workers sizes (size p)) t rbase
+    pub left : (x : Part) → has p x ≡ true → PartHolds goes x (workers sizes (size p)) s base
+    pub right : (x : Part) → has q x ≡ true → PartHolds goes x (workers sizes (size p)) t rbase
+    pub one_left : is_one (size p) ≡ true → (x : Part) → has p x ≡ true
+    pub one_right : is_one (size p) ≡ true → (x : Part) → has q x ≡ true
+    pub base_wide : wide (width catalog p) base ≡ true
+    pub all_wide : (w : ℕ) → w < workers sizes (size p) → wide (width catalog p) (s w) ≡ true
 
-  both-have : (p q : Plan) (s t : Streams) (ih : Holding db sizes goes p s) (jh : Holding db sizes goes q t) → well_formed catalog p ≡ true → size_eq (size p) (size q) ≡ true
+  pub both-have : (p q : Plan) (s t : Streams) (ih : Holding db sizes goes p s) (jh : Holding db sizes goes q t) → well_formed catalog p ≡ true → size_eq (size p) (size q) ≡ true
       → Both p q s t ih.base jh.base
   both-have p q s t ih jh wf e =
       let n : ℕ = workers sizes (size p) in
@@ -58,15 +59,14 @@ module _ (catalog : ℕ → Relation) (db : ℕ → List Row) (sizes : ℕ → �
       }
 
   -- what an operator over two inputs owes: what its lists stand for, and keys
-  record Over (k : ℕ) (c : Claim) (op : Binary) (p q : Plan) (s t out : Streams) (base rbase : List Row) : Type 0 where
-    alone : is_one (size p) ≡ true → SameRows (joined (workers sizes (size p)) out) (binary_rows op base rbase)
-    stands : Each (λ v. Stands (workers sizes (size p)) out (λ xs. SameRows xs (binary_rows op base rbase)) v) (behaviour catalog (binary k c op p q)).ways
-    keyed : KeysHold c.keys (binary_rows op base rbase)
+  pub record Over (k : ℕ) (c : Claim) (op : Binary) (p q : Plan) (s t out : Streams) (base rbase : List Row) : Type 0 where
+    pub alone : is_one (size p) ≡ true → SameRows (joined (workers sizes (size p)) out) (binary_rows op base rbase)
+    pub stands : Each (λ v. Stands (workers sizes (size p)) out (λ xs. SameRows xs (binary_rows op base rbase)) v) (behaviour catalog (binary k c op p q)).ways
+    pub keyed : (x : List ℕ) → keys_of catalog (binary k c op p q) x ≡ true → HasKey x (binary_rows op base rbase)
 
-  union-over : (k : ℕ) (c : Claim) (p q : Plan) (s t out : Streams) (base rbase : List Row) → Both p q s t base rbase → allowed_here catalog (binary k c union p q) ≡ true
+  union-over : (k : ℕ) (c : Claim) (p q : Plan) (s t out : Streams) (base rbase : List Row) → Both p q s t base rbase
       → ((w : ℕ) → w < workers sizes (size p) → (s w ++ t w) ≡ out w) → Over k c union p q s t out base rbase
-  union-over k c p q s t out base rbase both ok run =
-      let h = tests catalog (binary k c union p q) ok in
+  union-over k c p q s t out base rbase both run =
       let n : ℕ = workers sizes (size p) in
       let together : has p any ≡ true → has q any ≡ true → SameRows (joined n out) (base ++ rbase) = λ a b. union-any n s t out base rbase run (both.left any a) (both.right any b) in
       record {
@@ -81,7 +81,7 @@ module _ (catalog : ℕ → Relation) (db : ℕ → List Row) (sizes : ℕ → �
               ),
               tt,
             ));
-        keyed = keys-from (λ x. false) (base ++ rbase) (λ x e. absurd (true≢false (sym e))) c.keys h.6;
+        keyed = λ x e. absurd (true≢false (sym e));
       }
 
   -- the four ways of a join: by like routes to the left and to the right part, by a whole right input, by a whole left one
@@ -120,18 +120,42 @@ module _ (catalog : ℕ → Relation) (db : ℕ → List Row) (sizes : ℕ → �
       ))))
 
   join-over : (k : ℕ) (c : Claim) (m : Bool) (on : List (ℕ × ℕ)) (p q : Plan) (s t out : Streams) (base rbase : List Row) → Both p q s t base rbase
-      → allowed_here catalog (binary k c (join m on) p q) ≡ true → names_columns (width catalog p) (claim p) ≡ true → KeysHold (claim p).keys base → KeysHold (claim q).keys rbase
+      → names_columns (width catalog p) (claim p) ≡ true → KeysHold (claim p).keys base → KeysHold (claim q).keys rbase
       → ((w : ℕ) → w < workers sizes (size p) → join_rows on (s w) (t w) ≡ out w) → Over k c (join m on) p q s t out base rbase
-  join-over k c m on p q s t out base rbase both ok names keys keys_right run =
-      let h = tests catalog (binary k c (join m on) p q) ok in
+  join-over k c m on p q s t out base rbase both names keys keys_right run =
       let n : ℕ = workers sizes (size p) in
       let wd : ℕ = width catalog p in
       record {
         alone = λ o. join-left on n s t out base rbase run (both.right all (both.one_right o all)) (both.left any (both.one_left o any));
         stands = join-stands m on wd p q s t out base rbase both run;
-        keyed = keys-from (join_keys on wd (claim p).keys (claim q).keys) (join_rows on base rbase)
-            (λ x e. join-key on wd (claim p).keys (claim q).keys base rbase both.base_wide (named wd (claim p) names).2 keys keys_right x e) c.keys h.6;
+        keyed = λ x e. join-key on wd (claim p).keys (claim q).keys base rbase both.base_wide (named wd (claim p) names).2 keys keys_right x e;
       }
+
+  pub binary-over : (k : ℕ) (c : Claim) (op : Binary) (p q : Plan) (s t out : Streams) (ih : Holding db sizes goes p s) (jh : Holding db sizes goes q t)
+      → names_columns (width catalog p) (claim p) ≡ true → ((w : ℕ) → w < workers sizes (size p) → binary_rows op (s w) (t w) ≡ out w) → Both p q s t ih.base jh.base
+      → Over k c op p q s t out ih.base jh.base
+  binary-over k c union p q s t out ih jh names run both = union-over k c p q s t out ih.base jh.base both run
+  binary-over k c (join m on) p q s t out ih jh names run both = join-over k c m on p q s t out ih.base jh.base both names ih.holds.keys jh.holds.keys run
+
+  -- the serial rows
+  pub binary-serial : (k : ℕ) (c : Claim) (op : Binary) (p q : Plan) (s t : Streams) (ih : Holding db sizes goes p s) (jh : Holding db sizes goes q t)
+      → serial db (binary k c op p q) ≡ rows (binary_rows op ih.base jh.base)
+  binary-serial k c op p q s t ih jh =
+      ap (λ x. after x (λ xs. after (serial db q) (λ ys. rows (binary_rows op xs ys)))) ih.is_serial ∙ ap (λ x. after x (λ ys. rows (binary_rows op ih.base ys))) jh.is_serial
+
+  -- a part that is shown
+  pub binary-part : (k : ℕ) (c : Claim) (op : Binary) (p q : Plan) (s t out : Streams) (ih : Holding db sizes goes p s) (jh : Holding db sizes goes q t)
+      → names_columns (width catalog p) (claim p) ≡ true → ((w : ℕ) → w < workers sizes (size p) → binary_rows op (s w) (t w) ≡ out w) → Both p q s t ih.base jh.base
+      → Over k c op p q s t out ih.base jh.base → (x : Part) → (is_one (size p) || shown_part (behaviour catalog (binary k c op p q)) x) ≡ true
+      → PartHolds goes x (workers sizes (size p)) out (binary_rows op ih.base jh.base)
+  binary-part k c op p q s t out ih jh names run both made x shown =
+      let n : ℕ = workers sizes (size p) in
+      shown-part goes given.in_range (is_one (size p)) (behaviour catalog (binary k c op p q)).ways x n out (λ xs. SameRows xs (binary_rows op ih.base jh.base)) (one-worker sizes (size p)) made.alone made.stands
+      (λ w l. let P : List Row → Type 0 = λ xs. Each (λ v. Places goes n w xs v) (behaviour catalog (binary k c op p q)).ways in
+      subst P (run w l) (both-places goes catalog k c op p q n w (s w) (t w) names (both.all_wide w l)
+      (part-placed goes (claim p).part n s (λ xs. SameRows xs ih.base) both.part w l) (part-placed goes (claim q).part n t (λ xs. SameRows xs jh.base) both.part_right w l)
+      (λ x e. part-placed goes x n s (λ xs. SameRows xs ih.base) (both.left x e) w l) (λ x e. part-placed goes x n t (λ xs. SameRows xs jh.base) (both.right x e) w l)))
+      shown
 
   pub binary-holds : (k : ℕ) (c : Claim) (op : Binary) (p q : Plan) (s t out : Streams) (ih : Holding db sizes goes p s) (jh : Holding db sizes goes q t)
       → well_formed catalog p ≡ true → names_columns (width catalog p) (claim p) ≡ true
@@ -140,29 +164,18 @@ module _ (catalog : ℕ → Relation) (db : ℕ → List Row) (sizes : ℕ → �
       → Holding db sizes goes (binary k c op p q) out
   binary-holds k c op p q s t out ih jh wf names ok run =
       let h = tests catalog (binary k c op p q) ok in
-      let n : ℕ = workers sizes (size p) in
       let both = both-have p q s t ih jh wf h.0 in
-      let over = facts op ok run both in
+      let made = binary-over k c op p q s t out ih jh names run both in
       let list : List Row = binary_rows op ih.base jh.base in
       record {
         base = list;
-        is_serial = ap (λ x. after x (λ xs. after (serial db q) (λ ys. rows (binary_rows op xs ys)))) ih.is_serial ∙ ap (λ x. after x (λ ys. rows (binary_rows op ih.base ys))) jh.is_serial;
+        is_serial = binary-serial k c op p q s t ih jh;
         holds = record {
-          part = shown-part goes given.in_range (is_one (size p)) (behaviour catalog (binary k c op p q)).ways c.part n out (λ xs. SameRows xs list) (one-worker sizes (size p)) over.alone over.stands
-              (λ w l. let P : List Row → Type 0 = λ xs. Each (λ v. Places goes n w xs v) (behaviour catalog (binary k c op p q)).ways in
-              subst P (run w l) (both-places goes catalog k c op p q n w (s w) (t w) names (both.all_wide w l)
-              (part-placed goes (claim p).part n s (λ xs. SameRows xs ih.base) both.part w l) (part-placed goes (claim q).part n t (λ xs. SameRows xs jh.base) both.part_right w l)
-              (λ x e. part-placed goes x n s (λ xs. SameRows xs ih.base) (both.left x e) w l) (λ x e. part-placed goes x n t (λ xs. SameRows xs jh.base) (both.right x e) w l)))
-              h.4;
+          part = binary-part k c op p q s t out ih jh names run both made c.part h.4;
           order = (
             λ w l. let P : List Row → Type 0 = λ xs. sorted c.order xs ≡ true in subst P (run w l) (both-ordered catalog k c op p q names h.5 (s w) (t w) (both.all_wide w l) (ih.holds.order.0 w l)),
             both-ordered catalog k c op p q names h.5 ih.base jh.base both.base_wide ih.holds.order.1,
           );
-          keys = over.keyed;
+          keys = keys-from (keys_of catalog (binary k c op p q)) list made.keyed c.keys h.6;
         };
       }
-    where
-      facts : (op : Binary) → allowed_here catalog (binary k c op p q) ≡ true → ((w : ℕ) → w < workers sizes (size p) → binary_rows op (s w) (t w) ≡ out w) → Both p q s t ih.base jh.base
-          → Over k c op p q s t out ih.base jh.base
-      facts union ok run both = union-over k c p q s t out ih.base jh.base both ok run
-      facts (join m on) ok run both = join-over k c m on p q s t out ih.base jh.base both ok names ih.holds.keys jh.holds.keys run

@@ -1,12 +1,12 @@
 -- What a well-formed plan says of its inputs, and of its claims.
-use Rattle.std.proofs.Common.{◌≡◌, ℕ, ◌==◌, Bool, true, ◌&&◌, eqb-true}
+use Rattle.std.proofs.Common.{◌≡◌, ℕ, ◌==◌, Bool, true, ◌&&◌, refl, eqb-true}
 use Rattle.std.specs.List.{list_all}
 use Rattle.vx_catalog_relations.specs.Relation.{Relation}
 use Rattle.vx_plan_nodes.specs.Plan.{Claim, Plan, scan, unary, binary, exchange, claim, Unary, Binary, union, join}
 use Rattle.vx_plan_nodes.specs.Types.{well_formed, names_columns, part_columns, width}
 use Rattle.vx_catalog_relations.specs.Catalog.{all_below}
-use Rattle.vx_plan_nodes.specs.Phases.{phase_fits, both_closed}
-use Rattle.vx_exec_laws.proofs.Bags.{and-left, and-right}
+use Rattle.vx_plan_nodes.specs.Phases.{phase_fits, both_closed, phased}
+use Rattle.vx_exec_laws.proofs.Bags.{and-left, and-right, and-both}
 
 -- over one input: the input is well formed, the operator's phase fits it, and the claim names columns
 pub well-under : (catalog : ℕ → Relation) (k : ℕ) (c : Claim) (op : Unary) (p : Plan) → well_formed catalog (unary k c op p) ≡ true
@@ -54,3 +54,14 @@ names catalog (scan k c r m z) h = h
 names catalog (unary k c op p) h = (well-under catalog k c op p h).2
 names catalog (binary k c op p q) h = (well-both catalog k c op p q h).3
 names catalog (exchange k c kind m p) h = and-right (well_formed catalog p) (names_columns (width catalog p) c) h
+
+-- the phases fit
+pub well-phased : (catalog : ℕ → Relation) (p : Plan) → well_formed catalog p ≡ true → phased p ≡ true
+well-phased catalog (scan k c r m z) h = refl
+well-phased catalog (unary k c op p) h =
+    let t = well-under catalog k c op p h in
+    and-both (phased p) (phase_fits op p) (well-phased catalog p t.0) t.1
+well-phased catalog (binary k c op p q) h =
+    let t = well-both catalog k c op p q h in
+    and-both (phased p) (phased q && both_closed p q) (well-phased catalog p t.0) (and-both (phased q) (both_closed p q) (well-phased catalog q t.1) t.2)
+well-phased catalog (exchange k c kind m p) h = well-phased catalog p (and-left (well_formed catalog p) (names_columns (width catalog p) c) h)

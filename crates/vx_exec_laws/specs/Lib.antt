@@ -1,4 +1,5 @@
 pub mod Sound
+pub mod DerivedSound
 pub mod Forms
 pub mod WorkedPlans
 pub mod WorkedRows

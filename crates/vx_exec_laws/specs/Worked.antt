@@ -75,7 +75,13 @@ abbrev pub counted : Plan
 counted =
     unary 0 (claimed one [] []) (group final [] (sum 0 ∷ [])) (exchange 1 (claimed one [] []) gather [] (unary 2 (claimed any [] []) (group partial [] (count_rows ∷ [])) (shared_t 3)))
 
--- a partial as root, a final over a scan, and a partial over a partial
+-- sums in two phases, the parts sorted on each worker and merged by a gather; the keys that the sort of parts claims, and its columns
+abbrev pub merged_sums : (sort_keys : List (List ℕ)) → (cols : List ℕ) → Plan
+merged_sums sort_keys cols =
+    unary 0 (claimed one first (first ∷ [])) (group final (first_columns 1) of_sums)
+    (exchange 1 (claimed one first []) gather first (unary 2 (claimed any first sort_keys) (sort true cols) (unary 3 (claimed any [] []) (group partial (1 ∷ []) sums) (shared_t 4))))
+
+-- a partial as root, a final over a scan, and a sort of whole rows between the phases
 abbrev pub root_partial : Plan
 root_partial = unary 0 (claimed one [] []) (group partial (1 ∷ []) sums) (scan 1 (claimed one [] []) 0 false one_worker)
 
@@ -110,6 +116,10 @@ t_rows = (n 0 ∷ a ∷ n 5 ∷ []) ∷ (n 1 ∷ b ∷ n 7 ∷ []) ∷ (n 2 ∷ 
 abbrev pub db : ℕ → List Row
 db k = t_rows
 
+-- other rows, whose keys come in no order
+abbrev pub mixed : List Row
+mixed = (n 0 ∷ c ∷ n 5 ∷ []) ∷ (n 1 ∷ a ∷ n 7 ∷ []) ∷ (n 2 ∷ b ∷ n 1 ∷ []) ∷ (n 3 ∷ a ∷ n 2 ∷ []) ∷ []
+
 -- a sum that leaves 64 bits on the way
 abbrev pub large : List Row
 large = (n 0 ∷ a ∷ n 9223372036854775807 ∷ []) ∷ (n 1 ∷ a ∷ n 1 ∷ []) ∷ (n 2 ∷ a ∷ num (negsuc 0) ∷ []) ∷ []
@@ -125,15 +135,24 @@ pub record WorkedPhases : Type 0 where
   pub unrouted : refusal catalog true not_routed ≡ Some (2, inputs_not_matched)
   pub key_of_partial : refusal catalog true (two_phase [] (first ∷ [])) ≡ Some (4, key_not_shown)
   pub key_of_exchange : refusal catalog true (two_phase (first ∷ []) []) ≡ Some (3, key_not_shown)
+  -- parts that are sorted and merged; K8 and K6 at the sort
+  pub merging_accepted : refusal catalog true (merged_sums [] first) ≡ None
+  pub typed_merging : typed scope (merged_sums [] first) ≡ true
+  pub key_of_sort : refusal catalog true (merged_sums (first ∷ []) first) ≡ Some (2, key_not_shown)
+  pub order_of_sort : refusal catalog true (merged_sums [] (1 ∷ [])) ≡ Some (2, order_not_shown)
   -- phases that do not fit
   pub partial_at_root : is_open root_partial ≡ true
   pub no_partial : well_formed catalog final_over_scan ≡ false
   pub no_exchange : well_formed catalog sorted_partial ≡ false
+  pub sorted_on_sums : well_formed catalog (merged_sums [] (1 ∷ [])) ≡ false
   pub parts_counted : well_formed catalog counting_parts ≡ false
   -- what they mean, with and without exchanges: rows and nodes
   pub means : serial db (unary 0 (claimed one [] []) (sort false first) (two_phase [] [])) ≡ rows ((a ∷ n 3 ∷ []) ∷ (b ∷ n 7 ∷ []) ∷ (c ∷ n 7 ∷ []) ∷ [])
   pub erased_means : serial db (erase (two_phase [] [])) ≡ rows ((a ∷ n 3 ∷ []) ∷ (b ∷ n 7 ∷ []) ∷ (c ∷ n 7 ∷ []) ∷ [])
   pub erased_is : erase counted ≡ unary 0 (claimed one [] []) (group plain [] (count_rows ∷ [])) (scan 1 (claimed one [] []) 0 false one_worker)
+  pub merging_means : serial (λ k. mixed) (merged_sums [] first) ≡ rows ((a ∷ n 9 ∷ []) ∷ (b ∷ n 1 ∷ []) ∷ (c ∷ n 5 ∷ []) ∷ [])
+  pub erased_merging : erase (merged_sums [] first)
+      ≡ unary 0 (claimed one [] []) (sort false first) (unary 1 (claimed one [] []) (group plain (1 ∷ []) sums) (scan 2 (claimed one [] []) 0 false one_worker))
   pub counts : serial db (erase counting) ≡ rows ((a ∷ n 2 ∷ []) ∷ (b ∷ n 1 ∷ []) ∷ (c ∷ n 1 ∷ []) ∷ [])
   pub all_counted : serial db (erase counted) ≡ rows ((n 4 ∷ []) ∷ [])
   pub none_counted : serial (λ k. []) (erase counted) ≡ rows []

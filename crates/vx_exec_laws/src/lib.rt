@@ -1,6 +1,7 @@
 //! The laws that stand on the definitions alone: each is the contract of a function with an empty body.
 #![tactic(auto)]
 
+pub mod derived;
 pub mod runs;
 pub mod worked;
 

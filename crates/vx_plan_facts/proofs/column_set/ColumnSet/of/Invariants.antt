@@ -1,0 +1,8 @@
+use Rattle.std.proofs.Common.{◌≡◌, ◌<◌, ℕ, take}
+use Rattle.vx_rows_values.specs.Limits.{max_columns}
+use Rattle.vx_plan_facts.specs.Following.{set_of}
+use Rattle.vx_plan_facts.specs.ColumnSetView.{set_of_columns}
+use Rattle.vx_plan_facts.proofs.column_set.ColumnSet.of.Given as goal
+
+abbrev pub invariant-loop-column : goal.invariant-loop-column
+invariant-loop-column l = (c : ℕ) → c < max_columns → set_of_columns l.set c ≡ set_of (take l.column-index l.columns) c

@@ -1,0 +1,43 @@
+-- What follows from facts of columns: a part is one on equal columns too, an order may leave out what earlier columns determine, a key is one by what it
+-- determines, and an order is total if it determines a key or all columns.
+use Rattle.std.specs.Prelude.{ℕ, ◌==◌, Bool, true, false, cond, ◌&&◌, ◌||◌, List, [], ◌∷◌}
+use Rattle.std.specs.List.{list_all, list_any}
+use Rattle.vx_plan_nodes.specs.Phases.{first_columns}
+use Rattle.vx_plan_facts.specs.Equal.{Equality}
+use Rattle.vx_plan_facts.specs.Determined.{Columns}
+
+-- the columns of a list, as a set
+abbrev pub set_of : List ℕ → Columns
+set_of cols c = list_any (λ d. c == d) cols
+
+-- equally long, and equal one by one
+abbrev pub equal_lists : Equality → List ℕ → List ℕ → Bool
+equal_lists e [] [] = true
+equal_lists e (c ∷ cs) (d ∷ ds) = e c d && equal_lists e cs ds
+equal_lists e _ _ = false
+
+-- the first list begins the second, up to equal columns
+abbrev pub begins_equally : Equality → List ℕ → List ℕ → Bool
+begins_equally e [] ds = true
+begins_equally e (c ∷ cs) [] = false
+begins_equally e (c ∷ cs) (d ∷ ds) = e c d && begins_equally e cs ds
+
+-- the columns of an order that those before them do not determine; `before` are those passed already
+abbrev pub short_after : (Columns → Columns) → (before : List ℕ) → List ℕ → List ℕ
+short_after det before [] = []
+short_after det before (c ∷ cols) = cond (det (set_of before) c) (short_after det (c ∷ before) cols) (c ∷ short_after det (c ∷ before) cols)
+
+abbrev pub short : (Columns → Columns) → List ℕ → List ℕ
+short det cols = short_after det [] cols
+
+-- rows in the one order are in the other one
+abbrev pub order_follows : Equality → (Columns → Columns) → (given order : List ℕ) → Bool
+order_follows e det given order = begins_equally e (short det order) (short det given)
+
+-- these columns determine all of one of these keys
+abbrev pub key_follows : (Columns → Columns) → (keys : List (List ℕ)) → List ℕ → Bool
+key_follows det keys cols = list_any (list_all (det (set_of cols))) keys
+
+-- an order on w columns is total: it determines all of a key, or all columns
+abbrev pub total_follows : ℕ → (Columns → Columns) → (keys : List (List ℕ)) → List ℕ → Bool
+total_follows w det keys order = key_follows det keys order || list_all (det (set_of order)) (first_columns w)

@@ -1,0 +1,16 @@
+pub mod Equal
+pub mod Fixed
+pub mod RowFacts
+pub mod Determined
+pub mod DeterminedFacts
+pub mod Following
+pub mod FollowLaws
+pub mod Facts
+pub mod FactsView
+pub mod Naming
+pub mod Listing
+pub mod Labels
+pub mod ColumnSetView
+pub mod Closing
+pub mod Asking
+pub mod AskingView

@@ -1,0 +1,35 @@
+-- Plans whose operators name columns of their inputs.
+use Rattle.std.specs.Prelude.{◌≡◌, ℕ, ◌==◌, nat_lt, Bool, true, ◌&&◌, List}
+use Rattle.std.specs.List.{list_all}
+use Rattle.vx_catalog_relations.specs.Relation.{Relation}
+use Rattle.vx_catalog_relations.specs.Catalog.{all_below}
+use Rattle.vx_plan_nodes.specs.Plan.{Side, column, constant, Condition, Unary, select, project, distinct, sort, group, Binary, union, join, Plan}
+use Rattle.vx_plan_nodes.specs.Typed.{Scope, typed}
+
+abbrev pub side_within : ℕ → Side → Bool
+side_within w (column c) = nat_lt c w
+side_within w (constant v) = true
+
+abbrev pub condition_within : ℕ → Condition → Bool
+condition_within w c = nat_lt c.left w && side_within w c.right
+
+-- an operator names some of the first w columns
+abbrev pub names_within : ℕ → Unary → Bool
+names_within w (select cs) = list_all (condition_within w) cs
+names_within w (project cols) = all_below w cols
+names_within w (distinct cols) = all_below w cols
+names_within w (sort of_parts cols) = true
+names_within w (group phase by aggregates) = all_below w by
+
+-- a pair of one of the first v and one of the first w columns
+abbrev pub pair_within : ℕ → ℕ → ℕ × ℕ → Bool
+pair_within v w p = nat_lt p.0 v && nat_lt p.1 w
+
+-- a union has equally wide inputs; the pairs of a join name some of the first v and of the first w columns
+abbrev pub both_within : ℕ → ℕ → Binary → Bool
+both_within v w union = w == v
+both_within v w (join merging on) = list_all (pair_within v w) on
+
+-- a typed plan over these relations
+abbrev pub IsTypedOver : List Relation → Plan → Type 0
+IsTypedOver catalog p = (s : Scope) × (s.catalog ≡ catalog) × (typed s p ≡ true)
