@@ -123,7 +123,7 @@ fn plan_of(
 ) -> Result<CheckedPlan, Error> {
     let text = subject.text(alloc, rows)?;
     let plan = Plan::read(alloc, text.as_bytes())?;
-    match check(resolve(alloc, &plan, database.catalog())?) {
+    match check(alloc, resolve(alloc, &plan, database.catalog())?) {
         Ok(plan) => Ok(plan),
         Err(refused) => bail!("the checker refuses a plan: {refused}"),
     }

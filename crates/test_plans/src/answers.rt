@@ -8,7 +8,7 @@ use std::alloc::{AllocError, Global};
 use vx_catalog_relations::Catalog;
 use vx_check::explain;
 use vx_check_annotate::annotate;
-use vx_check_rules::{CheckedPlan, Refused, check};
+use vx_check_rules::{CheckFault, CheckedPlan, Refused, check};
 use vx_plan::{erase, resolve};
 use vx_plan_json::{Plan, PlanFault, to_json};
 use vx_plan_nodes::TypedPlan;
@@ -116,6 +116,15 @@ fn renumbered(alloc: Global, catalog: &Catalog, bytes: &[u8]) -> Answer {
     Ok(outline(alloc, without.root())?)
 }
 
+// What the checker answers of a plan, if it has the memory for what is known of its columns.
+fn judged(alloc: Global, plan: TypedPlan) -> Result<Result<CheckedPlan, Refused>, PlanFault> {
+    match check(alloc, plan) {
+        Ok(checked) => Ok(Ok(checked)),
+        Err(CheckFault::Refused(refused)) => Ok(Err(refused)),
+        Err(CheckFault::NoMemory(_)) => Err(PlanFault::NoMemory),
+    }
+}
+
 // What the checker says of a plan.
 fn verdict(alloc: Global, answer: &Result<CheckedPlan, Refused>) -> Result<String, AllocError> {
     match answer {
@@ -127,7 +136,7 @@ fn verdict(alloc: Global, answer: &Result<CheckedPlan, Refused>) -> Result<Strin
 
 // What was said of a refused plan, if the plan that comes back is refused alike.
 fn refused_alike(alloc: Global, refused: Refused, said: String) -> Answer {
-    let answer = check(refused.plan);
+    let answer = judged(alloc, refused.plan)?;
     let again = verdict(alloc, &answer)?;
     if again == said {
         return Ok(said);
@@ -136,7 +145,7 @@ fn refused_alike(alloc: Global, refused: Refused, said: String) -> Answer {
 }
 
 fn checked(alloc: Global, catalog: &Catalog, bytes: &[u8]) -> Answer {
-    let answer = check(typed(alloc, catalog, bytes)?);
+    let answer = judged(alloc, typed(alloc, catalog, bytes)?)?;
     let said = verdict(alloc, &answer)?;
     match answer {
         Ok(_accepted) => Ok(said),
@@ -145,7 +154,7 @@ fn checked(alloc: Global, catalog: &Catalog, bytes: &[u8]) -> Answer {
 }
 
 fn explained(alloc: Global, catalog: &Catalog, bytes: &[u8]) -> Answer {
-    let answer = check(typed(alloc, catalog, bytes)?);
+    let answer = judged(alloc, typed(alloc, catalog, bytes)?)?;
     match &answer {
         Ok(checked) => Ok(explain(alloc, checked)?),
         Err(_) => Ok(verdict(alloc, &answer)?),

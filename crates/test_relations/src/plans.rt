@@ -10,7 +10,7 @@ use vx_plan_json::Plan;
 /// The plan of a text over a catalog, as the checker accepts it.
 pub fn accepted(alloc: Global, catalog: &Catalog, text: &str) -> Result<CheckedPlan, Fail> {
     let plan = Plan::read(alloc, text.as_bytes())?;
-    match check(resolve(alloc, &plan, catalog)?) {
+    match check(alloc, resolve(alloc, &plan, catalog)?) {
         Ok(plan) => Ok(plan),
         Err(_) => Err(Fail::new("the plan is accepted")),
     }

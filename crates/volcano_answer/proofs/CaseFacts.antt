@@ -184,7 +184,8 @@ serial_refuses b p e case (commands.for_evaluation db fault there is h) three = 
 
 command_refuses : (b : Bundle) (p : TypedPlanView) (e : Refusal) → IsCase b p → CommandRefuses b.command p (holds_in b.tables) (lacks_in b.tables) b.setting e → status_of e ≡ 3 → IsOfSetup e
 command_refuses b p e case (commands.command_memory is) three = absurd (not_three e refusal.NoMemory is refl three)
-command_refuses b p e case (commands.for_rule checked h) three = absurd (none_some (refusal_in p) _ case.shown h.3)
+command_refuses b p e case (commands.for_rule checked (inl h)) three = absurd (none_some (refusal_in p) _ case.shown h.3)
+command_refuses b p e case (commands.for_rule checked (inr h)) three = absurd (not_three e (refusal.Plan of_plan.NoMemory) h.1 refl three)
 command_refuses b p e case (commands.for_rest runs shown h) three = plan_refuses b p e case h three
 command_refuses b p e case (commands.for_serial runs h) three = absurd (serial_refuses b p e case h three)
 

@@ -30,7 +30,7 @@ resolved_is_over : (d : Document) (catalog : List Relation) → Holds (IsOver ca
 unfolding resolved
 resolved_is_over d catalog =
     let s : Names = record { catalog = catalog; ranges = d.ranges; sizes = d.sizes } in
-    let last = λ (t : Outline × ℕ). Ok (record { names = s; total = d.total; root = t.0 }) in
+    let last = λ (t : Outline × ℕ). Ok (record { names = s; total = d.total; derives = d.derives; root = t.0 }) in
     then_holds (IsOver catalog) (λ u. test_ranges d.ranges >>= λ v. typed_in s false 0 d.root >>= last) (test_sizes d.sizes)
     (λ u. then_holds (IsOver catalog) (λ v. typed_in s false 0 d.root >>= last) (test_ranges d.ranges)
     (λ v. then_holds (IsOver catalog) last (typed_in s false 0 d.root) (λ t. refl)))

@@ -9,14 +9,15 @@ use Rattle.vx_exec_setup.specs.declared.eval_fault.EvalFault.{EvalFault}
 use Rattle.volcano_refusals.specs.declared.refusal.Refusal.TheVariants as refusal
 use Rattle.volcano_answer.specs.Commands.{Holding, Lacking, erased, IsDatabaseFor, SerialRefuses, for_evaluation}
 
-is-erased : (e p : TypedPlanView) → e.names ≡ p.names → e.total ≡ false → e.root ≡ erased_from 0 p.root → e ≡ erased p
-is-erased e p names total root =
-    ap (λ (n : Names). let r : TypedPlanView = record { names = n; total = e.total; root = e.root } in r) names
-    ∙ ap (λ (t : Bool). let r : TypedPlanView = record { names = p.names; total = t; root = e.root } in r) total
-    ∙ ap (λ (o : Outline). let r : TypedPlanView = record { names = p.names; total = false; root = o } in r) root
+is-erased : (e p : TypedPlanView) → e.names ≡ p.names → e.total ≡ false → e.derives ≡ false → e.root ≡ erased_from 0 p.root → e ≡ erased p
+is-erased e p names total derives root =
+    ap (λ (n : Names). let r : TypedPlanView = record { names = n; total = e.total; derives = e.derives; root = e.root } in r) names
+    ∙ ap (λ (t : Bool). let r : TypedPlanView = record { names = p.names; total = t; derives = e.derives; root = e.root } in r) total
+    ∙ ap (λ (b : Bool). let r : TypedPlanView = record { names = p.names; total = false; derives = b; root = e.root } in r) derives
+    ∙ ap (λ (o : Outline). let r : TypedPlanView = record { names = p.names; total = false; derives = false; root = o } in r) root
 
-pub refuses : (p e : TypedPlanView) (holds : Holding) (lacks : Lacking) (db : Database) (fault : EvalFault) → e.names ≡ p.names → e.total ≡ false → e.root ≡ erased_from 0 p.root
+pub refuses : (p e : TypedPlanView) (holds : Holding) (lacks : Lacking) (db : Database) (fault : EvalFault) → e.names ≡ p.names → e.total ≡ false → e.derives ≡ false → e.root ≡ erased_from 0 p.root
     → IsDatabaseFor p holds db → EvalFails e db fault → SerialRefuses p holds lacks (refusal.Eval fault)
-refuses p e holds lacks db fault names total root there fails =
+refuses p e holds lacks db fault names total derives root there fails =
     let P : TypedPlanView → Type 0 = λ q. EvalFails q db fault in
-    for_evaluation db fault there refl (subst P (is-erased e p names total root) fails)
+    for_evaluation db fault there refl (subst P (is-erased e p names total derives root) fails)

@@ -1,15 +1,17 @@
 -- What a command makes of a plan over tables, and why it makes nothing of it. `holds` says what the tables have of a relation, and `lacks` how they refuse one.
-use Rattle.std.specs.Prelude.{◌≡◌, ℕ, List, Bool, true, false, Option, Some, None}
+use Rattle.std.specs.Prelude.{◌≡◌, ◌⊎◌, ℕ, List, Bool, true, false, Option, Some, None}
 use Rattle.vx_rows_values.specs.Values.{Row}
 use Rattle.vx_rows.specs.View.{RowsView}
 use Rattle.vx_catalog_relations.specs.Relation.{Relation}
 use Rattle.vx_catalog_relations.specs.Catalog.{relation_at}
 use Rattle.vx_catalog.specs.Csv.{csv_text}
 use Rattle.vx_catalog.specs.Database.{Database}
+use Rattle.vx_plan_json.specs.declared.fault.PlanFault.TheVariants.{NoMemory}
 use Rattle.vx_plan_nodes.specs.Erased.{erased_from}
 use Rattle.vx_plan_nodes.specs.Outline.{columns, plan_in}
 use Rattle.vx_plan_nodes.specs.Names.{TypedPlanView}
-use Rattle.vx_check_rules.specs.Refusal.{Rule, refusal}
+use Rattle.vx_check_rules.specs.Refusal.{Rule}
+use Rattle.vx_check_rules.specs.Tables.{refusal_by}
 use Rattle.vx_check_rules.specs.RuleView.{rule_of}
 use Rattle.vx_check.specs.Accepted.{accepted_text}
 use Rattle.vx_check.specs.Explain.{explain_text}
@@ -37,9 +39,9 @@ Holding = Relation → List Row → Type 0
 abbrev pub Lacking : Type 1
 Lacking = Relation → Refusal → Type 0
 
--- the first node whose note is not shown, and the rule that says so
+-- the first node whose note is not shown by the rule table that the plan asks for, and the rule that says so
 abbrev pub refusal_in : TypedPlanView → Option (ℕ × Rule)
-refusal_in p = refusal (relation_at p.names.catalog) p.total (plan_in p.root)
+refusal_in p = refusal_by p.derives (relation_at p.names.catalog) p.total (plan_in p.root)
 
 -- the text is that of the rows of a run of this plan over this database, set up like this, under the names of the plan's output
 abbrev pub IsRunOver : TypedPlanView → Database → Setting → List ℕ → Type 0
@@ -70,7 +72,7 @@ pub data PlanRefuses (p : TypedPlanView) (holds : Holding) (lacks : Lacking) (se
 
 -- the plan without its exchanges, with its names
 abbrev pub erased : TypedPlanView → TypedPlanView
-erased p = record { names = p.names; total = false; root = erased_from 0 p.root }
+erased p = record { names = p.names; total = false; derives = false; root = erased_from 0 p.root }
 
 -- the text answers a serial evaluation of this plan over the tables: it is that of the serial rows of the plan without its exchanges, under the names of the plan's output
 abbrev pub IsSerial : TypedPlanView → Holding → List ℕ → Type 0
@@ -87,16 +89,19 @@ pub data SerialRefuses (p : TypedPlanView) (holds : Holding) (lacks : Lacking) (
 abbrev pub IsShown : TypedPlanView → Type 0
 IsShown p = refusal_in p ≡ None
 
--- the checker refuses the plan: its first note that is not shown, with the rule that says so
+-- the checker refuses the plan: its first note that is not shown, with the rule that says so; or it has no memory for what is known of the columns of a plan
+-- that asks for that, as where names are looked up
 abbrev pub IsNotShown : TypedPlanView → Refusal → Type 0
-IsNotShown p e = (rule : rust_rule.Rule) × (node : ℕ) × (e ≡ refusal.Check rule node) × (refusal_in p ≡ Some (node, rule_of rule))
+IsNotShown p e =
+    ((rule : rust_rule.Rule) × (node : ℕ) × (e ≡ refusal.Check rule node) × (refusal_in p ≡ Some (node, rule_of rule)))
+    ⊎ ((p.derives ≡ true) × (e ≡ refusal.Plan NoMemory))
 
 -- the text is what a command asks for of a plan over tables; a serial evaluation asks nothing of the claims, the other commands ask the checker first
 abbrev pub IsResultOf : Command → TypedPlanView → Holding → Setting → List ℕ → Type 0
 IsResultOf command.Run p holds setting text = IsShown p × IsRun p holds setting text
 IsResultOf command.Serial p holds setting text = IsSerial p holds text
 IsResultOf command.Check p holds setting text = IsShown p × (text ≡ accepted_text p.total)
-IsResultOf command.Explain p holds setting text = IsShown p × (text ≡ explain_text p.names p.total p.root)
+IsResultOf command.Explain p holds setting text = IsShown p × (text ≡ explain_text p.names p.total p.derives p.root)
 
 -- a command that asks the checker
 abbrev pub is_checked : Command → Bool

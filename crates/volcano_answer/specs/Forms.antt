@@ -16,7 +16,7 @@ form_named name = if bytes_eq name (codes "json") then Some form.Json else if by
 
 -- the text of a plan in a form
 abbrev pub text_in_form : PlanForm → TypedPlanView → List ℕ
-text_in_form form.Json p = compact_text (outline_json p.names p.total p.root) ++ codes "\n"
+text_in_form form.Json p = compact_text (outline_json p.names p.total p.derives p.root) ++ codes "\n"
 text_in_form form.Dot p = outline_dot p.names [] p.total p.root
 
 -- the text is that of an accepted plan in a form

@@ -12,6 +12,7 @@ ghost use Rattle.volcano_answer.specs.Stats.{IsCountedPlan};
 use crate::serial::serial_plan;
 use crate::services::Services;
 use crate::stats::{RunReport, run_checked};
+use std::alloc::Global;
 use std::sync::Wait;
 use std::thread::Threads;
 use std::time::Clock;
@@ -20,9 +21,10 @@ use volcano_refusals::Refusal;
 use volcano_stats::{StatsForm, Timer};
 use volcano_tables::Tables;
 use vx_check::{accepted_text, explain};
-use vx_check_rules::{CheckedPlan, check};
+use vx_check_rules::{CheckFault, CheckedPlan, check};
 use vx_exec_runs::Runs;
 use vx_exec_setup::Setting;
+use vx_plan_json::PlanFault;
 use vx_plan_nodes::TypedPlan;
 
 /// What a command makes of a plan over tables.
@@ -46,17 +48,18 @@ impl CommandAnswer {
 }
 
 /// A plan, once the checker has accepted it.
-pub fn accepted(plan: TypedPlan) -> Result<CheckedPlan, Refusal>
+pub fn accepted(alloc: Global, plan: TypedPlan) -> Result<CheckedPlan, Refusal>
     ensures plan { IfOk result (λ checked. typed_plan checked ≡ plan) }
     ensures shown { IfOk result (λ _. IsShown (resolved_of plan)) }
     ensures refused { IfErr result (λ e. IsNotShown (resolved_of plan) e) }
 {
-    match check(plan) {
+    match check(alloc, plan) {
         Ok(checked) => Ok(checked),
-        Err(refused) => Err(Refusal::Check {
+        Err(CheckFault::Refused(refused)) => Err(Refusal::Check {
             rule: refused.rule,
             node: refused.node,
         }),
+        Err(CheckFault::NoMemory(_)) => Err(Refusal::Plan(PlanFault::NoMemory)),
     }
 }
 
@@ -85,11 +88,11 @@ pub fn execute<T: Threads + Wait + Sync, R: Runs, C: Clock, B: Tables>(
             Ok(CommandAnswer::Text(text))
         }
         Command::Check => {
-            let text = accepted_text(services.alloc, accepted(plan)?.is_total())?;
+            let text = accepted_text(services.alloc, accepted(services.alloc, plan)?.is_total())?;
             Ok(CommandAnswer::Text(text))
         }
         Command::Explain => {
-            let text = explain(services.alloc, &accepted(plan)?)?;
+            let text = explain(services.alloc, &accepted(services.alloc, plan)?)?;
             Ok(CommandAnswer::Text(text.into_bytes()))
         }
     }

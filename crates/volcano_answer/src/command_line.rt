@@ -292,7 +292,7 @@ fn answer_drawing<T: Threads + Wait + Sync, R: Runs, C: Clock, F: Store, I: Byte
     let alloc = services.alloc;
     let plan = plan_from_files(alloc, files, input, sources)?;
     let words = operator_words(alloc, &plan)?;
-    let checked = accepted(plan)?;
+    let checked = accepted(alloc, plan)?;
     let counted = bytes_at(alloc, files, input, true, stats)?;
     match draw(alloc, &checked, words.as_slice(), counted.as_slice()) {
         Ok(drawing) => Ok(ArgumentAnswer::Text(drawing)),

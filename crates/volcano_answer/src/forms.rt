@@ -35,7 +35,7 @@ pub fn plan_in_form(alloc: Global, form: PlanForm, plan: TypedPlan) -> Result<Ve
     ensures text { IfOk result (λ text. IsInForm form (resolved_of plan) text.items) }
     ensures refused { IfErr result (λ e. FormRefuses (resolved_of plan) e) }
 {
-    let checked = accepted(plan)?;
+    let checked = accepted(alloc, plan)?;
     match form {
         PlanForm::Json => Ok(explain_json(alloc, &checked)?.into_bytes()),
         PlanForm::Dot => Ok(explain_dot(alloc, &checked)?.into_bytes()),

@@ -88,7 +88,7 @@ fn plan_under<F: Store, I: ByteIn>(
 {
     let text = bytes_at(alloc, files, input, was_read, path)?;
     let plan = Plan::read(alloc, text.as_slice())?;
-    accepted(resolve(alloc, &plan, catalog)?)
+    accepted(alloc, resolve(alloc, &plan, catalog)?)
 }
 
 // Whether standard input was read, once the bytes under a path were.

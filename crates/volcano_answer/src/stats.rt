@@ -165,7 +165,7 @@ pub fn run_checked<T: Threads + Wait + Sync, R: Runs, C: Clock, B: Tables>(
     ensures stats { IfOk result (λ k. IsCountedPlan (R.counted services.now.engine.now) form plan (B.holds tables.now) setting.now (phases_of (times_in timer.old) ++ (work_phase.Check ∷ [])) k.text.items (string_bytes k.stats)) }
     ensures refused { IfErr result (λ e. CommandRefuses command.Run (resolved_of plan) (B.holds tables.now) (B.lacks tables.now) setting.now e) }
 {
-    let checked = accepted(plan)?;
+    let checked = accepted(services.alloc, plan)?;
     timer.end(services.clock, WorkPhase::Check)?;
     run_plan(services, tables, setting, &checked, form, timer)
 }

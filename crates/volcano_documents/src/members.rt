@@ -47,6 +47,7 @@ pub const PLAN: &[Member] = &[
     maybe!("sizes", Shape::Names),
     maybe!("ranges", Shape::Ranges),
     maybe!("total", Shape::Flag),
+    maybe!("derive", Shape::Flag),
     member!("root", Shape::Node),
 ];
 

@@ -11,14 +11,15 @@ use Rattle.volcano_embedding.specs.Session.{Session}
 use Rattle.volcano_embedding.specs.Planning.{plan_text}
 use Rattle.volcano_embedding.specs.Serial.{erased, IsDatabaseFor, SerialRefuses, for_evaluation}
 
-is-erased : (e p : TypedPlanView) → e.names ≡ p.names → e.total ≡ false → e.root ≡ erased_from 0 p.root → e ≡ erased p
-is-erased e p names total root =
-    ap (λ (n : Names). let r : TypedPlanView = record { names = n; total = e.total; root = e.root } in r) names
-    ∙ ap (λ (t : Bool). let r : TypedPlanView = record { names = p.names; total = t; root = e.root } in r) total
-    ∙ ap (λ (o : Outline). let r : TypedPlanView = record { names = p.names; total = false; root = o } in r) root
+is-erased : (e p : TypedPlanView) → e.names ≡ p.names → e.total ≡ false → e.derives ≡ false → e.root ≡ erased_from 0 p.root → e ≡ erased p
+is-erased e p names total derives root =
+    ap (λ (n : Names). let r : TypedPlanView = record { names = n; total = e.total; derives = e.derives; root = e.root } in r) names
+    ∙ ap (λ (t : Bool). let r : TypedPlanView = record { names = p.names; total = t; derives = e.derives; root = e.root } in r) total
+    ∙ ap (λ (b : Bool). let r : TypedPlanView = record { names = p.names; total = false; derives = b; root = e.root } in r) derives
+    ∙ ap (λ (o : Outline). let r : TypedPlanView = record { names = p.names; total = false; derives = false; root = o } in r) root
 
-pub refuses : (s : Session) (text : List ℕ) (p e : TypedPlanView) (db : Database) (fault : EvalFault) → plan_text s.catalog text ≡ Ok p → e.names ≡ p.names → e.total ≡ false
+pub refuses : (s : Session) (text : List ℕ) (p e : TypedPlanView) (db : Database) (fault : EvalFault) → plan_text s.catalog text ≡ Ok p → e.names ≡ p.names → e.total ≡ false → e.derives ≡ false
     → e.root ≡ erased_from 0 p.root → IsDatabaseFor p s db → EvalFails e db fault → SerialRefuses s text (refusal.Eval fault)
-refuses s text p e db fault says names total root there fails =
+refuses s text p e db fault says names total derives root there fails =
     let P : TypedPlanView → Type 0 = λ q. EvalFails q db fault in
-    for_evaluation p db fault says there refl (subst P (is-erased e p names total root) fails)
+    for_evaluation p db fault says there refl (subst P (is-erased e p names total derives root) fails)

@@ -12,7 +12,8 @@ use Rattle.vx_plan_json.specs.declared.fault.PlanFault.{PlanFault}
 use Rattle.vx_plan.specs.Resolve.{resolved}
 use Rattle.vx_plan_nodes.specs.Names.{TypedPlanView}
 use Rattle.vx_plan_nodes.specs.Outline.{plan_in}
-use Rattle.vx_check_rules.specs.Refusal.{Rule, refusal}
+use Rattle.vx_check_rules.specs.Refusal.{Rule}
+use Rattle.vx_check_rules.specs.Tables.{refusal_by}
 use Rattle.vx_check_rules.specs.RuleView.{rule_of}
 use Rattle.vx_check_rules.specs.declared.rule.Rule as rust_rule
 use Rattle.volcano_refusals.specs.declared.refusal.Refusal.{Refusal}
@@ -22,9 +23,9 @@ use Rattle.volcano_refusals.specs.declared.refusal.Refusal.TheVariants as refusa
 abbrev pub plan_text : List Relation → List ℕ → Result TypedPlanView plan.Refusal
 plan_text relations text = document_of_text text >>= λ d. resolved d relations
 
--- the first node whose note is not shown, and the rule that says so
+-- the first node whose note is not shown by the rule table that the plan asks for, and the rule that says so
 abbrev pub refusal_in : TypedPlanView → Option (ℕ × Rule)
-refusal_in p = refusal (relation_at p.names.catalog) p.total (plan_in p.root)
+refusal_in p = refusal_by p.derives (relation_at p.names.catalog) p.total (plan_in p.root)
 
 -- the text is this plan over the catalog, and each note of it is shown
 pub record IsAccepted (relations : List Relation) (text : List ℕ) (p : TypedPlanView) : Type 0 where

@@ -27,7 +27,7 @@ pub data ChecksTo (s : Session) (plan : List ℕ) (r : Reply) : Type 0 where
 
 -- the reply explains the plan, or it is that of a refusal
 pub data ExplainsTo (s : Session) (plan : List ℕ) (r : Reply) : Type 0 where
-  explained : (p : TypedPlanView) → IsAccepted s.catalog plan p → r.status ≡ 0 → r.text.items ≡ explain_text p.names p.total p.root → ExplainsTo s plan r
+  explained : (p : TypedPlanView) → IsAccepted s.catalog plan p → r.status ≡ 0 → r.text.items ≡ explain_text p.names p.total p.derives p.root → ExplainsTo s plan r
   not_explained : (e : Refusal) → CheckRefuses s.catalog plan e → IsRefusalReply e r → ExplainsTo s plan r
 
 -- the reply has the plan's serial rows, or it is that of a refusal

@@ -17,7 +17,7 @@ use Rattle.volcano_embedding.specs.Planning.{plan_text, NoPlan}
 
 -- the plan without its exchanges, with its names
 abbrev pub erased : TypedPlanView → TypedPlanView
-erased p = record { names = p.names; total = false; root = erased_from 0 p.root }
+erased p = record { names = p.names; total = false; derives = false; root = erased_from 0 p.root }
 
 -- a database of a plan's catalog, with the rows that the texts have of what the plan scans
 pub record IsDatabaseFor (p : TypedPlanView) (s : Session) (db : Database) : Type 0 where

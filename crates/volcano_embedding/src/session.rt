@@ -20,9 +20,9 @@ use volcano_tables::load_tables;
 use vx_catalog::format_rows;
 use vx_catalog_relations::Catalog;
 use vx_check::explain;
-use vx_check_rules::{CheckedPlan, check};
+use vx_check_rules::{CheckFault, CheckedPlan, check};
 use vx_plan::{erase, resolve};
-use vx_plan_json::Plan;
+use vx_plan_json::{Plan, PlanFault};
 use vx_plan_nodes::{TypedPlan, name_texts};
 use vx_rows_values::KeySeed;
 use vx_rows_views::Rows;
@@ -111,12 +111,13 @@ impl Session {
         ensures refused { IfErr result (CheckRefuses self.now.catalog text.now) }
     {
         let plan = self.plan(alloc, text)?;
-        match check(plan) {
+        match check(alloc, plan) {
             Ok(checked) => Ok(checked),
-            Err(refused) => Err(Refusal::Check {
+            Err(CheckFault::Refused(refused)) => Err(Refusal::Check {
                 rule: refused.rule,
                 node: refused.node,
             }),
+            Err(CheckFault::NoMemory(_)) => Err(Refusal::Plan(PlanFault::NoMemory)),
         }
     }
 
@@ -131,7 +132,7 @@ impl Session {
 
     /// The text that explains the plan that a JSON text is, once the checker has accepted the plan.
     pub fn explain(&self, alloc: Global, text: &[u8]) -> Result<Vec<u8>, Refusal>
-        ensures text { IfOk result (λ v. (p : TypedPlanView) × IsAccepted self.now.catalog text.now p × (v.items ≡ explain_text p.names p.total p.root)) }
+        ensures text { IfOk result (λ v. (p : TypedPlanView) × IsAccepted self.now.catalog text.now p × (v.items ≡ explain_text p.names p.total p.derives p.root)) }
         ensures refused { IfErr result (CheckRefuses self.now.catalog text.now) }
     {
         let checked = self.accepted(alloc, text)?;

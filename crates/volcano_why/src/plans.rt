@@ -11,7 +11,8 @@ Example: the file ends before the last bracket.
 "#;
 
 const P2: &str = r#"P2 BadNode path=root.input
-What happened: a member is missing, unknown or of the wrong kind, or a list is empty that needs an entry.
+What happened: a member is missing, unknown or of the wrong kind, a list is empty that needs an entry, or a
+claim of a plan with `derive` has more than 16 keys.
 Usual cause, and cure: the path leads from `root` by `.input`, `.left` and `.right`; `document` is the plan's
 outermost object.
 Example: `{"op": "sort", "input": ..}` as the input of the root: its `columns` are missing.
@@ -67,7 +68,7 @@ Example: a scan with `"size": "many"` in a plan without `sizes`.
 "#;
 
 const P11: &str = r#"P11 NoMemory
-What happened: an allocation was refused while the plan was read or its names were looked up.
+What happened: an allocation was refused while the plan was read, its names were looked up, or the checker found what is known of its columns.
 Usual cause, and cure: give the program more memory.
 Example: a plan of a thousand nodes under a limit of a few megabytes.
 "#;

@@ -1,4 +1,4 @@
--- The text that explains a plan: a line for each node in preorder, then whether its order is total.
+-- The text that explains a plan: a line for each node in preorder, whether its order is total, and whether it asks for what is known of columns.
 use Rattle.std.specs.Prelude.{ℕ, suc, ◌++◌, Bool, true, false, cond, List, [], ◌∷◌, map, length, codes, slice_index_or, decimal}
 use Rattle.std.specs.Fmt.{signed_decimal}
 use Rattle.serde_json.specs.Data.{string}
@@ -152,5 +152,8 @@ lines s margin (unary h op renamed t) = line_text s margin (unary h op renamed t
 lines s margin (binary h op t u) = line_text s margin (binary h op t u) ++ (lines s (margin ++ codes "  ") t ++ lines s (margin ++ codes "  ") u)
 lines s margin (exchange h k m t) = line_text s margin (exchange h k m t) ++ lines s (margin ++ codes "  ") t
 
-abbrev pub explain_text : Names → Bool → Outline → List ℕ
-explain_text s total t = lines s [] t ++ cond total (codes "total\n") (codes "not total\n")
+abbrev pub ending_text : (total derives : Bool) → List ℕ
+ending_text total derives = cond total (codes "total\n") (codes "not total\n") ++ cond derives (codes "derive\n") []
+
+abbrev pub explain_text : Names → (total derives : Bool) → Outline → List ℕ
+explain_text s total derives t = lines s [] t ++ ending_text total derives

@@ -5,4 +5,4 @@ use Rattle.vx_plan_nodes.specs.TypedView.{resolved_of}
 use Rattle.vx_check.specs.Explain.{explain_text}
 
 abbrev pub plan_text : TypedPlan → List ℕ
-plan_text p = explain_text (resolved_of p).names (resolved_of p).total (resolved_of p).root
+plan_text p = explain_text (resolved_of p).names (resolved_of p).total (resolved_of p).derives (resolved_of p).root

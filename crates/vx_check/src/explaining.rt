@@ -3,8 +3,8 @@
 ghost use Rattle.std.specs.Prelude.{◌≡◌, ◌++◌, string_bytes, codes, decimal, OnOk, IfOk};
 ghost use Rattle.vx_plan_nodes.specs.Plan.{size};
 ghost use Rattle.vx_plan_nodes.specs.Outline.{outline_of, plan_of, columns, top};
-ghost use Rattle.vx_plan_nodes.specs.TypedView.{names_in};
-ghost use Rattle.vx_check.specs.Explain.{size_text, claim_text, line_text, lines};
+ghost use Rattle.vx_plan_nodes.specs.TypedView.{names_in, resolved_of};
+ghost use Rattle.vx_check.specs.Explain.{size_text, claim_text, line_text, lines, ending_text};
 ghost use Rattle.vx_check_rules.specs.CheckedView.{typed_plan};
 ghost use Rattle.vx_check.specs.PlanText.{plan_text};
 
@@ -75,18 +75,29 @@ fn push_lines(
     }
 }
 
+// Whether the plan is total, and whether it asks for what is known of columns.
+fn push_ending(text: &mut String, plan: &TypedPlan) -> Result<(), AllocError>
+    ensures { OnOk result (string_bytes text.new ≡ string_bytes text.old ++ ending_text (resolved_of plan.now).total (resolved_of plan.now).derives) }
+{
+    text.push_str(if plan.is_total() {
+        "total\n"
+    } else {
+        "not total\n"
+    })?;
+    if plan.derives() {
+        text.push_str("derive\n")?;
+    }
+    Ok(())
+}
+
 /// The text that explains a plan: a line for each node in preorder with what it does, its size and its note, then
-/// whether the plan is total.
+/// whether the plan is total, and `derive` if it asks for what is known of columns.
 pub fn explain(alloc: Global, checked: &CheckedPlan) -> Result<String, AllocError>
     ensures { IfOk result (λ s. string_bytes s ≡ plan_text (typed_plan checked.now)) }
 {
     let plan = checked.plan();
     let mut text = String::new(alloc);
     push_lines(alloc, &mut text, plan, "", plan.root())?;
-    text.push_str(if plan.is_total() {
-        "total\n"
-    } else {
-        "not total\n"
-    })?;
+    push_ending(&mut text, plan)?;
     Ok(text)
 }

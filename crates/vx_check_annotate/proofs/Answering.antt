@@ -28,7 +28,7 @@ use Rattle.vx_check_options.proofs.WithoutKeys.{claimed-width}
 use Rattle.vx_check_options.proofs.ClaimedKeeps.{claimed-keeps}
 use Rattle.vx_check_annotate.specs.Claimed.{claims_of, with_claims, with_forms, named_forms}
 use Rattle.vx_check_annotate.specs.Unclaimed.{unclaimed}
-use Rattle.vx_check_annotate.specs.Verdict.{refusal_in, accepts, is_accepted, refused_at}
+use Rattle.vx_check_annotate.specs.Verdict.{refusal_by_claims, accepts_by_claims, is_accepted_by_claims, refused_by_claims}
 use Rattle.vx_check_annotate.specs.Telling.{tree_tells, tells}
 use Rattle.vx_check_annotate.specs.Hinted.{IsHinted, unfit_root}
 use Rattle.vx_check_annotate.specs.Saved.{IsWithin, IsNeverAccepted, IsNeverSaved}
@@ -54,7 +54,7 @@ nothing-unfit catalog p e = by (first_unfit catalog p) (is_one (size p)) refl re
 -- why a document gets no claims
 abbrev pub IsRefused : List Relation → Document → ℕ → Rule → Type 0
 IsRefused catalog d n r =
-    (is_accepted catalog d ≡ false) × ((e : Document) × (unclaimed e ≡ unclaimed d) × (refused_at catalog e ≡ Some (n, r)))
+    (is_accepted_by_claims catalog d ≡ false) × ((e : Document) × (unclaimed e ≡ unclaimed d) × (refused_by_claims catalog e ≡ Some (n, r)))
     × (IsWithin catalog d → IsNeverAccepted catalog d × ((r ≡ root_not_one) ⊎ IsNeverSaved catalog d n))
 
 pub refused-found : (catalog : List Relation) (d : Document) (p : TypedPlanView) (n : ℕ) (r : Rule) → IsCatalog catalog → is_tree_form d.root ≡ true → is_head_form d.sizes d.ranges ≡ true → IsHinted catalog d p
@@ -163,7 +163,7 @@ asked-total one false order h e = cc
 
 -- of an accepted document the claims that are found tell as much
 found-telling : (catalog : List Relation) (d e : Document) (p : TypedPlanView) (x : Plan) (total : Bool) → IsCatalog catalog → is_tree_form d.root ≡ true → is_tree_form e.root ≡ true
-    → is_accepted catalog d ≡ true → resolved d catalog ≡ Ok p
+    → is_accepted_by_claims catalog d ≡ true → resolved d catalog ≡ Ok p
     → IsClaimed (relation_at catalog) (plan_in p.root) (first_part (parts_at (relation_at catalog) (plan_in p.root))) (first_columns (places_at (relation_at catalog) (plan_in p.root))) x
     → total ≡ is_total_order (relation_at catalog) x → resolved e catalog ≡ Ok (claimed x total p) → tells e d ≡ true
 found-telling catalog d e p x total cat formed form accepted h is total_is he =
@@ -173,7 +173,7 @@ found-telling catalog d e p x total cat formed form accepted h is total_is he =
     let C : ℕ → Relation = relation_at p.names.catalog in
     let P : Plan = plan_in p.root in
     let over : p.names.catalog ≡ catalog = given.0 in
-    let ok = (refusal-decides C p.total P).0 (no-failure (refusal_in p) (sym (ap accepts h) ∙ accepted)) in
+    let ok = (refusal-decides C p.total P).0 (no-failure (refusal_by_claims p) (sym (ap accepts_by_claims h) ∙ accepted)) in
     let Q : List Relation → Type 0 = λ c. IsClaimed (relation_at c) P (first_part (parts_at (relation_at c) P)) (first_columns (places_at (relation_at c) P)) x in
     let claimed_is = subst Q (sym over) is in
     let ready = is-ready s P (subst IsCatalog (sym over) cat) given.1.typed.nodes in
@@ -191,8 +191,8 @@ found-telling catalog d e p x total cat formed form accepted h is total_is he =
 
 -- what is answered of a document
 pub record Answered (catalog : List Relation) (d e : Document) : Type 0 where
-  pub accepted : is_accepted catalog e ≡ true
-  pub telling : is_accepted catalog d ≡ true → tells e d ≡ true
+  pub accepted : is_accepted_by_claims catalog e ≡ true
+  pub telling : is_accepted_by_claims catalog d ≡ true → tells e d ≡ true
   pub strongest : TellsTheMost catalog e
 
 pub answered : (catalog : List Relation) (d e : Document) (p : TypedPlanView) (x : Plan) (total : Bool) (forms : List ClaimForm) → IsCatalog catalog → is_tree_form d.root ≡ true → is_head_form d.sizes d.ranges ≡ true
@@ -208,6 +208,6 @@ answered catalog d e p x total forms cat formed head form h none is total_is nam
       strongest = found.strongest;
     }
   where
-    by : IsHinted catalog d p → is_accepted catalog d ≡ true → resolved e catalog ≡ Ok (claimed x total p) → tells e d ≡ true
+    by : IsHinted catalog d p → is_accepted_by_claims catalog d ≡ true → resolved e catalog ≡ Ok (claimed x total p) → tells e d ≡ true
     by (inl a) acc he = found-telling catalog d e p x total cat formed form acc a.1 is total_is he
     by (inr a) acc he = absurd (true≢false (sym acc ∙ a.0))

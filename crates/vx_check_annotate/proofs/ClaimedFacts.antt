@@ -179,14 +179,14 @@ with-none (form.exchange c kind merge t) = ap (form.exchange no_claim kind merge
 
 -- the document says the same but for claims
 pub unclaimed-with : (forms : List ClaimForm) (total : Bool) (d : Document) → unclaimed (with_forms forms total d) ≡ unclaimed d
-unclaimed-with forms total d = λ i. record { sizes = d.sizes; ranges = d.ranges; total = false; root = without-with forms d.root i }
+unclaimed-with forms total d = λ i. record { sizes = d.sizes; ranges = d.ranges; total = false; derives = d.derives; root = without-with forms d.root i }
 
 -- and nothing that the claims said
 pub with-unclaimed : (forms : List ClaimForm) (total : Bool) (d : Document) → with_forms forms total (unclaimed d) ≡ with_forms forms total d
-with-unclaimed forms total d = λ i. record { sizes = d.sizes; ranges = d.ranges; total = total; root = with-without forms d.root i }
+with-unclaimed forms total d = λ i. record { sizes = d.sizes; ranges = d.ranges; total = total; derives = d.derives; root = with-without forms d.root i }
 
 pub with-same : (forms : List ClaimForm) (total : Bool) (d e : Document) → unclaimed d ≡ unclaimed e → with_forms forms total d ≡ with_forms forms total e
 with-same forms total d e h = sym (with-unclaimed forms total d) ∙ (ap (with_forms forms total) h ∙ with-unclaimed forms total e)
 
 pub unclaimed-none : (d : Document) → with_forms [] false d ≡ unclaimed d
-unclaimed-none d = λ i. record { sizes = d.sizes; ranges = d.ranges; total = false; root = with-none d.root i }
+unclaimed-none d = λ i. record { sizes = d.sizes; ranges = d.ranges; total = false; derives = d.derives; root = with-none d.root i }

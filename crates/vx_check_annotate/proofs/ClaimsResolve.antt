@@ -26,7 +26,7 @@ use Rattle.vx_check_annotate.proofs.NamedFacts.{named-are}
 
 -- a typed plan with the claims of a plan that has its nodes, and so much said of its order
 abbrev pub claimed : Plan → Bool → TypedPlanView → TypedPlanView
-claimed q total p = record { names = p.names; total = total; root = with_claims q p.root }
+claimed q total p = record { names = p.names; total = total; derives = p.derives; root = with_claims q p.root }
 
 -- it is well named where those claims are typed
 named : (q : Plan) (total : Bool) (p : TypedPlanView) → IsNamed p → bare q ≡ bare (plan_in p.root) → typed (scope_of p.names) q ≡ true → IsNamed (claimed q total p)
@@ -71,7 +71,7 @@ said-resolves catalog d p q total cat formed h e ok claims =
     let placed : tree_by_name p.names o ≡ tree_with (forms_of p.names o) d.root =
     sym (tree-with p.names o [] d.root same) ∙ ap (λ forms. tree_with forms d.root) (append-nil (forms_of p.names o)) in
     let says : document_by_name (claimed q total p) ≡ with_forms (forms_of p.names o) total d =
-    λ i. record { sizes = (is.2 i).sizes; ranges = (is.2 i).ranges; total = total; root = placed i } in
+    λ i. record { sizes = (is.2 i).sizes; ranges = (is.2 i).ranges; total = total; derives = (is.2 i).derives; root = placed i } in
     let form : is_tree_form (tree_with (forms_of p.names o) d.root) ≡ true =
     ap is_tree_form (sym placed) ∙ same_form (tree_by_name p.names o) d.root (sym same) formed claims in
     (plans_resolved_exactly.resolves (with_forms (forms_of p.names o) total d) catalog (claimed q total p) cat form).1 (is.0, named q total p is.1 e ok, says)
@@ -96,7 +96,7 @@ unclaimed-resolves catalog d p cat formed h =
     let is = (plans_resolved_exactly.resolves d catalog p cat formed).0 h in
     let q : Plan = bare (plan_in p.root) in
     let root : tree_by_name p.names (with_claims q p.root) ≡ without_claims d.root = tree-bare p.names p.root ∙ ap (λ (d : Document). without_claims d.root) is.2 in
-    let says : document_by_name (claimed q false p) ≡ unclaimed d = λ i. record { sizes = (is.2 i).sizes; ranges = (is.2 i).ranges; total = false; root = root i } in
+    let says : document_by_name (claimed q false p) ≡ unclaimed d = λ i. record { sizes = (is.2 i).sizes; ranges = (is.2 i).ranges; total = false; derives = (is.2 i).derives; root = root i } in
     (plans_resolved_exactly.resolves (unclaimed d) catalog (claimed q false p) cat (form_without d.root formed)).1
     (is.0, named q false p is.1 (bare-once (plan_in p.root)) (typed-bare (scope_of p.names) (plan_in p.root) is.1.typed.nodes), says)
 

@@ -27,13 +27,13 @@ use Rattle.vx_check_options.proofs.ClaimedIsFit.{claimed-is-fit}
 use Rattle.vx_check_options.proofs.ClaimedIsStrongest.{claimed-is-strongest}
 use Rattle.vx_check_annotate.specs.Unclaimed.{unclaimed}
 use Rattle.vx_check_annotate.specs.Claimed.{claims_of, with_claims, forms_of, with_forms, named_forms}
-use Rattle.vx_check_annotate.specs.Verdict.{is_accepted}
+use Rattle.vx_check_annotate.specs.Verdict.{is_accepted_by_claims}
 use Rattle.vx_check_annotate.specs.Hinted.{IsHinted}
 use Rattle.vx_check_annotate.specs.Strongest.{TellsTheMost}
 use Rattle.vx_check_annotate.proofs.TreeFacts.{form_without}
 use Rattle.vx_check_annotate.proofs.NamedFacts.{named-are}
 use Rattle.vx_check_annotate.proofs.ClaimsResolve.{claimed, claims-resolve, written-resolves}
-use Rattle.vx_check_annotate.proofs.VerdictFacts.{accepted_so}
+use Rattle.vx_check_annotate.proofs.VerdictFacts.{claims_so}
 
 -- ---- the first part and the first columns
 
@@ -96,7 +96,7 @@ root-passes catalog total x fit alone is =
 pub record IsFound (catalog : List Relation) (e : Document) (p : TypedPlanView) (x : Plan) (total : Bool) : Type 0 where
   pub resolves : resolved e catalog ≡ Ok (claimed x total p)
   pub plan : plan_in (with_claims x p.root) ≡ x
-  pub accepted : is_accepted catalog e ≡ true
+  pub accepted : is_accepted_by_claims catalog e ≡ true
   pub strongest : TellsTheMost catalog e
 
 -- over the catalog of the typed plan: what a plan with claims resolves to is accepted, and tells the most
@@ -110,7 +110,7 @@ found-tells catalog e p x total resolves plan same fit alone is strongest keys =
     record {
       resolves = resolves;
       plan = plan;
-      accepted = accepted_so catalog e (claimed x total p) resolves ∙ ap is_none none;
+      accepted = claims_so catalog e (claimed x total p) resolves ∙ ap is_none none;
       strongest = (
         claimed x total p,
         resolves,

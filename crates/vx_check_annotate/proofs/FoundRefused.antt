@@ -1,4 +1,4 @@
--- Where no claims fit the nodes of a document, the checker refuses it, whatever it claims.
+-- Where no claims fit the nodes of a document, claims alone refuse it, whatever it claims.
 use Rattle.std.proofs.Common.{◌≡◌, ℕ, true, false, cond, inl, inr, ⊎_elim, List, [], Option, Some, None, is_none, option_map, Result, Ok, Err, refl, sym, ap, ◌∙◌, subst, true≢false}
 use Rattle.vx_catalog_relations.specs.Relation.{Relation}
 use Rattle.vx_catalog_relations.specs.Catalog.{relation_at, IsCatalog}
@@ -28,7 +28,7 @@ use Rattle.vx_check_options.proofs.PlacedIsTyped.{placed-is-typed}
 use Rattle.vx_check_options.proofs.PlacedKeeps.{places-filled}
 use Rattle.vx_check_annotate.specs.Unclaimed.{unclaimed}
 use Rattle.vx_check_annotate.specs.Claimed.{with_claims, forms_of, with_forms}
-use Rattle.vx_check_annotate.specs.Verdict.{refusal_in, accepts, is_accepted, refuses, refused_at}
+use Rattle.vx_check_annotate.specs.Verdict.{refusal_by_claims, accepts_by_claims, is_accepted_by_claims, refuses_by_claims, refused_by_claims}
 use Rattle.vx_check_annotate.specs.Saved.{is_saved, IsWithin, IsNeverAccepted, IsNeverSaved}
 use Rattle.vx_check_annotate.specs.Hinted.{IsHinted}
 use Rattle.vx_check_annotate.proofs.TreeFacts.{form_without}
@@ -111,7 +111,7 @@ first-chosen catalog p = first-columns-chosen (places_at catalog p) (places-fill
 -- a document says them, and gets this answer
 placed-refused : (catalog : List Relation) (d : Document) (p : TypedPlanView) (x : ℕ × Rule) → IsCatalog catalog → is_tree_form d.root ≡ true → is_head_form d.sizes d.ranges ≡ true
     → resolved (unclaimed d) catalog ≡ Ok p → refusal (relation_at p.names.catalog) false (first_placed (relation_at p.names.catalog) (plan_in p.root)) ≡ Some x
-    → (e : Document) × (unclaimed e ≡ unclaimed d) × (refused_at catalog e ≡ Some x)
+    → (e : Document) × (unclaimed e ≡ unclaimed d) × (refused_by_claims catalog e ≡ Some x)
 placed-refused catalog d p x cat formed head h refused =
     let form : is_tree_form (unclaimed d).root ≡ true = form_without d.root formed in
     let is = (plans_resolved_exactly.resolves (unclaimed d) catalog p cat form).0 h in
@@ -122,7 +122,7 @@ placed-refused catalog d p x cat formed head h refused =
     let says = claims-resolve catalog (unclaimed d) p q false cat form head h (bare-placed at (plan_in p.root) _ _) ok in (
       with_forms (forms_of p.names (with_claims q p.root)) false (unclaimed d),
       unclaimed-with (forms_of p.names (with_claims q p.root)) false (unclaimed d) ∙ unclaimed-once d,
-      ap refuses says.resolves ∙ (ap (refusal at false) says.plan ∙ refused),
+      ap refuses_by_claims says.resolves ∙ (ap (refusal at false) says.plan ∙ refused),
     )
 
 -- ---- what is refused
@@ -138,21 +138,21 @@ is-some (Some x) f = refl
 
 -- a document is not accepted where its typed plan is not
 not-accepted : (catalog : List Relation) (e : Document) → ((r : TypedPlanView) → resolved e catalog ≡ Ok r → allowed (relation_at r.names.catalog) (plan_in r.root) ≡ true → root_allowed (relation_at r.names.catalog) r.total (plan_in r.root) ≡ true → false ≡ true)
-    → is_accepted catalog e ≡ false
+    → is_accepted_by_claims catalog e ≡ false
 not-accepted catalog e denied = by (resolved e catalog) refl
   where
-    by : (o : Result TypedPlanView Refusal) → resolved e catalog ≡ o → accepts o ≡ false
+    by : (o : Result TypedPlanView Refusal) → resolved e catalog ≡ o → accepts_by_claims o ≡ false
     by (Err x) h = refl
-    by (Ok r) h = is-some (refusal_in r) (λ none.
+    by (Ok r) h = is-some (refusal_by_claims r) (λ none.
         let ok = (refusal-decides (relation_at r.names.catalog) r.total (plan_in r.root)).0 none in
         let bad = denied r h ok.0 ok.1 in cc)
 
 -- an accepted document has no unfit node, and one worker at its root
-accepted-fits : (catalog : List Relation) (d : Document) (p : TypedPlanView) → IsCatalog catalog → is_tree_form d.root ≡ true → is_accepted catalog d ≡ true → resolved d catalog ≡ Ok p
+accepted-fits : (catalog : List Relation) (d : Document) (p : TypedPlanView) → IsCatalog catalog → is_tree_form d.root ≡ true → is_accepted_by_claims catalog d ≡ true → resolved d catalog ≡ Ok p
     → (first_unfit (relation_at catalog) (plan_in p.root) ≡ None) × (is_one (size (plan_in p.root)) ≡ true)
 accepted-fits catalog d p cat formed accepted h =
     let is = (plans_resolved_exactly.resolves d catalog p cat formed).0 h in
-    let ok = (refusal-decides (relation_at p.names.catalog) p.total (plan_in p.root)).0 (nothing (refusal_in p) (sym (ap accepts h) ∙ accepted)) in
+    let ok = (refusal-decides (relation_at p.names.catalog) p.total (plan_in p.root)).0 (nothing (refusal_by_claims p) (sym (ap accepts_by_claims h) ∙ accepted)) in
     let fit = (only-options (scope_of p.names) (plan_in p.root) (plan_in p.root) (plan-itself (plan_in p.root)) (inr refl) is.1.typed.nodes ok.0).0 in
     (ap (λ c. first_unfit (relation_at c) (plan_in p.root)) (sym is.0) ∙ fit, and-left (is_one (size (plan_in p.root))) _ ok.1)
   where
@@ -204,7 +204,7 @@ root-refused at q more = ap (λ b. option_map {U = ℕ × Rule} (λ r. (number q
 -- of an unfit node
 pub unfit-found : (catalog : List Relation) (d : Document) (p : TypedPlanView) (n : ℕ) (r : Rule) → IsCatalog catalog → is_tree_form d.root ≡ true → is_head_form d.sizes d.ranges ≡ true → IsHinted catalog d p
     → first_unfit (relation_at catalog) (plan_in p.root) ≡ Some (n, r)
-    → (is_accepted catalog d ≡ false) × ((e : Document) × (unclaimed e ≡ unclaimed d) × (refused_at catalog e ≡ Some (n, r))) × (IsWithin catalog d → IsNeverAccepted catalog d × IsNeverSaved catalog d n)
+    → (is_accepted_by_claims catalog d ≡ false) × ((e : Document) × (unclaimed e ≡ unclaimed d) × (refused_by_claims catalog e ≡ Some (n, r))) × (IsWithin catalog d → IsNeverAccepted catalog d × IsNeverSaved catalog d n)
 unfit-found catalog d p n r cat formed head hint unfit =
     ⊎_elim (λ a.
     let none : None ≡ Some (n, r) = sym (accepted-fits catalog d p cat formed a.0 a.1).0 ∙ unfit in absurd (true≢false (sym (some-not (n, r) none))))
@@ -225,7 +225,7 @@ unfit-found catalog d p n r cat formed head hint unfit =
 -- of a root with several workers
 pub several-found : (catalog : List Relation) (d : Document) (p : TypedPlanView) → IsCatalog catalog → is_tree_form d.root ≡ true → is_head_form d.sizes d.ranges ≡ true → IsHinted catalog d p
     → first_unfit (relation_at catalog) (plan_in p.root) ≡ None → is_one (size (plan_in p.root)) ≡ false
-    → (is_accepted catalog d ≡ false) × ((e : Document) × (unclaimed e ≡ unclaimed d) × (refused_at catalog e ≡ Some (number (plan_in p.root), root_not_one))) × IsNeverAccepted catalog d
+    → (is_accepted_by_claims catalog d ≡ false) × ((e : Document) × (unclaimed e ≡ unclaimed d) × (refused_by_claims catalog e ≡ Some (number (plan_in p.root), root_not_one))) × IsNeverAccepted catalog d
 several-found catalog d p cat formed head hint fits several =
     ⊎_elim (λ a. absurd (true≢false (sym (accepted-fits catalog d p cat formed a.0 a.1).1 ∙ several)))
     (λ u. (

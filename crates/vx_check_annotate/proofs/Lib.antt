@@ -6,6 +6,7 @@ pub mod NamedFacts
 pub mod ClaimsResolve
 pub mod TellingFacts
 pub mod VerdictFacts
+pub mod FewKeys
 pub mod FoundDocument
 pub mod FoundParts
 pub mod FoundTells

@@ -61,7 +61,7 @@ tree_with forms (exchange c kind merge t) = exchange (first_form forms) kind mer
 
 -- the document with these claims, and so much said of its order
 abbrev pub with_forms : List ClaimForm → (total : Bool) → Document → Document
-with_forms forms total d = record { sizes = d.sizes; ranges = d.ranges; total = total; root = tree_with forms d.root }
+with_forms forms total d = record { sizes = d.sizes; ranges = d.ranges; total = total; derives = d.derives; root = tree_with forms d.root }
 
 -- ---- the claims of the program
 

@@ -11,7 +11,7 @@ use Rattle.vx_plan.specs.Resolve.{resolved}
 use Rattle.vx_check_rules.specs.Rules.{allowed}
 use Rattle.vx_check_options.specs.Options.{is_within}
 use Rattle.vx_check_annotate.specs.Unclaimed.{unclaimed}
-use Rattle.vx_check_annotate.specs.Verdict.{is_accepted}
+use Rattle.vx_check_annotate.specs.Verdict.{is_accepted_by_claims}
 
 -- the node with this number and all below it pass their tests
 abbrev pub is_saved : (ℕ → Relation) → ℕ → Plan → Bool
@@ -24,9 +24,9 @@ is_saved catalog k (exchange n c kind m p) = cond (n == k) (allowed catalog (exc
 abbrev pub IsWithin : List Relation → Document → Type 0
 IsWithin catalog d = (p : TypedPlanView) × (resolved (unclaimed d) catalog ≡ Ok p) × (is_within (relation_at catalog) (plan_in p.root) ≡ true)
 
--- whatever a document with these nodes claims, it is not accepted
+-- whatever a document with these nodes claims, it is not accepted by claims alone
 abbrev pub IsNeverAccepted : List Relation → Document → Type 0
-IsNeverAccepted catalog d = (e : Document) → is_tree_form e.root ≡ true → unclaimed e ≡ unclaimed d → is_accepted catalog e ≡ false
+IsNeverAccepted catalog d = (e : Document) → is_tree_form e.root ≡ true → unclaimed e ≡ unclaimed d → is_accepted_by_claims catalog e ≡ false
 
 -- and a test fails at this node or below it
 abbrev pub IsNeverSaved : List Relation → Document → ℕ → Type 0

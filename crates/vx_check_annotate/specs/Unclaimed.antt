@@ -23,4 +23,4 @@ are_claims_formed (exchange c k m t) = is_claim_form c && are_claims_formed t
 
 -- the document without its claims, and not said to be total
 abbrev pub unclaimed : Document → Document
-unclaimed d = record { sizes = d.sizes; ranges = d.ranges; total = false; root = without_claims d.root }
+unclaimed d = record { sizes = d.sizes; ranges = d.ranges; total = false; derives = d.derives; root = without_claims d.root }

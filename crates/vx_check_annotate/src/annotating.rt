@@ -1,6 +1,6 @@
 //! A plan with the claims that the rule table shows.
 
-ghost use Rattle.std.specs.Prelude.{◌≡◌, true, option_map, Ok, IfOk, IfErr};
+ghost use Rattle.std.specs.Prelude.{◌≡◌, ◌&&◌, true, false, option_map, Ok, IfOk, IfErr};
 ghost use Rattle.vx_catalog_relations.specs.Catalog.{relation_at};
 ghost use Rattle.vx_plan_nodes.specs.Outline.{plan_of};
 ghost use Rattle.vx_plan_nodes.specs.TypedView.{resolved_of, plan, scope};
@@ -11,7 +11,7 @@ ghost use Rattle.vx_check_rules.specs.RuleView.{refusal_of};
 ghost use Rattle.vx_check_options.specs.Options.{first_unfit};
 ghost use Rattle.vx_plan.specs.Resolve.{resolved};
 ghost use Rattle.vx_check_annotate.specs.Unclaimed.{unclaimed};
-ghost use Rattle.vx_check_annotate.specs.Verdict.{is_accepted};
+ghost use Rattle.vx_check_annotate.specs.Verdict.{is_accepted, is_accepted_by_claims};
 ghost use Rattle.vx_check_annotate.specs.Telling.{tells};
 ghost use Rattle.vx_check_annotate.specs.Hinted.{IsHinted, unfit_root};
 ghost use Rattle.vx_check_annotate.specs.Strongest.{TellsTheMost};
@@ -20,7 +20,7 @@ ghost use Rattle.vx_check_annotate.specs.Fault.{IsReason};
 use crate::fault::AnnotateFault;
 use crate::naming::Naming;
 use crate::rewriting::claimed_plan;
-use crate::verdict::is_accepted;
+use crate::verdict::{is_accepted, is_accepted_by_claims};
 use std::alloc::{AllocError, Global};
 use vx_catalog_relations::Catalog;
 use vx_check_options::{first_unfit, found_claims};
@@ -29,9 +29,9 @@ use vx_plan::resolve;
 use vx_plan_json::{Plan, PlanFault};
 use vx_plan_nodes::{TypedNode, TypedPlan};
 
-// The typed plan of a plan that is accepted.
+// The typed plan of a plan that is accepted by claims alone.
 fn resolved_again(alloc: Global, catalog: &Catalog, plan: &Plan) -> Result<TypedPlan, AllocError>
-    requires { is_accepted catalog.now (document_of plan.now) ≡ true }
+    requires { is_accepted_by_claims catalog.now (document_of plan.now) ≡ true }
     ensures { IfOk result (λ t. resolved (document_of plan.now) catalog.now ≡ Ok (resolved_of t)) }
 {
     match resolve(alloc, plan, catalog) {
@@ -40,13 +40,15 @@ fn resolved_again(alloc: Global, catalog: &Catalog, plan: &Plan) -> Result<Typed
     }
 }
 
-// The plan whose claims are kept, and its typed plan: the plan as it is, if it is accepted, else without its claims.
+// The plan whose claims are kept, and its typed plan: the plan as it is, if it is accepted by claims alone, else without
+// its claims.
 fn hinted(alloc: Global, catalog: &Catalog, plan: Plan) -> Result<(TypedPlan, Plan), PlanFault>
+    requires { (document_of plan).derives ≡ true → is_accepted catalog.now (document_of plan) ≡ false }
     ensures hinted { IfOk result (λ r. IsHinted catalog.now (document_of plan) (resolved_of r.0)) }
     ensures same { IfOk result (λ r. unclaimed (document_of r.1) ≡ unclaimed (document_of plan)) }
     ensures fault { IfErr result (λ e. Fails e (resolved (unclaimed (document_of plan)) catalog.now)) }
 {
-    if is_accepted(alloc, catalog, &plan)? {
+    if is_accepted_by_claims(alloc, catalog, &plan)? {
         let typed = resolved_again(alloc, catalog, &plan)?;
         return Ok((typed, plan));
     }
@@ -76,14 +78,13 @@ fn unfit(alloc: Global, typed: &TypedPlan) -> Result<Option<(u32, Rule)>, AllocE
     }
 }
 
-/// The plan with its claims, and whether it is total, replaced by what the rule table shows: at each node a part that
-/// tells the most of those with which the operators above it fit, the longest order, and the minimal keys, the first
-/// 16; and total where the root's order is. What an accepted plan claims is kept: each of its claims is told by the new
-/// one. The refusal is the first one of the plan without claims, or else the first node that no claims can save.
-pub fn annotate(alloc: Global, catalog: &Catalog, plan: Plan) -> Result<Plan, AnnotateFault>
+// The plan with its claims, and whether it is total, replaced by what the table of claims alone shows, where the plan is
+// not accepted if it asks for what is known of its columns.
+fn annotated_by_claims(alloc: Global, catalog: &Catalog, plan: Plan) -> Result<Plan, AnnotateFault>
+    requires { (document_of plan).derives ≡ true → is_accepted catalog.now (document_of plan) ≡ false }
     ensures same { IfOk result (λ p. unclaimed (document_of p) ≡ unclaimed (document_of plan)) }
-    ensures accepted { IfOk result (λ p. is_accepted catalog.now (document_of p) ≡ true) }
-    ensures telling { is_accepted catalog.now (document_of plan) ≡ true → IfOk result (λ p. tells (document_of p) (document_of plan) ≡ true) }
+    ensures accepted { IfOk result (λ p. is_accepted_by_claims catalog.now (document_of p) ≡ true) }
+    ensures telling { is_accepted_by_claims catalog.now (document_of plan) ≡ true → IfOk result (λ p. tells (document_of p) (document_of plan) ≡ true) }
     ensures strongest { IfOk result (λ p. TellsTheMost catalog.now (document_of p)) }
     ensures refused { IfErr result (λ e. IsReason catalog.now (document_of plan) e) }
 {
@@ -98,4 +99,34 @@ pub fn annotate(alloc: Global, catalog: &Catalog, plan: Plan) -> Result<Plan, An
     };
     let named = naming.named_claims(alloc, claims, typed.root())?;
     Ok(claimed_plan(alloc, named, is_total, kept))
+}
+
+// Whether a plan stays as it is: it asks for what is known of its columns, and is accepted.
+fn stays(alloc: Global, catalog: &Catalog, plan: &Plan) -> Result<bool, AllocError>
+    ensures { IfOk result (λ b. b ≡ ((document_of plan.now).derives && is_accepted catalog.now (document_of plan.now))) }
+{
+    if !plan.derives() {
+        return Ok(false);
+    }
+    is_accepted(alloc, catalog, plan)
+}
+
+/// The plan with its claims, and whether it is total, replaced by what the rule table of claims alone shows: at each node a
+/// part that tells the most of those with which the operators above it fit, the longest order, and the minimal keys, the
+/// first 16; and total where the root's order is. What an accepted plan claims is kept: each of its claims is told by the
+/// new one. A plan that asks for what is known of its columns, and is accepted, stays as it is. The refusal is the first
+/// one of the plan without claims, or else the first node that no claims can save.
+pub fn annotate(alloc: Global, catalog: &Catalog, plan: Plan) -> Result<Plan, AnnotateFault>
+    ensures same { IfOk result (λ p. unclaimed (document_of p) ≡ unclaimed (document_of plan)) }
+    ensures accepted { IfOk result (λ p. is_accepted catalog.now (document_of p) ≡ true) }
+    ensures telling { is_accepted catalog.now (document_of plan) ≡ true → IfOk result (λ p. tells (document_of p) (document_of plan) ≡ true) }
+    ensures strongest { (document_of plan).derives ≡ false → IfOk result (λ p. TellsTheMost catalog.now (document_of p)) }
+    ensures refused { IfErr result (λ e. IsReason catalog.now (document_of plan) e) }
+{
+    let _relations = catalog.len();
+    let stays = stays(alloc, catalog, &plan)?;
+    if stays {
+        return Ok(plan);
+    }
+    annotated_by_claims(alloc, catalog, plan)
 }

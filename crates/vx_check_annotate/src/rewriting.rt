@@ -1,8 +1,9 @@
 //! A plan with other claims.
 
 ghost use Rattle.std.specs.Prelude.{◌≡◌, [], true, false, drop};
+ghost use Rattle.std.specs.List.{list_all};
 ghost use Rattle.vx_plan_json.specs.Document.{claim_form, tree_of, tree_nodes};
-ghost use Rattle.vx_plan_json.specs.Formed.{is_claim_form};
+ghost use Rattle.vx_plan_json.specs.Formed.{is_claim_form, has_few_keys};
 ghost use Rattle.vx_plan_json.specs.PlanView.{document_of};
 ghost use Rattle.vx_check_annotate.specs.Unclaimed.{are_claims_formed, unclaimed};
 ghost use Rattle.vx_check_annotate.specs.Claimed.{first_form, later_forms, tree_with, with_forms, forms_in};
@@ -50,13 +51,15 @@ fn put_claims(alloc: Global, claims: &mut Vec<FormedClaim>, node: &mut Node)
 
 /// The plan with these claims, in preorder from the last one on; a node for which there is none says nothing.
 pub fn claimed_plan(alloc: Global, claims: Vec<FormedClaim>, total: bool, plan: Plan) -> Plan
+    requires { list_all (has_few_keys (document_of plan).derives) (forms_in claims.items) ≡ true }
     ensures placed { document_of result ≡ with_forms (forms_in claims.items) total (document_of plan) }
     ensures same { unclaimed (document_of result) ≡ unclaimed (document_of plan) }
     ensures bare { claims.items ≡ [] → total ≡ false → document_of result ≡ unclaimed (document_of plan) }
 {
     let mut claims = claims;
+    let derives = plan.derives();
     let (sizes, ranges, root) = plan.into_parts();
     let mut root = root;
     put_claims(alloc, &mut claims, &mut root);
-    Plan::new(sizes, ranges, total, root)
+    Plan::new(sizes, ranges, total, derives, root)
 }

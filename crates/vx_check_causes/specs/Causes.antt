@@ -81,10 +81,11 @@ causes_from p a ms (f ∷ fs) = cause_of p a ms f ∷ causes_from p a (with_caus
 abbrev pub causes_of : (p a : TypedPlanView) → List (ℕ × Rule) → List (Option ℕ)
 causes_of p a fs = causes_from p a [] fs
 
--- the causes of failures of a document's plan p: none where the document gets no claims
+-- the causes of failures of a document's plan p: none where the document gets no claims, or is judged also by what is known of its columns, since claims are
+-- found by the table of claims alone
 abbrev pub AreCauses : List Relation → Document → TypedPlanView → List (ℕ × Rule) → List (Option ℕ) → Type 0
 AreCauses catalog d p fs causes =
-    (HasNoClaims catalog d × (causes ≡ no_causes fs)) ⊎ ((a : TypedPlanView) × IsAnnotated catalog d a × (causes ≡ causes_of p a fs))
+    ((HasNoClaims catalog d ⊎ (d.derives ≡ true)) × (causes ≡ no_causes fs)) ⊎ ((a : TypedPlanView) × IsAnnotated catalog d a × (causes ≡ causes_of p a fs))
 
 -- ---- what that is
 

@@ -6,13 +6,13 @@ use Rattle.vx_plan_nodes.specs.Outline.{plan_in}
 use Rattle.vx_plan_nodes.specs.Names.{TypedPlanView}
 use Rattle.vx_plan_json.specs.Document.{Document}
 use Rattle.vx_check_rules.specs.Refusal.{Rule}
-use Rattle.vx_check_failures.specs.Failures.{failures}
+use Rattle.vx_check_failures.specs.Failures.{failures_by}
 use Rattle.vx_check_failures.specs.Grouped.{grouped_lines}
 use Rattle.vx_check_causes.specs.Causes.{AreCauses}
 
--- all failures of a typed plan
+-- all failures of a typed plan, by the rule table that it asks for
 abbrev pub failures_of : TypedPlanView → List (ℕ × Rule)
-failures_of p = failures (relation_at p.names.catalog) p.total (plan_in p.root)
+failures_of p = failures_by p.derives (relation_at p.names.catalog) p.total (plan_in p.root)
 
 -- these are the lines of the failures of a document's plan p, in groups
 abbrev pub AreGrouped : List Relation → Document → TypedPlanView → List ℕ → Type 0

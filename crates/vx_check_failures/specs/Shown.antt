@@ -1,4 +1,4 @@
--- What the rule table shows at a node in place of its claim, over the claims that the node's inputs make.
+-- What the rule table of claims alone shows at a node in place of its claim, over the claims that the node's inputs make.
 use Rattle.std.specs.Prelude.{ℕ, Bool, true, false, cond, Option, Some, None, option_map}
 use Rattle.vx_catalog_relations.specs.Relation.{Relation}
 use Rattle.vx_plan_nodes.specs.Plan.{Claim, Plan}

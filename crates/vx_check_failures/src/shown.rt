@@ -12,7 +12,7 @@ ghost use Rattle.vx_check_failures.specs.Shown.{is_of_claim, shown_claim};
 
 use std::alloc::{AllocError, Global};
 use vx_catalog_relations::Catalog;
-use vx_check_rules::{Rule, failure_at, node_keys, node_order, node_part};
+use vx_check_rules::{Rule, Table, failure_at, node_keys, node_order, node_part};
 use vx_plan_nodes::{Claim, TypedNode};
 
 // Whether no test of the operator fails, where this is the first test of a node that does.
@@ -39,8 +39,8 @@ fn claim_at(alloc: Global, catalog: &Catalog, node: &TypedNode) -> Result<Option
     Ok(Some(Claim { part, order, keys }))
 }
 
-/// The claim that the rule table shows at a node in place of the node's own, over the claims that its inputs make, where
-/// the operator fits them. With it no test of the node's claim fails.
+/// The claim that the rule table of claims alone shows at a node in place of the node's own, over the claims that its
+/// inputs make, where the operator fits them. With it no test of the node's claim fails.
 pub fn shown_claim(
     alloc: Global,
     catalog: &Catalog,
@@ -51,7 +51,8 @@ pub fn shown_claim(
     ensures claim { IfOk result (λ o. option_map claim_of o ≡ shown_claim (relation_at catalog.now) (plan_of node.now)) }
     ensures shown { IfOk result (λ o. IfSome o (λ c. Shows (relation_at catalog.now) (plan_of node.now) (claim_of c))) }
 {
-    if is_of_claim(failure_at(catalog, node)) {
+    let mut table = Table::First;
+    if is_of_claim(failure_at(catalog, &mut table, node)) {
         claim_at(alloc, catalog, node)
     } else {
         Ok(None)

@@ -21,7 +21,7 @@ use Rattle.vx_plan_facts.specs.Equal.{Equality, equal_at}
 use Rattle.vx_plan_facts.specs.Fixed.{Values, fixed_at}
 use Rattle.vx_plan_facts.specs.Facts.{each_once}
 use Rattle.vx_check.specs.Explain.{name_at, description}
-use Rattle.vx_check_formats.specs.Json.{columns_json, keys_json, type_json, size_json, route_word, route_name, routed_json, part_json, with_claim, op_word, with_operator, inputs, with_workers, classes, value_json, fixed_json, all_fixed, with_facts, with_output, with_kind, with_exchange, node_json, nodes_json, outline_json, fixed_if, is_first}
+use Rattle.vx_check_formats.specs.Json.{columns_json, keys_json, type_json, size_json, route_word, route_name, routed_json, part_json, with_claim, op_word, with_operator, inputs, with_workers, classes, value_json, fixed_json, all_fixed, with_facts, with_output, with_kind, with_exchange, node_json, nodes_json, with_derive, outline_json, fixed_if, is_first}
 
 -- no deeper than n, and without floats
 pub record IsPlain (n : ℕ) (d : Data) : Type 0 where
@@ -193,6 +193,10 @@ nodes-plain s (unary h op f t) = (node-plain s (unary h op f t), nodes-plain s t
 nodes-plain s (binary h op t u) = (node-plain s (binary h op t u), each-append 3 (nodes_json s t) (nodes_json s u) (nodes-plain s t) (nodes-plain s u))
 nodes-plain s (exchange h k m t) = (node-plain s (exchange h k m t), nodes-plain s t)
 
-pub outline-plain : (s : Names) (total : Bool) (t : Outline) → IsPlain 5 (outline_json s total t)
-outline-plain s total t =
-    object-plain 4 _ (put-plain 4 (codes "total") _ _ (truth-plain 4 total) (put-plain 4 (codes "nodes") _ _ (array-plain 3 (nodes_json s t) (nodes-plain s t)) (none-plain 4)))
+derive-plain : (derives : Bool) (ms : Members) → ArePlain 4 ms → ArePlain 4 (with_derive derives ms)
+derive-plain false ms q = q
+derive-plain true ms q = put-plain 4 (codes "derive") _ _ (truth-plain 4 true) q
+
+pub outline-plain : (s : Names) (total derives : Bool) (t : Outline) → IsPlain 5 (outline_json s total derives t)
+outline-plain s total derives t =
+    object-plain 4 _ (derive-plain derives _ (put-plain 4 (codes "total") _ _ (truth-plain 4 total) (put-plain 4 (codes "nodes") _ _ (array-plain 3 (nodes_json s t) (nodes-plain s t)) (none-plain 4))))

@@ -1,5 +1,5 @@
 -- A plan as a JSON value: its nodes in preorder, each with what it is, where its rows come from and what it claims.
-use Rattle.std.specs.Prelude.{ℕ, ◌==◌, ◌++◌, Bool, false, not, cond, List, [], ◌∷◌, map, filter, flat_map, codes}
+use Rattle.std.specs.Prelude.{ℕ, ◌==◌, ◌++◌, Bool, true, false, not, cond, List, [], ◌∷◌, map, filter, flat_map, codes}
 use Rattle.std.specs.List.{list_any}
 use Rattle.serde_json.specs.Data.{Data, boolean, number, unsigned, string, array, object, Members, no_members, put}
 use Rattle.serde_json.specs.Find.{of_integer}
@@ -192,9 +192,14 @@ nodes_json s (unary h op renamed t) = node_json s (unary h op renamed t) ∷ nod
 nodes_json s (binary h op t u) = node_json s (binary h op t u) ∷ (nodes_json s t ++ nodes_json s u)
 nodes_json s (exchange h k m t) = node_json s (exchange h k m t) ∷ nodes_json s t
 
--- the nodes, and whether the plan's order is total
-abbrev pub outline_json : Names → Bool → Outline → Data
-outline_json s total t = object (put (codes "total") (boolean total) (put (codes "nodes") (array (items_of (nodes_json s t))) no_members))
+-- with whether the plan asks for what is known of columns, if it does
+abbrev pub with_derive : Bool → Members → Members
+with_derive false ms = ms
+with_derive true ms = put (codes "derive") (boolean true) ms
+
+-- the nodes, whether the plan's order is total, and whether it asks for what is known of columns
+abbrev pub outline_json : Names → (total derives : Bool) → Outline → Data
+outline_json s total derives t = object (with_derive derives (put (codes "total") (boolean total) (put (codes "nodes") (array (items_of (nodes_json s t))) no_members)))
 
 abbrev pub plan_json : TypedPlan → Data
-plan_json p = outline_json (resolved_of p).names (resolved_of p).total (resolved_of p).root
+plan_json p = outline_json (resolved_of p).names (resolved_of p).total (resolved_of p).derives (resolved_of p).root

@@ -11,7 +11,7 @@ ghost use Rattle.vx_plan_facts.specs.FactsView.{facts_of};
 ghost use Rattle.vx_plan_nodes.specs.Outline.{outline_of, plan_of, top, size_of, part_of, claim_of, kind_of, route_of, unary_of, binary_of, phase_of, columns_of};
 ghost use Rattle.vx_plan_nodes.specs.TypedView.{names_in};
 ghost use Rattle.vx_check_rules.specs.CheckedView.{typed_plan};
-ghost use Rattle.vx_check_formats.specs.Json.{keys_json, names_json, type_json, types_json, size_json, routed_json, part_json, with_claim, phase_word, unary_word, binary_word, op_word, with_operator, inputs, with_workers, with_output, with_route, with_kind, with_exchange, node_json, nodes_json, plan_json};
+ghost use Rattle.vx_check_formats.specs.Json.{keys_json, names_json, type_json, types_json, size_json, routed_json, part_json, with_claim, phase_word, unary_word, binary_word, op_word, with_operator, inputs, with_workers, with_output, with_route, with_kind, with_exchange, node_json, nodes_json, with_derive, plan_json};
 
 use crate::columns::{Members, columns_json, put_text, text_json};
 use crate::facts::put_facts;
@@ -396,7 +396,17 @@ fn push_nodes(
     }
 }
 
-// The nodes in preorder, and whether the plan's order is total.
+// That the plan asks for what is known of columns, if it does.
+fn put_derive(members: &mut Members, alloc: Global, derives: bool) -> Result<(), AllocError>
+    ensures { OnOk result (members_view members.new.entries ≡ with_derive derives (members_view members.old.entries)) }
+{
+    if !derives {
+        return Ok(());
+    }
+    put(members, alloc, "derive", Json::Bool(true))
+}
+
+// The nodes in preorder, whether the plan's order is total, and whether it asks for what is known of columns.
 fn plan_json(alloc: Global, plan: &TypedPlan) -> Result<Json, AllocError>
     ensures { IfOk result (λ d. view d ≡ plan_json plan.now) }
 {
@@ -406,6 +416,7 @@ fn plan_json(alloc: Global, plan: &TypedPlan) -> Result<Json, AllocError>
     let mut members = Map::new(alloc);
     put(&mut members, alloc, "nodes", Json::Array(nodes))?;
     put(&mut members, alloc, "total", Json::Bool(plan.is_total()))?;
+    put_derive(&mut members, alloc, plan.derives())?;
     Ok(Json::Object(members))
 }
 
@@ -418,7 +429,7 @@ fn plan_text(alloc: Global, plan: &TypedPlan) -> Result<String, AllocError>
 }
 
 /// The plan as one line of JSON: an object for each node, in the order of the lines of the text that explains it, and
-/// whether the plan is total. The line reads as that value.
+/// whether the plan is total, and whether it asks for what is known of columns. The line reads as that value.
 pub fn explain_json(alloc: Global, checked: &CheckedPlan) -> Result<String, AllocError>
     ensures text { IfOk result (λ s. string_bytes s ≡ compact_text (plan_json (typed_plan checked.now)) ++ codes "\n") }
     ensures reads { IfOk result (λ s. read (compact_text (plan_json (typed_plan checked.now))) ≡ Some (plan_json (typed_plan checked.now))) }

@@ -1,7 +1,7 @@
 -- Keys that are found, one more at a time.
 use Rattle.std.proofs.Common.{Vec, Global, map, suc, drop, ℕ, ◌≡◌, ◌+◌, ◌-◌, ◌<◌, ◌≤◌, ◌==◌, Bool, true, false, cond, not, ◌||◌, ◌⊎◌, inl, inr, ⊎_elim, List, [], ◌∷◌, ◌++◌, length, take, get_or, subst, refl, sym, ap, ◌∙◌, arith}
 use Rattle.std.specs.List.{list_all, list_any, filter}
-use Rattle.std.proofs.lemmas.List.{take_all}
+use Rattle.std.proofs.lemmas.List.{take_all, length-append}
 use Rattle.std.proofs.lemmas.Bool.{eqb-true}
 use Rattle.std.proofs.lemmas.Bool.Decides.{nat_tests}
 use Rattle.std.proofs.lemmas.List.Folds.{list_any-append, list_all-append, list_any_more, list_any_at}
@@ -185,6 +185,27 @@ rest-apart (x ∷ xs) key h k =
         (list_any-append meet rest (key ∷ []) ∙ or-none (list_any meet rest) (list_any meet (key ∷ [])) none (or-none (meet key) false (or-none (within x key) (within key x) (or-first (within x key) (covers xs key) k) e) refl)))
         more
 
+length-passing : (test : List ℕ → Bool) (xs : List (List ℕ)) → length (filter test xs) ≤ length xs
+length-passing test [] = omega arith
+length-passing test (x ∷ xs) = by (test x) (length-passing test xs)
+  where
+    by : (b : Bool) → length (filter test xs) ≤ length xs → length (cond b (x ∷ filter test xs) (filter test xs)) ≤ suc (length xs)
+    by true h = omega (arith, h)
+    by false h = omega (arith, h)
+
+pub key-longer : (keys : List (List ℕ)) (key : List ℕ) → length (with_key keys key) ≤ suc (length keys)
+key-longer keys key = by (covers keys key)
+  where
+    rest : List (List ℕ)
+    rest = filter (λ other. not (within key other)) keys
+
+    by : (b : Bool) → length (cond b keys (rest ++ key ∷ [])) ≤ suc (length keys)
+    by true = omega arith
+    by false =
+        let shorter = length-passing (λ other. not (within key other)) keys in
+        let both : length (rest ++ key ∷ []) ≡ length rest + 1 = length-append rest (key ∷ []) in
+        omega (arith, shorter, both)
+
 pub key-apart : (keys : List (List ℕ)) (key : List ℕ) → are_apart keys ≡ true → are_apart (with_key keys key) ≡ true
 key-apart keys key h = by (covers keys key) refl
   where
@@ -212,7 +233,7 @@ lists-filtered test (v ∷ vs) = by (test v.items) (lists-filtered test vs)
 
 -- nothing more
 pub finds-none : (New Wanted : List ℕ → Type 0) (keys : List (List ℕ)) → (length keys < 16 → (x : List ℕ) → Wanted x → covers keys x ≡ true) → Finds New Wanted keys keys
-finds-none New Wanted keys all = record { only = λ test h k. k; kept = λ x h. h; apart = λ h. h; room = λ h. h; all = all }
+finds-none New Wanted keys all = record { only = λ test h k. k; kept = λ x h. h; apart = λ h. h; room = λ h. h; all = all; few = λ h. h }
 
 -- one after the other
 pub finds-then : (New Other Wanted First Second : List ℕ → Type 0) (old mid found : List (List ℕ)) → Finds New First old mid → Finds Other Second mid found
@@ -223,6 +244,7 @@ finds-then New Other Wanted First Second old mid found f g new wanted = record {
   apart = λ h. g.apart (f.apart h);
   room = λ h. f.room (g.room h);
   all = λ h x w. ⊎_elim (λ a. g.kept x (f.all (g.room h) x a)) (λ b. g.all h x b) (wanted x w);
+  few = λ h. g.few (f.few h);
 }
 
 -- the same in other words
@@ -234,6 +256,7 @@ finds-as New Other Wanted First old found f new wanted = record {
   apart = f.apart;
   room = f.room;
   all = λ h x w. f.all h x (wanted x w);
+  few = f.few;
 }
 
 -- where there is no choice the columns alone
@@ -244,6 +267,7 @@ finds-columns cols keys d l = record {
   apart = λ h. key-apart keys cols h;
   room = λ h. l;
   all = λ h x w. covers-more (with_key keys cols) cols x (key-covers keys cols) w.begins;
+  few = λ h. let more = key-longer keys cols in omega (arith, l, more);
 }
 
 contains-at : (ds : List ℕ) (i d : ℕ) → i < length ds → d ≡ get_or ds i 0 → contains ds d ≡ true

@@ -4,6 +4,7 @@ use Rattle.std.specs.List.{list_all, list_any, filter}
 use Rattle.std.proofs.lemmas.Bool.{eqb-true}
 use Rattle.std.proofs.lemmas.List.Folds.{list_any-append, list_all-append, list_all-map, list_all_more, list_any_more, list_any_at}
 use Rattle.std.proofs.lemmas.Bool.Decides.{nat_tests}
+use Rattle.std.proofs.lemmas.List.{length-map, length-take-le}
 use Rattle.vx_rows_values.proofs.Booleans.{and-left, and-right, and-both}
 use Rattle.vx_catalog_relations.specs.Catalog.{all_below, are_distinct}
 use Rattle.vx_plan_nodes.specs.Typed.{are_columns}
@@ -19,7 +20,7 @@ use Rattle.vx_check_rules.specs.Rules.{contains, within, covers}
 use Rattle.vx_check_rules.specs.Behaviour.{Keyed, is_column, has_copy, has_key, keys_give}
 use Rattle.vx_check_rules.proofs.Bools.{or-left, or-right, all-more}
 use Rattle.vx_check_options.specs.FoundKeys.{show, FoundKeys, both_give, choices_of, meets_each, with_key, IsChoice, IsMet, IsKey, IsShown, IsPart, KeptKeys, Finds}
-use Rattle.vx_check_options.proofs.FoundFacts.{either, any-of, contains-in, within-self, all-filtered, none-filtered, not-false, not-true, covers-more, key-covers, key-keeps, key-passes, key-apart, finds-none, finds-as, finds-then}
+use Rattle.vx_check_options.proofs.FoundFacts.{either, any-of, contains-in, within-self, all-filtered, none-filtered, not-false, not-true, covers-more, key-covers, key-keeps, key-passes, key-apart, key-longer, finds-none, finds-as, finds-then}
 
 -- ---- copies among allowed columns
 
@@ -246,6 +247,12 @@ taken vs i v test h e =
     ∙ ap (λ b. b && test (get_or vs i v).items) (sym (list_all-map test (λ (u : Vec ℕ Global). u.items) (take i vs)))
     ∙ ap (λ (u : Vec ℕ Global). list_all test (map (λ (u : Vec ℕ Global). u.items) (take i vs)) && test u.items) (sym e)
 
+taken-length : (vs : List (Vec ℕ Global)) (i : ℕ) → i < length vs → length (map (λ (u : Vec ℕ Global). u.items) (take (i + 1) vs)) ≡ suc (length (map (λ (u : Vec ℕ Global). u.items) (take i vs)))
+taken-length vs i h =
+    let here : length (map (λ (u : Vec ℕ Global). u.items) (take i vs)) ≡ i = length-map (take i vs) (λ (u : Vec ℕ Global). u.items) ∙ length-take-le i vs (omega (arith, h)) in
+    let next : length (map (λ (u : Vec ℕ Global). u.items) (take (i + 1) vs)) ≡ i + 1 = length-map (take (i + 1) vs) (λ (u : Vec ℕ Global). u.items) ∙ length-take-le (i + 1) vs (omega (arith, h)) in
+    omega (arith, here, next)
+
 -- a claimed key more: one that is not shown
 pub kept-without : (shows : List ℕ → Bool) (vs : List (Vec ℕ Global)) (i : ℕ) (v : Vec ℕ Global) (kept : List (List ℕ)) → i < length vs → v ≡ get_or vs i v → shows v.items ≡ false
     → KeptKeys shows (map (λ (u : Vec ℕ Global). u.items) (take i vs)) kept → KeptKeys shows (map (λ (u : Vec ℕ Global). u.items) (take (i + 1) vs)) kept
@@ -254,6 +261,7 @@ kept-without shows vs i v kept h e fails k = record {
   columns = λ w c. k.columns w (and-left _ _ (sym (taken vs i v (are_columns w) h e) ∙ c));
   apart = k.apart;
   covered = taken vs i v (λ key. not (shows key) || covers kept key) h e ∙ and-both _ _ k.covered (or-left (not (shows v.items)) (covers kept v.items) (not-false (shows v.items) fails));
+  few = let one = taken-length vs i h in let less = k.few in omega (arith, one, less);
 }
 
 -- and one that is
@@ -266,6 +274,7 @@ kept-with shows vs i v part kept more h e passes p is k = subst (λ m. KeptKeys 
   apart = key-apart kept part k.apart;
   covered = taken vs i v (λ key. not (shows key) || covers (with_key kept part) key) h e ∙ and-both _ _ (all-more (λ key. not (shows key) || covers kept key) (λ key. not (shows key) || covers (with_key kept part) key) _ still k.covered)
       (or-right (not (shows v.items)) (covers (with_key kept part) v.items) (covers-more (with_key kept part) part v.items (key-covers kept part) p.among));
+  few = let one = taken-length vs i h in let less = k.few in let more = key-longer kept part in omega (arith, one, less, more);
 })
   where
     still : (key : List ℕ) → (not (shows key) || covers kept key) ≡ true → (not (shows key) || covers (with_key kept part) key) ≡ true
@@ -289,6 +298,7 @@ found-all shows w claimed kept found h k f = record {
   kept = all-more (λ key. not (shows key) || covers kept key) (λ key. not (shows key) || covers found key) claimed
       (λ key g. ⊎_elim (or-left (not (shows key)) (covers found key)) (λ c. or-right (not (shows key)) (covers found key) (f.kept key c)) (either (not (shows key)) (covers kept key) g)) k.covered;
   all = λ l x b s. f.all l x (record { shown = s; among = sym (below x) ∙ b });
+  few = λ l. let less = k.few in f.few (omega (arith, l, less));
 }
   where
     below : (x : List ℕ) → all_below w x ≡ within x (first_columns w)

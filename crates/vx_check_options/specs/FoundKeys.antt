@@ -1,5 +1,5 @@
 -- The keys that are found at a node, among the lists of columns that are shown as keys there.
-use Rattle.std.specs.Prelude.{ℕ, ◌≡◌, ◌<◌, Bool, true, cond, not, ◌&&◌, ◌||◌, List, [], ◌∷◌, ◌++◌, map, length}
+use Rattle.std.specs.Prelude.{ℕ, ◌≡◌, ◌<◌, ◌≤◌, Bool, true, cond, not, ◌&&◌, ◌||◌, List, [], ◌∷◌, ◌++◌, map, length}
 use Rattle.std.specs.List.{list_all, list_any, filter}
 use Rattle.vx_catalog_relations.specs.Catalog.{all_below, are_distinct}
 use Rattle.vx_plan_nodes.specs.Typed.{are_columns}
@@ -46,13 +46,14 @@ pub record IsChoice (cols : List ℕ) (choices : List (List ℕ)) (x : List ℕ)
 -- ---- more keys
 
 -- what was found and more: a test that the old keys pass and each that may be new is passed by all; what contained a key still does; the keys stay apart;
--- and where fewer than 16 are found, no wanted list of columns is without one
+-- where fewer than 16 are found, no wanted list of columns is without one; and 16 at most stay 16 at most
 pub record Finds (MayBeNew IsWanted : List ℕ → Type 0) (old found : List (List ℕ)) : Type 0 where
   pub only : (test : List ℕ → Bool) → ((x : List ℕ) → MayBeNew x → test x ≡ true) → list_all test old ≡ true → list_all test found ≡ true
   pub kept : (x : List ℕ) → covers old x ≡ true → covers found x ≡ true
   pub apart : are_apart old ≡ true → are_apart found ≡ true
   pub room : length found < 16 → length old < 16
   pub all : length found < 16 → (x : List ℕ) → IsWanted x → covers found x ≡ true
+  pub few : length old ≤ 16 → length found ≤ 16
 
 -- these columns and one of each of the choices
 pub record IsMet (cols : List ℕ) (choices : List (List ℕ)) (x : List ℕ) : Type 0 where
@@ -82,20 +83,22 @@ pub record IsPart (shows : List ℕ → Bool) (cols part : List ℕ) : Type 0 wh
   pub columns : (w : ℕ) → are_columns w cols ≡ true → are_columns w part ≡ true
   pub shown : shows cols ≡ true → shows part ≡ true
 
--- keys that pass the test, none in another one, each of columns of the claimed ones; each claimed key that passes it contains one
+-- keys that pass the test, none in another one, each of columns of the claimed ones, and no more than those; each claimed key that passes it contains one
 pub record KeptKeys (shows : List ℕ → Bool) (claimed kept : List (List ℕ)) : Type 0 where
   pub shown : list_all shows kept ≡ true
   pub columns : (w : ℕ) → list_all (are_columns w) claimed ≡ true → list_all (are_columns w) kept ≡ true
   pub apart : are_apart kept ≡ true
   pub covered : list_all (λ key. not (shows key) || covers kept key) claimed ≡ true
+  pub few : length kept ≤ length claimed
 
 -- ---- what is found
 
 -- keys of a node of so many columns, which claims some already: each is shown, has columns that are there, and contains no other one; each claimed key that
--- is shown contains one; and where fewer than 16 are found, so does each list of columns that is shown as a key
+-- is shown contains one; where fewer than 16 are found, so does each list of columns that is shown as a key; and where 16 at most are claimed, 16 at most are found
 pub record FoundKeys (shows : List ℕ → Bool) (w : ℕ) (claimed found : List (List ℕ)) : Type 0 where
   pub shown : list_all shows found ≡ true
   pub columns : list_all (are_columns w) found ≡ true
   pub apart : are_apart found ≡ true
   pub kept : list_all (λ key. not (shows key) || covers found key) claimed ≡ true
   pub all : length found < 16 → (x : List ℕ) → all_below w x ≡ true → shows x ≡ true → covers found x ≡ true
+  pub few : length claimed ≤ 16 → length found ≤ 16

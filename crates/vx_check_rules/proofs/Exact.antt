@@ -11,9 +11,9 @@ use Rattle.vx_plan_nodes.specs.Parts.{kind_part}
 use Rattle.vx_plan_nodes.specs.Phases.{first_columns}
 use Rattle.vx_plan_nodes.specs.Types.{width}
 use Rattle.vx_plan_nodes.specs.Describe.{Copying, whole_rows, columns_kept, left_of, right_of, source, described}
-use Rattle.vx_check_rules.specs.Rules.{part_gives, has, contains, within, is_prefix, cons_both, if_some, unless_one, through, copied, left_columns, right_columns, routed_within, routed_alike, alike_shows, join_shows, both_have, kind_shows, unary_shows, keeps_apart, sizes_match, not_replicated, inputs_match, order_given, part_shown, order_shown, covers, numbers_below, shifted, goes_on, orders, keys_of, keys_shown, join_keys}
+use Rattle.vx_check_rules.specs.Rules.{part_gives, has, contains, within, is_prefix, cons_both, if_some, unless_one, through, copied, left_columns, right_columns, routed_within, routed_alike, alike_shows, join_shows, both_have, kind_shows, unary_shows, keeps_apart, shows, sizes_match, not_replicated, inputs_match, order_given, part_shown, order_shown, covers, numbers_below, shifted, goes_on, orders, keys_of, keys_shown, join_keys}
 use Rattle.vx_check_rules.specs.Refusal.{size_mismatch, part_not_shown, inputs_not_matched, replicated_input, order_not_shown, order_needed, key_not_shown, first_failure}
-use Rattle.vx_check_rules.specs.Behaviour.{sources, Way, way, sorted_by, keyed_by, if_so, own, bare, over, ways_over, keyed_held, behaviour, fits, each_has, gives, sorts, is_column, has_copy, has_key, keys_give, shown_part, shown_order, shown_key}
+use Rattle.vx_check_rules.specs.Behaviour.{sources, Way, way, sorted_by, keyed_by, if_so, own, bare, over, ways_over, ways_if_fit, keyed_held, behaviour, fits, each_has, gives, sorts, is_column, has_copy, has_key, keys_give, shown_part, shown_order, shown_key}
 use Rattle.vx_check_rules.specs.Exactly.{FitsExactly, PartsExactly, OrdersExactly, KeysExactly, VerdictsExactly}
 use Rattle.vx_check_rules.proofs.Bools.{or-false, or-true, and-true, or-assoc, or-swap, or-again, any-if}
 use Rattle.vx_check_rules.proofs.ColumnFacts.{list_all-ext, list_any-ext, contains-below, first-suc}
@@ -241,6 +241,14 @@ parts-exactly catalog (binary n c (join m on) p q) x e = ap (λ b. is_one (size 
 parts-exactly catalog (exchange n c k m p) q e =
     here (is_one (target k)) (way whole_rows (bare (kind_part k) ∷ [])) q (unless_one (kind_shows k) q)
     (bare-whole (kind_part k) q ∙ sym (unless-same (kind_shows k) (part_gives (kind_part k)) (kind-parts k) q))
+
+-- a part is shown by a way that is there if the operator fits, whether or not it does
+pub parts-if-fit : (catalog : ℕ → Relation) (p : Plan) (q : Part) → (is_one (size p) || unless_one (shows catalog p) q) ≡ (is_one (size p) || list_any (λ w. gives w q) (ways_if_fit catalog p))
+parts-if-fit catalog (scan n c r m z) q = parts-exactly catalog (scan n c r m z) q refl
+parts-if-fit catalog (unary n c op p) q = here (is_one (size p)) (way (described op).copying (own p ∷ [])) q (unless_one (unary_shows op p) q) (unary-gives op p q)
+parts-if-fit catalog (binary n c union p q) x = here (is_one (size p)) (way whole_rows (own p ∷ own q ∷ [])) x (unless_one (both_have p q) x) (gives-both p q x)
+parts-if-fit catalog (binary n c (join m on) p q) x = ap (λ b. is_one (size p) || b) (join-unless on (width catalog p) p q x ∙ join-parts on (width catalog p) p q x)
+parts-if-fit catalog (exchange n c k m p) q = parts-exactly catalog (exchange n c k m p) q refl
 
 -- ---- fits
 

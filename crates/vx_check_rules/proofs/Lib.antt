@@ -2,6 +2,10 @@ pub mod BitFacts
 pub mod ColumnFacts
 pub mod CopyFacts
 pub mod PairFacts
+pub mod EqualFacts
+pub mod EqualBelow
+pub mod KnownParts
+pub mod TableFacts
 pub mod PlaceFacts
 pub mod RuleFacts
 pub mod WidthFacts
@@ -11,3 +15,11 @@ pub mod Bools
 pub mod Exact
 pub mod Carrying
 pub mod WayFacts
+pub mod Shortening
+pub mod KnownClosing
+pub mod OrderSteps
+pub mod NamedNodes
+pub mod CopySteps
+pub mod KeySteps
+pub mod ShownNodes
+pub mod DerivedMore

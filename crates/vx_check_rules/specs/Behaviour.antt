@@ -168,6 +168,17 @@ ways_from catalog (unary n c op p) h g = ways_along (described op) h
 ways_from catalog (binary n c op p q) h g = ways_over (described_both (width catalog p) op).pairs (described_both (width catalog p) op) h g
 ways_from catalog (exchange n c kind merge p) h g = ways_made (kind_part kind)
 
+-- the ways of a node if its operator fits its inputs, which is not tested
+abbrev pub both_if_fit : Option (List (ℕ × ℕ)) → DescribedBoth → Bool × Part → Bool × Part → List Way
+both_if_fit None d h g = way d.left (h ∷ g ∷ []) ∷ []
+both_if_fit (Some on) d h g = ways_over (Some on) d h g
+
+abbrev pub ways_if_fit : (ℕ → Relation) → Plan → List Way
+ways_if_fit catalog (scan n c r shared z) = ways_made (cond shared any all)
+ways_if_fit catalog (unary n c op p) = way (described op).copying (own p ∷ []) ∷ []
+ways_if_fit catalog (binary n c op p q) = both_if_fit (described_both (width catalog p) op).pairs (described_both (width catalog p) op) (own p) (own q)
+ways_if_fit catalog (exchange n c kind merge p) = ways_made (kind_part kind)
+
 -- the keys of a node whose inputs have these in place of those that they claim
 abbrev pub keyed_from : (ℕ → Relation) → Plan → (lefts rights : List (List ℕ)) → List Keyed
 keyed_from catalog (scan n c r shared z) lefts rights = keyed_by ((whole_rows, (catalog r).keys) ∷ []) ∷ []

@@ -1,16 +1,16 @@
 -- The rule table of a plan that asks for what is known of its columns: a claim is shown too if it follows from one that the table shows, by equal and fixed
 -- columns and by what the claimed keys determine.
-use Rattle.std.specs.Prelude.{ℕ, ◌==◌, Bool, true, false, cond, not, ◌&&◌, ◌||◌, List, [], ◌∷◌, map, filter, Option, Some, None}
+use Rattle.std.specs.Prelude.{ℕ, Bool, true, false, not, ◌&&◌, ◌||◌, List, [], ◌∷◌, map, filter, Option, Some, None}
 use Rattle.std.specs.List.{list_all, list_any}
 use Rattle.vx_catalog_relations.specs.Relation.{Relation}
-use Rattle.vx_plan_nodes.specs.Plan.{Route, by_range, Part, one, any, all, routed, Claim, Unary, select, project, distinct, sort, group, plain, partial, final, Binary, union, join, ExchangeKind, concat, Plan, scan, unary, binary, exchange, claim, size, is_one}
+use Rattle.vx_plan_nodes.specs.Plan.{by_range, Part, any, all, routed, Unary, select, project, distinct, sort, group, plain, final, Binary, union, join, ExchangeKind, concat, Plan, scan, unary, binary, exchange, claim, size, is_one}
 use Rattle.vx_plan_nodes.specs.Parts.{kind_part}
 use Rattle.vx_plan_nodes.specs.Phases.{first_columns}
 use Rattle.vx_plan_nodes.specs.Types.{width}
 use Rattle.vx_plan_nodes.specs.Describe.{Copying, source, left_of, right_of, described}
 use Rattle.vx_plan_facts.specs.Equal.{Equality, equal_at}
 use Rattle.vx_plan_facts.specs.Determined.{Columns, column_in, sources_in, determined, determined_aside}
-use Rattle.vx_plan_facts.specs.Following.{set_of, equal_lists, short, order_follows, key_follows, total_follows}
+use Rattle.vx_plan_facts.specs.Following.{set_of, equal_lists, short, order_follows, total_follows}
 use Rattle.vx_check_rules.specs.Rules.{route_eq, has, sizes_match, not_replicated, inputs_match, order_given, part_shown, order_shown, keys_of, is_total_order}
 
 -- ---- parts
@@ -203,7 +203,10 @@ allowed_derived catalog (unary n c op p) = allowed_derived catalog p && allowed_
 allowed_derived catalog (binary n c op p q) = allowed_derived catalog p && (allowed_derived catalog q && allowed_here_derived catalog (binary n c op p q))
 allowed_derived catalog (exchange n c k m p) = allowed_derived catalog p && allowed_here_derived catalog (exchange n c k m p)
 
--- K2 and K9: the root has one worker, and where the plan says total, its order determines a claimed key or all columns
+-- K9: the order is total by the table, or it determines a claimed key or all columns
+abbrev pub is_total_derived : (ℕ → Relation) → Plan → Bool
+is_total_derived catalog p = is_total_order catalog p || total_follows (width catalog p) (determined catalog p) (claim p).keys (claim p).order
+
+-- K2 and K9: the root has one worker, and where the plan says total, its order is
 abbrev pub root_allowed_derived : (ℕ → Relation) → (total : Bool) → Plan → Bool
-root_allowed_derived catalog total p =
-    is_one (size p) && (not total || (is_total_order catalog p || total_follows (width catalog p) (determined catalog p) (claim p).keys (claim p).order))
+root_allowed_derived catalog total p = is_one (size p) && (not total || is_total_derived catalog p)

@@ -1,6 +1,8 @@
 pub mod Rules
 pub mod Derived
 pub mod Refusal
+pub mod Tables
+pub mod TableView
 pub mod Behaviour
 pub mod Exactly
 pub mod Carried
@@ -10,6 +12,10 @@ pub mod Seen
 pub mod RuleView
 pub mod Checked
 pub mod CheckedView
+pub mod FaultView
 pub mod WayView
 pub mod SortedView
 pub mod KeyedView
+pub mod DerivedView
+pub mod Passed
+pub mod KnownNode

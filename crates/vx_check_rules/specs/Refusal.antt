@@ -40,14 +40,21 @@ or_else None o = o
 abbrev pub refused_at : ℕ → List (Bool × Rule) → Option (ℕ × Rule)
 refused_at n ts = option_map (λ r. (n, r)) (first_failure ts)
 
--- the first refused node of the plan in post-order, left before right
-abbrev pub first_refused : (ℕ → Relation) → Plan → Option (ℕ × Rule)
-first_refused catalog (scan n c r m z) = refused_at n (node_tests catalog (scan n c r m z))
-first_refused catalog (unary n c op p) = or_else (first_refused catalog p) (refused_at n (node_tests catalog (unary n c op p)))
-first_refused catalog (binary n c op p q) =
-    or_else (first_refused catalog p) (or_else (first_refused catalog q) (refused_at n (node_tests catalog (binary n c op p q))))
-first_refused catalog (exchange n c k m p) = or_else (first_refused catalog p) (refused_at n (node_tests catalog (exchange n c k m p)))
+-- the first refused node of the plan in post-order, left before right, by the tests of each node
+abbrev pub first_failing : (Plan → List (Bool × Rule)) → Plan → Option (ℕ × Rule)
+first_failing tests (scan n c r m z) = refused_at n (tests (scan n c r m z))
+first_failing tests (unary n c op p) = or_else (first_failing tests p) (refused_at n (tests (unary n c op p)))
+first_failing tests (binary n c op p q) =
+    or_else (first_failing tests p) (or_else (first_failing tests q) (refused_at n (tests (binary n c op p q))))
+first_failing tests (exchange n c k m p) = or_else (first_failing tests p) (refused_at n (tests (exchange n c k m p)))
 
--- what the checker answers of a plan, none where it is accepted; the root is the last node
+-- what is answered of a plan by such tests and by those of the root, none where it is accepted; the root is the last node
+abbrev pub refusal_of_tests : (node_tests root_tests : Plan → List (Bool × Rule)) → Plan → Option (ℕ × Rule)
+refusal_of_tests tests root p = or_else (first_failing tests p) (refused_at (number p) (root p))
+
+-- by the rule table
+abbrev pub first_refused : (ℕ → Relation) → Plan → Option (ℕ × Rule)
+first_refused catalog p = first_failing (node_tests catalog) p
+
 abbrev pub refusal : (ℕ → Relation) → Bool → Plan → Option (ℕ × Rule)
-refusal catalog is_total p = or_else (first_refused catalog p) (refused_at (number p) (root_tests catalog is_total p))
+refusal catalog is_total p = refusal_of_tests (node_tests catalog) (root_tests catalog is_total) p

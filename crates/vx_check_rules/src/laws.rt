@@ -1,6 +1,7 @@
 //! The rule table, once more, by what the description of each operator says.
 
 ghost use Rattle.vx_check_rules.specs.Exactly.{FitsExactly, PartsExactly, OrdersExactly, KeysExactly, VerdictsExactly};
+ghost use Rattle.vx_check_rules.specs.Tables.{TablesDecide};
 ghost use Rattle.vx_check_rules.specs.Carried.{CopiesBack, OrdersCarried, KeysCarried, PartsCarried, CarriedIsShown};
 
 /// An operator fits its inputs exactly where there is a way.
@@ -51,4 +52,9 @@ pub fn parts_carried()
 /// What is carried up to a node passes all of its tests, where its operator fits its inputs.
 pub fn carried_is_shown()
     ensures { CarriedIsShown }
+{}
+
+/// By either table nothing is refused of exactly the plans that it allows.
+pub fn tables_decide()
+    ensures { TablesDecide }
 {}

@@ -3,10 +3,17 @@
 
 mod carried;
 mod carried_keys;
+mod carried_orders;
 mod checked;
 mod checking;
+mod column_list;
 mod columns;
 mod copied;
+mod derived_keys;
+mod derived_orders;
+mod derived_parts;
+mod equal;
+mod fault;
 mod inputs;
 mod keyed;
 mod keys;
@@ -18,10 +25,13 @@ mod parts;
 mod places;
 mod refusal;
 mod refused;
+mod routed;
 mod rule;
 mod shown;
+mod shown_orders;
 mod sortings;
 mod sources;
+mod table;
 mod ways;
 
 pub use carried::{node_order, node_part};
@@ -29,11 +39,12 @@ pub use carried_keys::node_keys;
 pub use checked::CheckedPlan;
 pub use checking::check;
 pub use columns::ColumnsSeen;
+pub use fault::CheckFault;
 pub use inputs::do_sizes_match;
 pub use keyed::{CopiedKeys, Keyed, KeysSeen, are_covered, keyed_from, show_key};
 pub use laws::{
     carried_is_shown, copies_back, fits_exactly, keys_carried, keys_exactly, orders_carried,
-    orders_exactly, parts_carried, parts_exactly, verdicts_exactly,
+    orders_exactly, parts_carried, parts_exactly, tables_decide, verdicts_exactly,
 };
 pub use nodes::has_one_worker;
 pub use orders::is_total;
@@ -42,4 +53,5 @@ pub use refusal::{failure_at, root_failure};
 pub use refused::Refused;
 pub use rule::Rule;
 pub use sortings::rises_with_workers;
+pub use table::{Table, table_of};
 pub use ways::{Had, Way, show_part, ways_from};

@@ -60,8 +60,8 @@ fn only<'p>(sorted: Sorted<'p>) -> [Option<Sorted<'p>>; 2]
     [Some(sorted), None]
 }
 
-// The order of the output's rows, over rows that are sorted on `below`.
-fn order_after<'p>(order: OrderAfter<'p>, below: &'p [usize]) -> &'p [usize]
+/// The order of the output's rows, over rows that are sorted on `below`.
+pub(crate) fn order_after<'p>(order: OrderAfter<'p>, below: &'p [usize]) -> &'p [usize]
     ensures { result.now ≡ order_after (order_after_of order.entry) below.now }
 {
     match order {

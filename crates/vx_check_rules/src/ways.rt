@@ -10,7 +10,7 @@ ghost use Rattle.vx_plan_nodes.specs.Outputs.{HasOutputs};
 ghost use Rattle.vx_plan_nodes.specs.Describe.{whole_rows};
 ghost use Rattle.vx_plan_nodes.specs.DescribeView.{copying_of, kept_columns, described_of, described_both_of};
 ghost use Rattle.vx_check_rules.specs.Rules.{part_gives, if_some};
-ghost use Rattle.vx_check_rules.specs.Behaviour.{sources, way, if_so, own, bare, input_has, meet, gives, common_part, ways_along, ways_over, ways_made, ways_from, behaviour};
+ghost use Rattle.vx_check_rules.specs.Behaviour.{sources, way, if_so, own, bare, input_has, meet, gives, common_part, ways_along, ways_over, ways_made, ways_from, both_if_fit, ways_if_fit, behaviour};
 ghost use Rattle.vx_check_rules.specs.WayView.{part_seen, had_of, way_of, way_in, ways_in};
 
 use crate::nodes::{claimed_part, has_one_worker};
@@ -36,8 +36,8 @@ pub struct Way<'p> {
     pub second: Option<Had<'p>>,
 }
 
-// The part that an exchange of this kind makes.
-fn made(kind: &ExchangeKind) -> PartSeen<'_>
+/// The part that an exchange of this kind makes.
+pub(crate) fn made(kind: &ExchangeKind) -> PartSeen<'_>
     ensures { part_seen result ≡ kind_part (kind_of kind.now) }
 {
     match kind {
@@ -49,8 +49,8 @@ fn made(kind: &ExchangeKind) -> PartSeen<'_>
 }
 
 impl Had<'_> {
-    // Whether the input has the part.
-    fn has(self, wanted: &Part) -> bool
+    /// Whether the input has the part.
+    pub fn has(self, wanted: &Part) -> bool
         ensures { result ≡ input_has (had_of self.entry) (part_of wanted.now) }
     {
         self.is_alone || self.part.gives(wanted)
@@ -104,8 +104,8 @@ impl<'p> Way<'p> {
     }
 }
 
-// The input with the part that it claims.
-fn claimed(input: &TypedNode) -> Had<'_>
+/// The input with the part that it claims.
+pub(crate) fn claimed(input: &TypedNode) -> Had<'_>
     ensures { had_of result ≡ own (plan_of input.now) }
 {
     Had {
@@ -255,6 +255,49 @@ pub fn node_ways(node: &TypedNode) -> [Option<Way<'_>>; 4]
         TypedNode::Unary(_, _, input) => ways_from(node, claimed(input), bare(PartSeen::Any)),
         TypedNode::Binary(_, _, left, right) => ways_from(node, claimed(left), claimed(right)),
         TypedNode::Exchange(_, _, input) => { ways_from(node, claimed(input), bare(PartSeen::Any)) }
+    }
+}
+
+// A way, and no other one.
+fn one_way<'p>(
+    copying: Copying<'p>,
+    first: Had<'p>,
+    second: Option<Had<'p>>,
+) -> [Option<Way<'p>>; 4]
+    ensures { ways_in result ≡ way (copying_of copying.entry) (had_of first.entry ∷ option_to_list (option_map had_of second.entry)) ∷ [] }
+{
+    [way_if(true, copying, first, second), None, None, None]
+}
+
+// The ways of an operator over two inputs, if rows that stand side by side may.
+fn both_if_fit<'p>(
+    described: DescribedBoth<'p>,
+    left: Had<'p>,
+    right: Had<'p>,
+) -> [Option<Way<'p>>; 4]
+    ensures { ways_in result ≡ both_if_fit (described_both_of described.entry).pairs (described_both_of described.entry) (had_of left.entry) (had_of right.entry) }
+{
+    match described.pairs {
+        None => one_way(described.left, left, Some(right)),
+        Some(on) => ways_met(on, described, left, right),
+    }
+}
+
+/// The ways of a node to a part if its operator fits its inputs, which is not tested.
+pub fn ways_if_fit(node: &TypedNode) -> [Option<Way<'_>>; 4]
+    ensures { (catalog : ℕ → Relation) → HasOutputs catalog (outline_of node.now) → ways_in result ≡ ways_if_fit catalog (plan_of node.now) }
+{
+    match node {
+        TypedNode::Scan(_, scan) => ways_made(scanned(scan.shared)),
+        TypedNode::Unary(_, operator, input) => {
+            one_way(operator.described().copying, claimed(input), None)
+        }
+        TypedNode::Binary(_, operator, left, right) => both_if_fit(
+            operator.described(output_types(left)),
+            claimed(left),
+            claimed(right),
+        ),
+        TypedNode::Exchange(_, exchange, _) => ways_made(made(&exchange.kind)),
     }
 }
 

@@ -12,6 +12,7 @@ use Rattle.vx_plan_nodes.specs.Plan.{Plan}
 use Rattle.vx_plan_nodes.specs.Names.{TypedPlanView}
 use Rattle.vx_plan_nodes.specs.TypedView.{scope, plan, resolved_of}
 use Rattle.vx_plan_nodes.specs.Types.{types_of}
+use Rattle.vx_plan_facts.proofs.RowFacts.{typed-inputs-fit}
 use Rattle.vx_check_rules.specs.Checked.{relations, is_allowed, is_root_allowed}
 use Rattle.vx_ops.specs.declared.fault.Code.TheVariants.{Overflow, NoMemory, Unsorted, Stranger}
 use Rattle.vx_ops.specs.declared.fault.Fault.{Fault}
@@ -109,9 +110,11 @@ module _ (j : Job) (hash : List ℕ → Row → ℕ → ℕ) where
           some_packet = omega (arith, packet);
           some_morsel = omega (arith, morsel);
         };
-        fit = numbered-is-fit (relations j.plan.now) (plan j.plan.now) j.plan.now.numbered allowed;
+        fit = numbered-is-fit (resolved_of j.plan.now).derives (relations j.plan.now) (plan j.plan.now) j.plan.now.numbered allowed;
         formed = (typed-is-well-formed (scope j.plan.now) (plan j.plan.now) j.plan.now.typed_nodes).0;
+        inputs = typed-inputs-fit (scope j.plan.now) (plan j.plan.now) j.plan.now.typed_nodes;
         closed = j.plan.now.closed;
+        derives = (resolved_of j.plan.now).derives;
         allows = allowed;
         root = root;
       }

@@ -3,9 +3,10 @@ use Rattle.std.proofs.Common.{◌≡◌, ⊎_elim, ℕ, ◌<◌, Bool, true, fal
 use Rattle.std.proofs.lemmas.Bool.{not-true}
 use Rattle.std.specs.List.{list_any}
 use Rattle.vx_rows_values.specs.Values.{Row}
+use Rattle.vx_rows_values.specs.Order.{sorted}
 use Rattle.vx_rows_values.specs.Bags.{SameRows}
 use Rattle.vx_catalog_relations.specs.Relation.{Relation}
-use Rattle.vx_plan_nodes.specs.Plan.{Plan, scan, unary, binary, exchange, claim, size, size_eq, is_one}
+use Rattle.vx_plan_nodes.specs.Plan.{Claim, Unary, ExchangeKind, Plan, scan, unary, binary, exchange, claim, size, size_eq, is_one}
 use Rattle.vx_plan_nodes.specs.Types.{width, names_columns, well_formed}
 use Rattle.vx_plan_nodes.specs.Phases.{is_open, spoken}
 use Rattle.vx_plan_nodes.specs.Streams.{Streams, joined, workers}
@@ -27,14 +28,14 @@ use Rattle.vx_exec_laws.proofs.Parts.{or-cases, from_single-of, one-worker, size
 use Rattle.vx_exec_laws.proofs.Wide.{serial-wide}
 use Rattle.vx_exec_laws.proofs.Erased.{erased-rows}
 use Rattle.vx_exec_laws.proofs.WellFormed.{well-under, well-both, well-phased, names, named}
-use Rattle.vx_exec_laws.proofs.OneInput.{close}
+use Rattle.vx_exec_laws.proofs.OneInput.{close, HoldingAt, FitsStreams}
 use Rattle.vx_exec_laws.proofs.Frame.{well-spoken}
 use Rattle.vx_exec_laws.proofs.Total.{Reports, same-list, all-columns-tell, some-key}
 use Rattle.vx_exec_laws.proofs.DerivedPairs.{agreeing}
 use Rattle.vx_exec_laws.proofs.DerivedSerial.{serial-pairs}
 use Rattle.vx_exec_laws.proofs.DerivedOpen.{derived-tests}
 use Rattle.vx_exec_laws.proofs.DerivedStreams.{streams-meet}
-use Rattle.vx_exec_laws.proofs.DerivedNodes.{Sure, scan-sure, unary-sure, binary-sure, exchange-sure}
+use Rattle.vx_exec_laws.proofs.DerivedNodes.{Sure, scan-sure, unary-sure, binary-sure, exchange-sure, fits-equally, streams-merged}
 
 -- in an allowed plan the inputs of each node have one size
 sizes-match : (catalog : ℕ → Relation) (p : Plan) → allowed_derived catalog p ≡ true → all_sizes_match p ≡ true
@@ -88,9 +89,30 @@ module _ (catalog : ℕ → Relation) (db : ℕ → List Row) (sizes : ℕ → �
       exchange-sure catalog db sizes goes given k c kind merge p run.0 s (fit, ok, well-phased catalog node wf) (fit, ok_p, well-phased catalog p well)
       (all-sure p run.0 well fit ok_p run.1) (meet-at node s fit ok run) run.2
 
+  pub holding : (p : Plan) (s : Streams) → well_formed catalog p ≡ true → all_inputs_fit catalog p ≡ true → allowed_derived catalog p ≡ true → Runs db sizes goes p s → HoldingAt db sizes goes p s
+  holding p s wf fit ok run = (all-sure p s wf fit ok run).0
+
+  -- the streams of a run below an operator fit it
+  pub fits-streams : (k : ℕ) (c : Claim) (op : Unary) (p : Plan) (s : Streams) → well_formed catalog (unary k c op p) ≡ true → all_inputs_fit catalog p ≡ true
+      → allowed_derived catalog (unary k c op p) ≡ true → Runs db sizes goes p s → FitsStreams catalog db sizes goes given op p s
+  fits-streams k c op p s wf fit ok run =
+      let here : Bool = allowed_here_derived catalog (unary k c op p) in
+      let ok_p = and-left (allowed_derived catalog p) here ok in
+      fits-equally catalog db sizes goes given k c op p s (and-right (allowed_derived catalog p) here ok)
+      (holding p s (well-under catalog k c op p wf).0 fit ok_p run) (meet-at p s fit ok_p run)
+
+  -- those below an exchange are sorted as it merges them
+  pub merges-streams : (k : ℕ) (c : Claim) (kind : ExchangeKind) (merge : List ℕ) (p : Plan) (s : Streams) → well_formed catalog (exchange k c kind merge p) ≡ true → all_inputs_fit catalog p ≡ true
+      → allowed_derived catalog (exchange k c kind merge p) ≡ true → Runs db sizes goes p s → (w : ℕ) → w < workers sizes (size p) → sorted merge (s w) ≡ true
+  merges-streams k c kind merge p s wf fit ok run =
+      let here : Bool = allowed_here_derived catalog (exchange k c kind merge p) in
+      let ok_p = and-left (allowed_derived catalog p) here ok in
+      let well = and-left (well_formed catalog p) (names_columns (width catalog p) c) wf in
+      streams-merged catalog db sizes goes given k c kind merge p s (and-right (allowed_derived catalog p) here ok) (fit, ok_p, well-phased catalog p well) (all-sure p s well fit ok_p run)
+
   holds-at : (p : Plan) (s : Streams) → well_formed catalog p ≡ true → all_inputs_fit catalog p ≡ true → allowed_derived catalog p ≡ true → Runs db sizes goes p s → HoldsAt db sizes goes p s
   holds-at p s wf fit ok run =
-      let h = (all-sure p s wf fit ok run).0 in
+      let h = holding p s wf fit ok run in
       record { base = h.base; is_serial = h.is_serial; is_erased = erased-rows catalog db 0 (spoken p) h.base (well-spoken catalog p wf) h.is_serial; holds = h.holds }
 
 pub derived-sound : DerivedSound

@@ -24,7 +24,7 @@ use Rattle.vx_plan_facts.specs.FollowLaws.{Occurs}
 use Rattle.vx_plan_facts.specs.RowFacts.{HasEqual, MeetsAt, EachMeets, all_inputs_fit}
 use Rattle.vx_plan_facts.proofs.EachRow.{each-weaken, each-of-had}
 use Rattle.vx_check_rules.specs.Rules.{has, part_gives, inputs_match, order_given, part_shown, order_shown, keys_of, unless_one, join_shows, routed_alike, alike_shows, through, left_columns, right_columns}
-use Rattle.vx_check_rules.specs.Derived.{part_matches, routed_alike_equally, unary_meets_equally, routed_as, is_any, join_routed, part_derived, needed_follows, goes_on_derived, unary_order, binary_order, order_derived, allowed_derived, allowed_here_derived, inputs_match_derived}
+use Rattle.vx_check_rules.specs.Derived.{part_matches, routed_alike_equally, unary_meets_equally, routed_as, is_any, join_routed, part_derived, needed_follows, goes_on_derived, unary_order, binary_order, order_derived, allowed_derived, allowed_here_derived, inputs_match_derived, order_given_derived}
 use Rattle.vx_check_rules.specs.Claims.{PartOf, PartHolds, OrderHolds, Given}
 use Rattle.vx_check_rules.proofs.Exact.{fits-exactly, parts-exactly}
 use Rattle.vx_check_rules.proofs.Bools.{or-left, or-right, or-false}
@@ -153,6 +153,18 @@ module _ (catalog : ℕ → Relation) (db : ℕ → List Row) (sizes : ℕ → �
 
   -- ---- one input
 
+  -- the streams below an operator fit it
+  pub fits-equally : (k : ℕ) (c : Claim) (op : Unary) (p : Plan) (s : Streams) → allowed_here_derived catalog (unary k c op p) ≡ true → HoldingAt db sizes goes p s
+      → ((w : ℕ) → w < workers sizes (size p) → EachMeets catalog p (s w)) → FitsStreams catalog db sizes goes given op p s
+  fits-equally k c op p s here ih meets_in =
+      let node : Plan = unary k c op p in
+      let n : ℕ = workers sizes (size p) in
+      let e : Equality = equal_at catalog p in
+      ⊎_elim
+      (λ h. inl (sym (fits-exactly catalog node) ∙ h))
+      (λ h. let m = meets-equally goes e op (claim p).part n s (λ xs. Gives p ih.base xs) h (equal-in p n s meets_in) ih.holds.part in inr (m.0, or-right (is_one (size p)) (part_gives (claim p).part any) m.1))
+      (or-cases (inputs_match node) (unary_meets_equally e op (claim p).part) (derived-tests catalog node here).2)
+
   pub unary-sure : (k : ℕ) (c : Claim) (op : Unary) (p : Plan) (s out : Streams) → Allowed (unary k c op p) → Allowed p → phase_fits op p ≡ true → Sure p s
       → ((w : ℕ) → w < workers sizes (size p) → EachMeets catalog p (s w)) → ((w : ℕ) → w < workers sizes (size p) → EachMeets catalog (unary k c op p) (out w))
       → ((w : ℕ) → w < workers sizes (size p) → unary_rows op (s w) ≡ Some (out w)) → Sure (unary k c op p) out
@@ -166,10 +178,7 @@ module _ (catalog : ℕ → Relation) (db : ℕ → List Row) (sizes : ℕ → �
       let det : Columns → Columns = determined catalog p in
       let in_equal : EqualIn e n s = equal-in p n s meets_in in
       let in_pairs : PairsOf p (joined n s) = part-pairs p ok_p sure.1 ih.base ih.is_serial (claim p).part n s ih.holds.part in
-      let fit : FitsStreams catalog db sizes goes given op p s = ⊎_elim
-      (λ h. inl (sym (fits-exactly catalog node) ∙ h))
-      (λ h. let m = meets-equally goes e op (claim p).part n s (λ xs. Gives p ih.base xs) h in_equal ih.holds.part in inr (m.0, or-right (is_one (size p)) (part_gives (claim p).part any) m.1))
-      (or-cases (inputs_match node) (unary_meets_equally e op (claim p).part) t.2) in
+      let fit = fits-equally k c op p s here ih meets_in in
       let r = unary-ready catalog db sizes goes given k c op p s out ok_p.2 fits ih (λ xs. PairsOf p xs) (list-pairs p ok_p sure.1 ih.base ih.is_serial)
       (λ shut xs is. serial-pairs catalog db given.meets p ok_p.0 sure.1 xs is) fit run in
       finish node out ok here sure.1 r.base r.is_serial
@@ -343,6 +352,23 @@ module _ (catalog : ℕ → Relation) (db : ℕ → List Row) (sizes : ℕ → �
       (λ i b. each-of-had (λ row. Occurs row (joined m s)) (s i) (λ row o. stream-occurs m s i b row (omega (arith, o))))
       (part-placed goes (claim p).part m s (λ xs. Gives p ih.base xs) ih.holds.part))
 
+  -- rows that are sorted on the input's order are sorted as an exchange merges them
+  merged-as : (k : ℕ) (c : Claim) (kind : ExchangeKind) (merge : List ℕ) (p : Plan) (xs : List Row) → order_given_derived catalog (exchange k c kind merge p) ≡ true → PairsOf p xs
+      → sorted (claim p).order xs ≡ true → sorted merge xs ≡ true
+  merged-as k c kind merge p xs t pairs up = ⊎_elim
+      (λ h. sorted-front merge (claim p).order h xs up)
+      (λ h. follows p xs pairs (claim p).order merge h up)
+      (or-cases (order_given (exchange k c kind merge p)) (needed_follows catalog (exchange k c kind merge p)) t)
+
+  -- and so are the streams below it
+  pub streams-merged : (k : ℕ) (c : Claim) (kind : ExchangeKind) (merge : List ℕ) (p : Plan) (s : Streams) → allowed_here_derived catalog (exchange k c kind merge p) ≡ true → Allowed p → Sure p s
+      → (w : ℕ) → w < workers sizes (size p) → sorted merge (s w) ≡ true
+  streams-merged k c kind merge p s here ok_p sure w l =
+      let ih = sure.0 in
+      let m : ℕ = workers sizes (size p) in
+      let in_pairs : PairsOf p (joined m s) = part-pairs p ok_p sure.1 ih.base ih.is_serial (claim p).part m s ih.holds.part in
+      merged-as k c kind merge p (s w) (derived-tests catalog (exchange k c kind merge p) here).3 (stream-pairs p m s in_pairs w l) (ih.holds.order.0 w l)
+
   pub exchange-sure : (k : ℕ) (c : Claim) (kind : ExchangeKind) (merge : List ℕ) (p : Plan) (s out : Streams) → Allowed (exchange k c kind merge p) → Allowed p → Sure p s
       → ((w : ℕ) → w < workers sizes (target kind) → EachMeets catalog (exchange k c kind merge p) (out w))
       → Exchanges goes kind merge (workers sizes (size p)) (workers sizes (target kind)) s out → Sure (exchange k c kind merge p) out
@@ -357,10 +383,7 @@ module _ (catalog : ℕ → Relation) (db : ℕ → List Row) (sizes : ℕ → �
       let in_pairs : PairsOf p (joined m s) = part-pairs p ok_p sure.1 ih.base ih.is_serial (claim p).part m s ih.holds.part in
       let made = exchange-made catalog db sizes goes given kind merge p ih.base m s out
       (has-part goes given.in_range (is_one (size p)) (claim p).part any m s (λ xs. Gives p ih.base xs) (one-worker sizes (size p)) t.1 ih.holds.part) x in
-      let merged : sorted merge list ≡ true = ⊎_elim
-      (λ h. sorted-front merge (claim p).order h list ih.holds.order.1)
-      (λ h. follows p list (list-pairs p ok_p sure.1 ih.base ih.is_serial) (claim p).order merge h ih.holds.order.1)
-      (or-cases (order_given node) (needed_follows catalog node) t.3) in
+      let merged : sorted merge list ≡ true = merged-as k c kind merge p list t.3 (list-pairs p ok_p sure.1 ih.base ih.is_serial) ih.holds.order.1 in
       let single : is_one (size p) ≡ true → (w : ℕ) → w < n → sorted (claim p).order (out w) ≡ true
       = λ o w l. single-sorted goes kind merge m n s out x (one-worker sizes (size p) o) (claim p).order (ih.holds.order.0 0 (some catalog db sizes goes given (size p))) w l in
       let there : Bool = is_one (size p) || goes_on_derived catalog kind p in

@@ -83,7 +83,7 @@ unary-given w (group final by aggregates) e f det below = copies-given (group fi
 
 -- ---- lists one behind the other
 
-each-all : (P : Row → Type 0) (q : Row → Bool) → ((row : Row) → P row → q row ≡ true) → (xs : List Row) → AllByRecursion P xs → list_all q xs ≡ true
+pub each-all : (P : Row → Type 0) (q : Row → Bool) → ((row : Row) → P row → q row ≡ true) → (xs : List Row) → AllByRecursion P xs → list_all q xs ≡ true
 each-all P q f [] h = refl
 each-all P q f (x ∷ xs) h = and-both (q x) (list_all q xs) (f x h.0) (each-all P q f xs h.1)
 

@@ -80,7 +80,7 @@ any-witness f (x ∷ xs) t = ⊎_elim
     (λ h. let k = any-witness f xs h in (k.0, or-right (k.0 == x) (contains xs k.0) k.1, k.2))
     (or-cases (f x) (list_any f xs) t)
 
-within-equal : (e : Equality) (cols kept : List ℕ) → within_equally e cols kept ≡ true → (cs : List ℕ) × (within cs kept ≡ true) × (equal_lists e cols cs ≡ true)
+pub within-equal : (e : Equality) (cols kept : List ℕ) → within_equally e cols kept ≡ true → (cs : List ℕ) × (within cs kept ≡ true) × (equal_lists e cols cs ≡ true)
 within-equal e [] kept t = ([], refl, refl)
 within-equal e (c ∷ cols) kept t =
     let k = any-witness (e c) kept (and-left (list_any (e c) kept) (within_equally e cols kept) t) in
@@ -116,7 +116,7 @@ pub sources-cons : (k : Copying) (d : ℕ) (ds : List ℕ) (y : ℕ) (ys : List 
 sources-cons k d ds y ys a b = ap₂ cons_both a b
 
 -- columns that stand: their copies at the input are equal to those that are stood for
-stand-columns : (w : ℕ) (k : Copying) (e f : Equality) (cols xs : List ℕ) → stand_for w k e f cols xs ≡ true
+pub stand-columns : (w : ℕ) (k : Copying) (e f : Equality) (cols xs : List ℕ) → stand_for w k e f cols xs ≡ true
     → (ds ys : List ℕ) × (sources k ds ≡ Some ys) × (equal_lists f ds cols ≡ true) × (equal_lists e ys xs ≡ true)
 stand-columns w k e f [] [] t = ([], [], refl, refl, refl)
 stand-columns w k e f [] (x ∷ xs) t = absurd (true≢false (sym t))

@@ -14,7 +14,7 @@ use Rattle.vx_exec_laws.proofs.Bags.{and-left, and-right}
 use Rattle.vx_exec_laws.proofs.Parts.{size_eq-is}
 
 -- what a producer sends are rows of its own
-sent-each : (P : Row → Type 0) (goes : Routing) (k : ExchangeKind) (n : ℕ) (xs : List Row) (sent : Streams) → Sends goes k n xs sent → AllByRecursion P xs
+pub sent-each : (P : Row → Type 0) (goes : Routing) (k : ExchangeKind) (n : ℕ) (xs : List Row) (sent : Streams) → Sends goes k n xs sent → AllByRecursion P xs
     → (j : ℕ) → j < n → AllByRecursion P (sent j)
 sent-each P goes (route_to z r cols) n xs sent h each j l = subst (AllByRecursion P) (h j l) (each-filter P P (λ row. goes r (pick cols row) n == j) (λ x e k. k) xs each)
 sent-each P goes (round z) n xs sent h each j l = each-dealt P n xs sent h each j l

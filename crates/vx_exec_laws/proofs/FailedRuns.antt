@@ -38,7 +38,7 @@ abides-group = record {
   ended = λ e. absurd (not-ended e);
   passes = λ f e. absurd (ended-failed f e);
   tests = tt;
-  holds_back = inl refl;
+  holds_back = inr refl;
   blame = λ f e.
       let P : Fault → Type 0 = λ x. OwnBlame (one_op 0 (group plain [] (sum 0 ∷ []))) grouping x in
       inr (subst P (same-fault (Own Overflow 0) f e) (refl, refl, inl refl));

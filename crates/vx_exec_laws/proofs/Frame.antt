@@ -26,7 +26,7 @@ use Rattle.vx_exec_laws.proofs.Opened.{listed_rows, opened, opened-as}
 use Rattle.vx_exec_laws.proofs.Phased.{by-phase}
 use Rattle.vx_exec_laws.proofs.Pieces.{final-fits}
 use Rattle.vx_exec_laws.proofs.Operators.{whole}
-use Rattle.vx_exec_laws.proofs.OneInput.{FitsInput, tests, Holding, HoldingAt, fitting-at, scan-holds, unary-holds, close, exchange-holds}
+use Rattle.vx_exec_laws.proofs.OneInput.{FitsStreams, tests, Holding, HoldingAt, fitting-from, scan-holds, unary-holds, close, exchange-holds}
 use Rattle.vx_exec_laws.proofs.TwoInputs.{binary-holds}
 use Rattle.vx_exec_laws.proofs.WellFormed.{well-under, well-both, well-phased, names}
 
@@ -63,16 +63,16 @@ module _ (catalog : ℕ → Relation) (db : ℕ → List Row) (sizes : ℕ → �
   group-fit : (by : List ℕ) (aggregates : List Aggregate) (xs : List Row) → list_all (group_fits by aggregates xs) (group_keys by xs) ≡ true → IsSome (group_rows by aggregates xs)
   group-fit by aggregates xs e = some-list (group_rows by aggregates xs) (groups by aggregates xs) (ap (λ b. cond b (Some (groups by aggregates xs)) None) e)
 
-  operator-fits : (op : Unary) → (is_partial op || is_final op) ≡ false → (p : Plan) (s : Streams) (ih : Holding db sizes goes p s) → FitsInput op p
+  operator-fits : (op : Unary) → (is_partial op || is_final op) ≡ false → (p : Plan) (s : Streams) (ih : Holding db sizes goes p s) → FitsStreams catalog db sizes goes given op p s
       → (xs : List Row) → unary_rows op ih.base ≡ Some xs → (w : ℕ) → w < workers sizes (size p) → IsSome (unary_rows op (s w))
   operator-fits op e p s ih fit xs g w l = ⊎_elim
       (λ f. let m = (whole goes op e).of_bags ih.base (s w) xs (SameRows-sym (f.0 w l)) g in some-list (unary_rows op (s w)) m.out m.is)
       (λ f. (whole goes op e).splits (workers sizes (size p)) s ih.base xs f.0 f.1 g w l)
-      (fitting-at catalog db sizes goes given op p s (λ xs. SameRows xs ih.base) ih.holds.part fit)
+      (fitting-from catalog db sizes goes given op p s (λ xs. SameRows xs ih.base) ih.holds.part fit)
 
   -- a final over parts of groups that fit
   final-fit : (keys : List ℕ) (puts : List Aggregate) (p : Plan) (s : Streams) (ih : HoldingAt db sizes goes p s) → opens keys puts p ≡ true
-      → FitsInput (group final keys puts) p
+      → FitsStreams catalog db sizes goes given (group final keys puts) p s
       → (ys : List Row) → serial db p ≡ rows ys → (w : ℕ) → w < workers sizes (size p) → IsSome (group_rows keys puts (s w))
   final-fit keys puts p s ih e fit ys h w l =
       let o = opened keys puts p e in
@@ -84,7 +84,7 @@ module _ (catalog : ℕ → Relation) (db : ℕ → List Row) (sizes : ℕ → �
       group-fit keys puts (s w) (⊎_elim
       (λ f. each (s w) (f.0 w l))
       (λ f. fits-split goes f.0.0 f.0.1 keys puts n s (joined n s) f.0.2 (SameRows-refl (joined n s)) f.0.3 (each (joined n s) f.1) w l)
-      (fitting-at catalog db sizes goes given (group final keys puts) p s (λ xs. Gives p ih.base xs) ih.holds.part fit))
+      (fitting-from catalog db sizes goes given (group final keys puts) p s (λ xs. Gives p ih.base xs) ih.holds.part fit))
     where
       fitted : (by : List ℕ) (aggregates : List Aggregate) (j : ℕ) → or_overflow j (listed_rows by aggregates (listed p) ih.base) ≡ rows ys → list_all (group_fits by aggregates ih.base) (group_keys by ih.base) ≡ true
       fitted by aggregates j e = go (list_all (group_fits by aggregates ih.base) (group_keys by ih.base)) e
@@ -155,15 +155,13 @@ module _ (catalog : ℕ → Relation) (db : ℕ → List Row) (sizes : ℕ → �
           go true h = omega arith
           go false h = omega arith
 
-  pub no-overflow-at : (k : ℕ) (c : Claim) (op : Unary) (p : Plan) (u : Streams) → well_formed catalog (unary k c op p) ≡ true → allowed catalog (unary k c op p) ≡ true → Runs db sizes goes p u
+  -- where the claim of the input holds, and its streams fit the operator
+  pub no-overflow-from : (k : ℕ) (c : Claim) (op : Unary) (p : Plan) (u : Streams) → well_formed catalog (unary k c op p) ≡ true → HoldingAt db sizes goes p u → FitsStreams catalog db sizes goes given op p u
       → (xs : List Row) → serial db (unary k c op p) ≡ rows xs → (w : ℕ) → w < workers sizes (size p)
       → IsSome (unary_rows op (u w)) ⊎ (HasLargeInput op (serial db p) ⊎ IsTooLong op (serial db p))
-  no-overflow-at k c op p u wf ok run xs e w l =
-      let here : Bool = allowed_here catalog (unary k c op p) in
-      let h = all-hold p u (well-under catalog k c op p wf).0 (and-left (allowed catalog p) here ok) run in
-      let t = tests catalog (unary k c op p) (and-right (allowed catalog p) here ok) in
+  no-overflow-from k c op p u wf h fit xs e w l =
       by-phase
-      (λ op f. f.fits p ≡ true → FitsInput op p → serial db (unary k c op p) ≡ rows xs
+      (λ op f. f.fits p ≡ true → FitsStreams catalog db sizes goes given op p u → serial db (unary k c op p) ≡ rows xs
       → IsSome (unary_rows op (u w)) ⊎ (HasLargeInput op (serial db p) ⊎ IsTooLong op (serial db p)))
       (λ op v f t e.
       let ih = own_rows h f in
@@ -175,13 +173,13 @@ module _ (catalog : ℕ → Relation) (db : ℕ → List Row) (sizes : ℕ → �
       (λ bad. subst P (sym ih.is_serial) (partial-large by aggregates (u w) ih.base (λ f. stream-most goes (claim p).part (workers sizes (size p)) u (λ xs. SameRows xs ih.base) f (total f ih.base) (λ xs e. let k = e.totals f in omega (arith, k)) ih.holds.part w l) bad)))
       (λ cols f t e. inl refl)
       (λ by aggregates f t e. inl (below by aggregates (serial db p) refl h f t e))
-      op (well-under catalog k c op p wf).1 t.2 e
+      op (well-under catalog k c op p wf).1 fit e
     where
       own_rows : HoldingAt db sizes goes p u → not (is_open p) ≡ true → Holding db sizes goes p u
       own_rows h f = close catalog db sizes goes given p u (well-phased catalog p (well-under catalog k c op p wf).0) (not-true (is_open p) f) h
 
       below : (by : List ℕ) (aggregates : List Aggregate) (o : SerialResult) → serial db p ≡ o → HoldingAt db sizes goes p u → opens by aggregates p ≡ true
-          → FitsInput (group final by aggregates) p → after o (λ ys. or_overflow k (group_rows by aggregates ys)) ≡ rows xs → IsSome (group_rows by aggregates (u w))
+          → FitsStreams catalog db sizes goes given (group final by aggregates) p u → after o (λ ys. or_overflow k (group_rows by aggregates ys)) ≡ rows xs → IsSome (group_rows by aggregates (u w))
       below by aggregates (overflow m) g h f t e = cc
       below by aggregates (rows ys) g h f t e = final-fit by aggregates p u h f t ys g w l
 
@@ -192,7 +190,11 @@ module _ (catalog : ℕ → Relation) (db : ℕ → List Row) (sizes : ℕ → �
       decide by aggregates false e bad = inr (bad e)
 
 pub no-overflow : NoOverflow
-no-overflow catalog db sizes goes given n c op p u = no-overflow-at catalog db sizes goes given n c op p u
+no-overflow catalog db sizes goes given n c op p u wf ok run =
+    let here : Bool = allowed_here catalog (unary n c op p) in
+    let h = all-hold catalog db sizes goes given p u (well-under catalog n c op p wf).0 (and-left (allowed catalog p) here ok) run in
+    let t = tests catalog (unary n c op p) (and-right (allowed catalog p) here ok) in
+    no-overflow-from catalog db sizes goes given n c op p u wf h (inl t.2)
 
 -- the plan that a claim speaks of is well formed
 pub well-spoken : (catalog : ℕ → Relation) (p : Plan) → well_formed catalog p ≡ true → well_formed catalog (spoken p) ≡ true

@@ -1,40 +1,22 @@
--- The theorems on runs and faults, from traces by the workers' numbers.
-use Rattle.std.proofs.Common.{◌≡◌, inl, inr, ⊎_elim, ℕ, ◌+◌, ◌<◌, true, false, List, sym, subst, arith}
-use Rattle.vx_rows_values.specs.Values.{Row}
+-- From a failure by the worker's number to one by fragments; and overflows, from traces by the workers' numbers.
+use Rattle.std.proofs.Common.{◌≡◌, ◌⊎◌, inl, inr, ⊎_elim, ℕ, ◌+◌, true, false}
 use Rattle.vx_plan_nodes.specs.Plan.{Plan, scan, unary, binary, exchange, size, is_one}
 use Rattle.vx_plan_nodes.specs.Streams.{workers}
+use Rattle.vx_plan_nodes.specs.Real.{IsReal}
 use Rattle.vx_ops.specs.declared.fault.Code.TheVariants.{Overflow}
 use Rattle.vx_ops.specs.declared.fault.Fault.{Fault}
 use Rattle.vx_ops.specs.declared.fault.Fault.TheVariants.{Own}
-use Rattle.vx_worker.specs.Fragment.{RunModel, goes, fragment}
-use Rattle.vx_worker.specs.Trace.{Trace, IsWell, Ends}
-use Rattle.vx_exchange_ends.specs.Tasks.{keep}
-use Rattle.vx_exec_laws.specs.RunOf.{Made}
-use Rattle.vx_exec_laws.specs.Layout.{FlatRun, NumberedRunDelivers}
+use Rattle.vx_worker.specs.Fragment.{RunModel, IsSet}
+use Rattle.vx_worker.specs.Trace.{Trace, failed, Ends}
+use Rattle.vx_exec_laws.specs.Layout.{FlatRun}
 use Rattle.vx_plan_nodes.specs.Workers.{workers_below}
-use Rattle.vx_exec_laws.specs.Faults.{FailsBelow, FlatFails, NumberedFaultsAreReal}
-use Rattle.vx_exec_laws.proofs.Bags.{and-left}
-use Rattle.vx_exec_laws.proofs.Parts.{one-worker}
+use Rattle.vx_exec_laws.specs.Faults.{FailsBelow, FlatFails, SomeFails}
+use Rattle.vx_exec_laws.specs.DerivedFaults.{NumberedOverflowsDerived}
 use Rattle.vx_exec_laws.proofs.Settings.{set-given}
-use Rattle.vx_exec_laws.proofs.Total.{sound-at-root}
-use Rattle.vx_exec_laws.proofs.WellRun.{well-made, well-runs}
 use Rattle.vx_exec_laws.proofs.Layouts.{flat-to-run}
-use Rattle.vx_exec_laws.proofs.Overflows.{ends-with, below, real-erased}
-use Rattle.vx_exec_laws.proofs.OrderFaults.{ends-so, below-so}
-
-pub numbered-run-delivers : NumberedRunDelivers
-numbered-run-delivers S set is_total p fit wf shut ok root ts rows h =
-    let n1 : workers S.sizes (size p) ≡ 1 = one-worker S.sizes (size p) (and-left (is_one (size p)) _ root) in
-    let Q : List Row → Type 0 = λ xs. Made S (fragment S 0 p) (ts 0) xs in
-    let made : Made S (fragment S 0 p) (ts 0) rows = subst Q (sym h.root.finished.0) (well-made S 0 p (keep rows) (ts 0) h.root) in
-    let runs = well-runs S set p fit (λ w. ts (0 + w)) (λ w. rows)
-    (λ w l.
-    let P : ℕ → Type 0 = λ m. w < m in
-    let z : w < 1 = subst P n1 l in
-    let w0 : 0 ≡ w = omega (arith, z) in
-    let R : ℕ → Type 0 = λ v. Made S (fragment S v p) (ts (0 + v)) rows in
-    subst R w0 made) (flat-to-run S (IsWell S) ts p 0 1 h.below) in
-    (runs, sound-at-root S.catalog S.db S.sizes (goes S) (set-given S set) is_total p (λ w. rows) wf shut ok root runs)
+use Rattle.vx_exec_laws.proofs.Inherited.{IsAllowed, IsAllowedDerived}
+use Rattle.vx_exec_laws.proofs.Tables.{Table, first-table, second-table}
+use Rattle.vx_exec_laws.proofs.Overflows.{overflow-of-run}
 
 -- a failure by number is a failure by fragments
 flat-fails : (S : RunModel) (f : Fault) (ts : ℕ → Trace) (p : Plan) (top next : ℕ) (run : FlatRun S (Ends S) ts p top next)
@@ -47,24 +29,18 @@ flat-fails S f ts (binary n c op p q) top next run h =
 flat-fails S f ts (exchange n c k merge p) top next run h =
     ⊎_elim (λ a. inl a) (λ b. inr (flat-fails S f ts p next (next + workers S.sizes (size p)) run.0 b)) h
 
-pub numbered-faults-are-real : NumberedFaultsAreReal
-numbered-faults-are-real = record {
-  overflow = λ S set p fit wf ok single ts node h.
-      let giv = set-given S set in
-      let run = flat-to-run S (Ends S) ts p 0 1 h.below in
-      let n1 : workers S.sizes (size p) ≡ 1 = one-worker S.sizes (size p) single in
-      let P : ℕ → Type 0 = λ m. 0 < m in
-      real-erased S.catalog S.db p wf (⊎_elim
-      (λ e. ends-with S giv set.some_morsel p fit wf ok (λ w. ts (0 + w)) run 0 (subst P (sym n1) (omega arith)) (keep h.kept) node h.root.0 h.root.1 e)
-      (λ b. below S giv set.some_morsel p fit wf ok (λ w. ts (0 + w)) run node (flat-fails S (Own Overflow node) ts p 0 1 h.below b))
-      h.fails);
-  order = λ S set p fit wf ok single ts f o h.
-      let giv = set-given S set in
-      let run = flat-to-run S (Ends S) ts p 0 1 h.below in
-      let n1 : workers S.sizes (size p) ≡ 1 = one-worker S.sizes (size p) single in
-      let P : ℕ → Type 0 = λ m. 0 < m in
-      ⊎_elim
-      (λ e. ends-so S giv p fit wf ok (λ w. ts (0 + w)) run 0 (subst P (sym n1) (omega arith)) (keep h.kept) f o h.root.0 h.root.1 e)
-      (λ b. below-so S giv p fit wf ok (λ w. ts (0 + w)) run f o (flat-fails S f ts p 0 1 h.below b))
-      h.fails;
-}
+-- some worker of a run failed, and the run and the worker by fragments
+pub fails-so : (S : RunModel) (p : Plan) (ts : ℕ → Trace) (f : Fault) (h : SomeFails S p ts f)
+    → (h.root.0 ≡ failed f) ⊎ FailsBelow S f p (λ w. ts (0 + w)) (flat-to-run S (Ends S) ts p 0 1 h.below)
+fails-so S p ts f h = ⊎_elim (λ e. inl e) (λ b. inr (flat-fails S f ts p 0 1 h.below b)) h.fails
+
+numbered-overflow : (S : RunModel) (set : IsSet S) (Has : Plan → Type 0) → Table S (set-given S set) Has → (p : Plan) → Has p → is_one (size p) ≡ true
+    → (ts : ℕ → Trace) (node : ℕ) → SomeFails S p ts (Own Overflow node) → IsReal S.db p
+numbered-overflow S set Has table p ok single ts node h =
+    overflow-of-run S (set-given S set) set.some_morsel Has table p ok single (λ w. ts (0 + w)) h.kept h.root (flat-to-run S (Ends S) ts p 0 1 h.below) node (fails-so S p ts (Own Overflow node) h)
+
+pub numbered-overflows : (S : RunModel) → IsSet S → (p : Plan) → IsAllowed S p → is_one (size p) ≡ true → (ts : ℕ → Trace) (node : ℕ) → SomeFails S p ts (Own Overflow node) → IsReal S.db p
+numbered-overflows S set p ok single ts node h = numbered-overflow S set (IsAllowed S) (first-table S (set-given S set)) p ok single ts node h
+
+pub numbered-overflows-derived : NumberedOverflowsDerived
+numbered-overflows-derived S set p fit wf ins ok single ts node h = numbered-overflow S set (IsAllowedDerived S) (second-table S (set-given S set)) p (fit, (wf, (ins, ok))) single ts node h

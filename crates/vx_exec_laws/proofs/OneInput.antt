@@ -1,5 +1,5 @@
 -- The claims of scans, of nodes with one input, and of exchanges.
-use Rattle.std.proofs.Common.{◌≡◌, ℕ, ◌+◌, ◌<◌, Bool, true, false, cond, ◌&&◌, ◌||◌, ⊎_elim, List, [], ◌∷◌, ◌++◌, map, length, refl, sym, ap, ◌∙◌, subst, arith, true≢false, Option, Some, None, ◌⊎◌, inl, inr, zero, suc, ◌≤◌, ap₂, slice_get, not}
+use Rattle.std.proofs.Common.{◌≡◌, ℕ, ◌+◌, ◌<◌, Bool, true, false, cond, ◌||◌, ⊎_elim, List, [], ◌∷◌, ◌++◌, map, length, refl, sym, ap, ◌∙◌, subst, arith, true≢false, Option, Some, None, ◌⊎◌, inl, inr, zero, suc, ◌≤◌, ap₂, slice_get, not}
 use Rattle.std.proofs.lemmas.Bool.{not-true}
 use Rattle.std.specs.List.{list_all, list_any}
 use Rattle.vx_rows_values.specs.Values.{Row, pick}
@@ -21,7 +21,8 @@ use Rattle.vx_check_rules.specs.Behaviour.{sources, order_after, way, own, bare,
 use Rattle.vx_check_rules.specs.Claims.{PartHolds, Given, PartOf, ClaimOf}
 use Rattle.vx_check_rules.proofs.Exact.{fits-exactly, parts-exactly, sources-kept, unary-gives}
 use Rattle.vx_check_rules.proofs.Bools.{or-false, or-left, any-if}
-use Rattle.vx_exec_laws.proofs.Bags.{SameRows-sym, and-left, and-right, SameRows-refl, SameRows-trans}
+pub use Rattle.vx_check_rules.proofs.DerivedMore.{seven}
+use Rattle.vx_exec_laws.proofs.Bags.{SameRows-sym, and-left, SameRows-refl, SameRows-trans}
 use Rattle.vx_exec_laws.proofs.Parts.{InRange, single-of, from_single-of, has-part, one-worker, some-workers, or-cases}
 use Rattle.vx_exec_laws.proofs.Orders.{sorted-front, Dealt-sorted}
 use Rattle.vx_exec_laws.proofs.Keys.{covers-key, keys-from}
@@ -38,16 +39,6 @@ use Rattle.vx_exec_laws.proofs.Concat.{ranged, exchange-sorted}
 use Rattle.vx_exec_laws.proofs.Operators.{Made, Meets, Whole, whole, keeps, unary-order}
 use Rattle.vx_exec_laws.proofs.Phased.{by-phase}
 use Rattle.vx_exec_laws.proofs.Places.{part-placed, had-place, unary-place, shown-part, made-gives}
-
-pub seven : (a b c d e f g : Bool) → (a && (b && (c && (d && (e && (f && g)))))) ≡ true
-    → (a ≡ true) × (b ≡ true) × (c ≡ true) × (d ≡ true) × (e ≡ true) × (f ≡ true) × (g ≡ true)
-seven a b c d e f g h =
-    let h1 = and-right a (b && (c && (d && (e && (f && g))))) h in
-    let h2 = and-right b (c && (d && (e && (f && g)))) h1 in
-    let h3 = and-right c (d && (e && (f && g))) h2 in
-    let h4 = and-right d (e && (f && g)) h3 in
-    let h5 = and-right e (f && g) h4 in
-    (and-left a _ h, and-left b _ h1, and-left c _ h2, and-left d _ h3, and-left e _ h4, and-left f _ h5, and-right f g h5)
 
 -- each test at a node; those of its inputs and of its part by its behaviour
 pub tests : (catalog : ℕ → Relation) (p : Plan) → allowed_here catalog p ≡ true
@@ -127,7 +118,7 @@ module _ (catalog : ℕ → Relation) (db : ℕ → List Row) (sizes : ℕ → �
   abbrev pub FitsStreams : Unary → Plan → Streams → Type 0
   FitsStreams op p s = FitsInput op p ⊎ (Meets goes (described op).meets (workers sizes (size p)) s × (has p any ≡ true))
 
-  fitting-from : (op : Unary) (p : Plan) (s : Streams) (stands : List Row → Type 0) → PartOf goes (claim p).part (workers sizes (size p)) s stands
+  pub fitting-from : (op : Unary) (p : Plan) (s : Streams) (stands : List Row → Type 0) → PartOf goes (claim p).part (workers sizes (size p)) s stands
       → FitsStreams op p s → Fitting goes (described op).meets (is_one (size p)) (claim p).part (workers sizes (size p)) s stands
   fitting-from op p s stands h fit = ⊎_elim (λ e. fitting-at op p s stands h e)
       (λ m. inr (m.0, has-part goes given.in_range (is_one (size p)) (claim p).part any (workers sizes (size p)) s stands (one-worker sizes (size p)) m.1 h)) fit

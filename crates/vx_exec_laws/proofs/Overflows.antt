@@ -4,10 +4,9 @@ use Rattle.std.proofs.Common.{◌≡◌, ◌⊎◌, inl, inr, ⊎_elim, ℕ, zer
 use Rattle.vx_rows_values.specs.Values.{Row}
 use Rattle.vx_rows_values.specs.Order.{sorted}
 use Rattle.vx_rows_values.specs.Bags.{SameRows}
-use Rattle.vx_plan_nodes.specs.Plan.{Size, ExchangeKind, target, Claim, Unary, select, project, distinct, sort, group, Binary, union, join, Aggregate, Plan, scan, unary, binary, exchange, size, claim, size_eq, Phase, plain, partial, final, route_to, round, broadcast, gather, concat}
-use Rattle.vx_plan_nodes.specs.Types.{width, well_formed, names_columns}
+use Rattle.vx_plan_nodes.specs.Plan.{Size, ExchangeKind, target, is_one, Claim, Unary, select, project, distinct, sort, group, Binary, union, join, Aggregate, Plan, scan, unary, binary, exchange, size, claim, size_eq, Phase, plain, partial, final, route_to, round, broadcast, gather, concat}
+use Rattle.vx_plan_nodes.specs.Types.{well_formed}
 use Rattle.vx_plan_nodes.specs.Serial.{unary_rows, binary_rows, group_rows, SerialResult, rows, overflow, or_overflow, after, serial, IsOverflow, IsTooLong, HasTooLong, HasLargePart}
-use Rattle.vx_check_rules.specs.Rules.{allowed, allowed_here}
 use Rattle.vx_plan_nodes.specs.Streams.{Streams, workers, joined, Dealt}
 use Rattle.vx_plan_nodes.specs.Runs.{Runs, is_concat}
 use Rattle.vx_check_rules.specs.Claims.{Given}
@@ -21,18 +20,20 @@ use Rattle.vx_exchange_ends.specs.Tasks.{keep, send, Task}
 use Rattle.vx_exec_laws.specs.RunOf.{ship_of, RunOf}
 use Rattle.vx_plan_nodes.specs.Numbering.{is_fit}
 use Rattle.vx_exec_laws.specs.Faults.{FailsBelow, OverflowIsReal}
+use Rattle.vx_exec_laws.specs.DerivedFaults.{OverflowIsRealDerived}
 use Rattle.vx_plan_nodes.specs.Real.{IsReal}
 use Rattle.vx_ops.specs.declared.fault.Code.TheVariants.{Overflow}
 use Rattle.vx_ops.specs.declared.fault.Fault.TheVariants.{Own}
 use Rattle.vx_ops.specs.declared.fault.StreamState.TheVariants.{Failed}
 use Rattle.vx_exec_laws.proofs.Bags.{total-ones, and-left, and-right}
 use Rattle.vx_exec_laws.proofs.Parts.{stream-most, some-workers, size_eq-is, one-worker}
-use Rattle.vx_exec_laws.proofs.Orders.{Dealt-one, sorted-front}
+use Rattle.vx_exec_laws.proofs.Orders.{Dealt-one}
 use Rattle.vx_exec_laws.proofs.Unary.{some-is}
 use Rattle.vx_exec_laws.proofs.Exchange.{sends-sorted}
-use Rattle.vx_exec_laws.proofs.OneInput.{tests, HoldingAt}
-use Rattle.vx_exec_laws.proofs.Frame.{all-hold, no-overflow-at}
-use Rattle.vx_exec_laws.proofs.WellFormed.{well-under, well-both, well-phased}
+use Rattle.vx_exec_laws.proofs.Frame.{no-overflow-from}
+use Rattle.vx_exec_laws.proofs.Inherited.{IsAllowed, IsAllowedDerived}
+use Rattle.vx_exec_laws.proofs.Tables.{Table, first-table, second-table}
+use Rattle.vx_exec_laws.proofs.WellFormed.{well-under, well-phased}
 use Rattle.vx_exec_laws.proofs.Erased.{erased-overflows}
 use Rattle.vx_exec_laws.proofs.Settings.{set-given}
 use Rattle.vx_exec_laws.proofs.Choose.{choose, one-more}
@@ -78,7 +79,7 @@ stream-end (p ∷ ps) qs s e = ap (λ xs. p ∷ xs) (go (closes p.content) (is_c
     go false b f h k = f h k
 
 -- what was read of a producer, where Last was, is all that the producer put
-read-whole : (put taken seen : List PacketView) → Flows put taken → IsBeginning seen taken → has_last seen ≡ true → seen ≡ put
+pub read-whole : (put taken seen : List PacketView) → Flows put taken → IsBeginning seen taken → has_last seen ≡ true → seen ≡ put
 read-whole put taken seen f b h =
     let P : List PacketView → Type 0 = λ ps. has_last ps ≡ true in
     let all : taken ≡ put = whole-flow put taken f (subst P b.joined (append-last seen b.rest h)) in
@@ -87,7 +88,7 @@ read-whole put taken seen f b h =
     stream-end seen b.rest (subst Q (sym e) f.stream) (last-closed seen h) ∙ e
 
 -- a producer that put Last was well
-ends-well : (S : RunModel) (f : Frag) (s : Ship) (t : Trace) (j : ℕ) → j < s.consumers → Ends S f (send s) t → has_last (t.sent j) ≡ true → IsWell S f (send s) t
+pub ends-well : (S : RunModel) (f : Frag) (s : Ship) (t : Trace) (j : ℕ) → j < s.consumers → Ends S f (send s) t → has_last (t.sent j) ≡ true → IsWell S f (send s) t
 ends-well S f s t j l h e = go h.0 h.1
   where
     go : (fate : Fate) → Honest S f (send s) fate t → IsWell S f (send s) t
@@ -246,9 +247,29 @@ module _ (S : RunModel) (giv : Given S.catalog S.db S.sizes (goes S)) (some : 0 
       = λ i l. came-well n c k merge p 0 first (ts 0) top.0 top.1 i l (run.0 i) (run.3 i 0 l first) (run.2 i l) in
       (run.0, all-well p fit run.0 (λ i l. well-maker S i p (send (ship_of S n i k p)) (run.0 i) (wells i l)) run.1, wells, run.3)
 
-  not-overflow : (n : ℕ) (c : Claim) (op : Unary) (p : Plan) (u : Streams) → well_formed S.catalog (unary n c op p) ≡ true → allowed S.catalog (unary n c op p) ≡ true
+  -- an open node whose partial takes too long a list
+  open-long : (keys : List ℕ) (puts : List Aggregate) (p : Plan) → opens keys puts p ≡ true → (base : List Row) → serial S.db (spoken p) ≡ rows base → 4611686018427387904 < length base → HasTooLong S.db p
+  open-long keys puts (scan n c r m z) e base h l = absurd (true≢false (sym e))
+  open-long keys puts (unary n c op p) e base h l = by-phase
+      (λ op f. f.is_of keys puts (opens keys puts p) ≡ true → serial S.db (f.spoken_of p (spoken p) (unary n c op p)) ≡ rows base → HasTooLong S.db (unary n c op p))
+      (λ op w e h. absurd (true≢false (sym e)))
+      (λ by aggregates e h. let P : SerialResult → Type 0 = λ o. IsTooLong (group partial by aggregates) o in inr (subst P (sym h) l))
+      (λ cols e h. inl (open-long keys puts p (and-right (all_below (length keys) cols) (opens keys puts p) e) base h l))
+      (λ by aggregates e h. absurd (true≢false (sym e))) op e h
+  open-long keys puts (binary n c op p q) e base h l = absurd (true≢false (sym e))
+  open-long keys puts (exchange n c k m p) e base h l = open-long keys puts p e base h l
+
+real-erased : (catalog : ℕ → Relation) (db : ℕ → List Row) (p : Plan) → well_formed catalog p ≡ true → Overflows db p → IsReal db p
+real-erased catalog db p wf h = ⊎_elim (λ o. inl ((erased-overflows catalog db p wf).0 o)) (λ l. inr l) h
+
+module _ (S : RunModel) (giv : Given S.catalog S.db S.sizes (goes S)) (some : 0 < S.morsel) (Has : Plan → Type 0) (table : Table S giv Has) where
+  -- the inputs of a node have one size
+  same-size : (n : ℕ) (c : Claim) (op : Binary) (p q : Plan) → Has (binary n c op p q) → size p ≡ size q
+  same-size n c op p q ok = size_eq-is (size p) (size q) (and-left (size_eq (size p) (size q)) (is_fit S.relation_of p && is_fit S.relation_of q) (table.fit (binary n c op p q) ok))
+
+  not-overflow : (n : ℕ) (c : Claim) (op : Unary) (p : Plan) (u : Streams) → Has (unary n c op p)
       → Runs S.db S.sizes (goes S) p u → (w : ℕ) → w < workers S.sizes (size p) → unary_rows op (u w) ≡ None → Overflows S.db (unary n c op p)
-  not-overflow n c op p u wf ok run w l none = go (serial S.db (unary n c op p)) refl
+  not-overflow n c op p u ok run w l none = go (serial S.db (unary n c op p)) refl
     where
       no : (x : Option (List Row)) → x ≡ None → IsSome x → ⊥
       no None e k = true≢false (sym k)
@@ -258,38 +279,33 @@ module _ (S : RunModel) (giv : Given S.catalog S.db S.sizes (goes S)) (some : 0 
       go (rows xs) e = ⊎_elim
           (λ some. absurd (no (unary_rows op (u w)) none some))
           (λ x. ⊎_elim (λ large. inr (inr (inr large))) (λ long. inr (inl (inr long))) x)
-          (no-overflow-at S.catalog S.db S.sizes (goes S) giv n c op p u wf ok run xs e w l)
+          (no-overflow-from S.catalog S.db S.sizes (goes S) giv n c op p u (table.well (unary n c op p) ok) (table.holds p u (table.inherited.input n c op p ok) run) (table.fits n c op p u ok run) xs e w l)
       go (overflow m) e = let P : SerialResult → Type 0 = λ o. IsOverflow o in inl (subst P (sym e) tt)
 
   -- a worker whose inputs were whole has its list in a run of the plan, or the plan itself overflows
-  complete : (p : Plan) → is_fit S.relation_of p ≡ true → well_formed S.catalog p ≡ true → allowed S.catalog p ≡ true
-      → (ts : ℕ → Trace) → RunOf S (Ends S) p ts → (w : ℕ) → w < workers S.sizes (size p) → (out : List Row) → MadeOf S (fragment S w p) (ts w) out
+  complete : (p : Plan) → Has p → (ts : ℕ → Trace) → RunOf S (Ends S) p ts → (w : ℕ) → w < workers S.sizes (size p) → (out : List Row) → MadeOf S (fragment S w p) (ts w) out
       → ((u : Streams) × Runs S.db S.sizes (goes S) p u × (u w ≡ out)) ⊎ Overflows S.db p
-  complete (scan n c r true z) fit wf ok ts run w l out h =
-      let e = scan-read n c r true z w (ts w) out fit h in
+  complete (scan n c r true z) ok ts run w l out h =
+      let e = scan-read S giv some n c r true z w (ts w) out (table.fit (scan n c r true z) ok) h in
       inl (
         λ v. morsels (morsel_of S.morsel (S.db r)) ((ts v).drew n).numbers,
         dispatched-dealt S.morsel (S.db r) (workers S.sizes z) (λ v. (ts v).drew n) some (some-workers S.sizes giv.some_workers z) run w l e.1,
         e.0,
       )
-  complete (scan n c r false z) fit wf ok ts run w l out h =
-      let e = scan-read n c r false z w (ts w) out fit h in
+  complete (scan n c r false z) ok ts run w l out h =
+      let e = scan-read S giv some n c r false z w (ts w) out (table.fit (scan n c r false z) ok) h in
       inl (λ v. S.db r, λ v k. refl, Dealt-one (dispatched-dealt S.morsel (S.db r) 1 (λ v. (ts w).drew n) some (omega arith) (run w l) 0 (omega arith) e.1) ∙ e.0)
-  complete (unary n c op p) fit wf ok ts run w l out h =
-      let here : Bool = allowed_here S.catalog (unary n c op p) in
+  complete (unary n c op p) ok ts run w l out h =
       ⊎_elim
       (λ got. ⊎_elim
       (λ s. inl (s.0, (got.0, got.1, s.1), some-is _ _ (sym (s.1 w l) ∙ ap (unary_rows op) got.2 ∙ h.makes.2)))
-      (λ none. inr (not-overflow n c op p got.0 wf ok got.1 none.0 none.1 none.2))
+      (λ none. inr (not-overflow n c op p got.0 ok got.1 none.0 none.1 none.2))
       (all-some (workers S.sizes (size p)) (λ v. unary_rows op (got.0 v))))
       (λ real. inr (real-unary S.db n c op p real))
-      (complete p fit (well-under S.catalog n c op p wf).0 (and-left (allowed S.catalog p) here ok) ts run w l h.makes.0.left.rows
+      (complete p (table.inherited.input n c op p ok) ts run w l h.makes.0.left.rows
       (record { reads = h.reads; reads_begin = h.reads_begin; makes = h.makes.1 }))
-  complete (binary n c op p q) fit wf ok ts run w l out h =
-      let here : Bool = allowed_here S.catalog (binary n c op p q) in
-      let rest = and-right (allowed S.catalog p) (allowed S.catalog q && here) ok in
-      let same : size p ≡ size q = size_eq-is (size p) (size q) (and-left (size_eq (size p) (size q)) _ fit) in
-      let fits = and-right (size_eq (size p) (size q)) (is_fit S.relation_of p && is_fit S.relation_of q) fit in
+  complete (binary n c op p q) ok ts run w l out h =
+      let same = same-size n c op p q ok in
       let P : Size → Type 0 = λ z. w < workers S.sizes z in
       ⊎_elim
       (λ left. ⊎_elim
@@ -299,31 +315,28 @@ module _ (S : RunModel) (giv : Given S.catalog S.db S.sizes (goes S)) (some : 0 
         ap (λ xs. binary_rows op xs (right.0 w)) left.2 ∙ ap (binary_rows op h.makes.0.left.rows) right.2 ∙ h.makes.3,
       ))
       (λ real. inr (real-right S.db n c op p q real))
-      (complete q (and-right (is_fit S.relation_of p) (is_fit S.relation_of q) fits) (well-both S.catalog n c op p q wf).1 (and-left (allowed S.catalog q) here rest) ts run.1 w (subst P same l) h.makes.0.right.rows
+      (complete q (table.inherited.right n c op p q ok) ts run.1 w (subst P same l) h.makes.0.right.rows
       (record { reads = h.reads; reads_begin = h.reads_begin; makes = h.makes.2 })))
       (λ real. inr (real-left S.db n c op p q real))
-      (complete p (and-left (is_fit S.relation_of p) (is_fit S.relation_of q) fits) (well-both S.catalog n c op p q wf).0 (and-left (allowed S.catalog p) (allowed S.catalog q && here) ok) ts run.0 w l h.makes.0.left.rows
+      (complete p (table.inherited.left n c op p q ok) ts run.0 w l h.makes.0.left.rows
       (record { reads = h.reads; reads_begin = h.reads_begin; makes = h.makes.1 }))
-  complete (exchange n c k merge p) fit wf ok ts run w l out h =
-      let here : Bool = allowed_here S.catalog (exchange n c k merge p) in
+  complete (exchange n c k merge p) ok ts run w l out h =
+      let fit = table.fit (exchange n c k merge p) ok in
       let m : ℕ = workers S.sizes (size p) in
       let us = run.0 in
       let wells : (i : ℕ) → i < m → IsWell S (fragment S i p) (send (ship_of S n i k p)) (us i)
-      = λ i a. came-well n c k merge p w l (ts w) out h i a (us i) (run.3 i w a l) (run.2 i a) in
-      let below : RunOf S (IsWell S) p us = all-well p fit us (λ i a. well-maker S i p (send (ship_of S n i k p)) (us i) (wells i a)) run.1 in
-      let u = choose (λ i (x : List Row × Streams). Produced S fit-sized n i k p (us i) x) ([], λ j. []) m (λ i a. produced S fit-sized n i k p (us i) (wells i a)) in
-      let runs : Runs S.db S.sizes (goes S) p (λ i. (u.0 i).0) = runs-of S fit-sized p fit us (λ i. (u.0 i).0) (λ i a. (u.1 i a).made) below in
-      let holds : HoldingAt S.db S.sizes (goes S) p (λ i. (u.0 i).0)
-      = all-hold S.catalog S.db S.sizes (goes S) giv p (λ i. (u.0 i).0) (and-left (well_formed S.catalog p) (names_columns (width S.catalog p) c) wf) (and-left (allowed S.catalog p) here ok) runs in
-      let test = tests S.catalog (exchange n c k merge p) (and-right (allowed S.catalog p) here ok) in
+      = λ i a. came-well S giv some n c k merge p w l (ts w) out h i a (us i) (run.3 i w a l) (run.2 i a) in
+      let below : RunOf S (IsWell S) p us = all-well S giv some p fit us (λ i a. well-maker S i p (send (ship_of S n i k p)) (us i) (wells i a)) run.1 in
+      let u = choose (λ i (x : List Row × Streams). Produced S (fit-sized S giv some) n i k p (us i) x) ([], λ j. []) m (λ i a. produced S (fit-sized S giv some) n i k p (us i) (wells i a)) in
+      let runs : Runs S.db S.sizes (goes S) p (λ i. (u.0 i).0) = runs-of S (fit-sized S giv some) p fit us (λ i. (u.0 i).0) (λ i a. (u.1 i a).made) below in
       let up : (j : ℕ) → j < workers S.sizes (target k) → (i : ℕ) → i < m → sorted merge ((u.0 i).1 j) ≡ true
-      = λ j b i a. sends-sorted (goes S) k (workers S.sizes (target k)) (u.0 i).0 (u.0 i).1 (u.1 i a).sends merge (sorted-front merge (claim p).order test.3 (u.0 i).0 (holds.holds.order.0 i a)) j b in
+      = λ j b i a. sends-sorted (goes S) k (workers S.sizes (target k)) (u.0 i).0 (u.0 i).1 (u.1 i a).sends merge (table.merges n c k merge p (λ i. (u.0 i).0) ok runs i a) j b in
       let own : Dealt m out (λ i. (u.0 i).1 w)
       = dealt-lists m out (λ i. rows_of (h.makes.0.came i)) (λ i. (u.0 i).1 w)
-      (λ i a. ap rows_of (came-whole n c k merge p w (ts w) out h i a ((us i).sent w) (run.3 i w a l)) ∙ port-rows (ship_of S n i k p) w ((u.0 i).1 w) ((us i).sent w) ((u.1 i a).ports w l)) h.makes.3.0 in
+      (λ i a. ap rows_of (came-whole S giv some n c k merge p w (ts w) out h i a ((us i).sent w) (run.3 i w a l)) ∙ port-rows (ship_of S n i k p) w ((u.0 i).1 w) ((us i).sent w) ((u.1 i a).ports w l)) h.makes.3.0 in
       let own_order : is_concat k ≡ true → joined m (λ i. (u.0 i).1 w) ≡ out
       = λ e. joined-ext m (λ i. (u.0 i).1 w) (λ i. rows_of (h.makes.0.came i))
-      (λ i a. sym (ap rows_of (came-whole n c k merge p w (ts w) out h i a ((us i).sent w) (run.3 i w a l)) ∙ port-rows (ship_of S n i k p) w ((u.0 i).1 w) ((us i).sent w) ((u.1 i a).ports w l))) ∙ h.makes.3.2 e in
+      (λ i a. sym (ap rows_of (came-whole S giv some n c k merge p w (ts w) out h i a ((us i).sent w) (run.3 i w a l)) ∙ port-rows (ship_of S n i k p) w ((u.0 i).1 w) ((us i).sent w) ((u.1 i a).ports w l))) ∙ h.makes.3.2 e in
       let outs = choose (λ j xs. Dealt m xs (λ i. (u.0 i).1 j) × (sorted merge xs ≡ true) × ((j == w) ≡ true → xs ≡ out) × (is_concat k ≡ true → joined m (λ i. (u.0 i).1 j) ≡ xs)) [] (workers S.sizes (target k))
       (λ j b. at-consumer m merge out (λ j i. (u.0 i).1 j) w own h.makes.3.1 k own_order j (λ e. one-place k e j w b l) (up j b) (j == w) refl) in
       inl (
@@ -362,91 +375,66 @@ module _ (S : RunModel) (giv : Given S.catalog S.db S.sizes (goes S)) (some : 0 
           let x = sorted-shuffle merge m (sent j) up in
           (x.0, (x.1, x.2, (λ y. absurd (true≢false (sym y ∙ e))), λ y. absurd (true≢false (sym (only y) ∙ e))))
 
-  -- an open node whose partial takes too long a list
-  open-long : (keys : List ℕ) (puts : List Aggregate) (p : Plan) → opens keys puts p ≡ true → (base : List Row) → serial S.db (spoken p) ≡ rows base → 4611686018427387904 < length base → HasTooLong S.db p
-  open-long keys puts (scan n c r m z) e base h l = absurd (true≢false (sym e))
-  open-long keys puts (unary n c op p) e base h l = by-phase
-      (λ op f. f.is_of keys puts (opens keys puts p) ≡ true → serial S.db (f.spoken_of p (spoken p) (unary n c op p)) ≡ rows base → HasTooLong S.db (unary n c op p))
-      (λ op w e h. absurd (true≢false (sym e)))
-      (λ by aggregates e h. let P : SerialResult → Type 0 = λ o. IsTooLong (group partial by aggregates) o in inr (subst P (sym h) l))
-      (λ cols e h. inl (open-long keys puts p (and-right (all_below (length keys) cols) (opens keys puts p) e) base h l))
-      (λ by aggregates e h. absurd (true≢false (sym e))) op e h
-  open-long keys puts (binary n c op p q) e base h l = absurd (true≢false (sym e))
-  open-long keys puts (exchange n c k m p) e base h l = open-long keys puts p e base h l
-
   -- a group with an overflow of its own
   group-fails : (n : ℕ) (c : Claim) (phase : Phase) (by : List ℕ) (aggregates : List Aggregate) (p : Plan) (u : Streams)
-      → well_formed S.catalog (unary n c (group phase by aggregates) p) ≡ true → allowed S.catalog (unary n c (group phase by aggregates) p) ≡ true
-      → Runs S.db S.sizes (goes S) p u → (w : ℕ) → w < workers S.sizes (size p)
+      → Has (unary n c (group phase by aggregates) p) → Runs S.db S.sizes (goes S) p u → (w : ℕ) → w < workers S.sizes (size p)
       → (group_rows by aggregates (u w) ≡ None) ⊎ (4611686018427387904 < length (u w)) → Overflows S.db (unary n c (group phase by aggregates) p)
-  group-fails n c phase by aggregates p u wf ok run w l why = ⊎_elim
-      (λ none. not-overflow n c (group phase by aggregates) p u wf ok run w l none)
+  group-fails n c phase by aggregates p u ok run w l why = ⊎_elim
+      (λ none. not-overflow n c (group phase by aggregates) p u ok run w l none)
       (λ long.
-      let holds : HoldingAt S.db S.sizes (goes S) p u
-      = all-hold S.catalog S.db S.sizes (goes S) giv p u
-      (well-under S.catalog n c (group phase by aggregates) p wf).0
-      (and-left (allowed S.catalog p) (allowed_here S.catalog (unary n c (group phase by aggregates) p)) ok) run in
+      let holds = table.holds p u (table.inherited.input n c (group phase by aggregates) p ok) run in
       let ones = total-ones (u w) in
       let most = stream-most (goes S) (claim p).part (workers S.sizes (size p)) u (λ xs. Gives p holds.base xs) (λ r. 1) (length holds.base)
       (λ xs g. let a = total-ones xs in let b = gives-length p holds.base xs g in omega (arith, a, b)) holds.holds.part w l in
-      go phase (well-under S.catalog n c (group phase by aggregates) p wf).1 holds.base holds.is_serial (omega (arith, most, long, ones)))
+      go phase formed.1 holds.base holds.is_serial (omega (arith, most, long, ones)))
       why
     where
+      formed : (well_formed S.catalog p ≡ true) × (phase_fits (group phase by aggregates) p ≡ true)
+      formed = let w = well-under S.catalog n c (group phase by aggregates) p (table.well (unary n c (group phase by aggregates) p) ok) in (w.0, w.1)
+
       closed : (kind : Phase) → not (is_open p) ≡ true → (base : List Row) → serial S.db (spoken p) ≡ rows base → 4611686018427387904 < length base → HasTooLong S.db (unary n c (group kind by aggregates) p)
       closed kind e base h big =
           let P : SerialResult → Type 0 = λ o. IsTooLong (group kind by aggregates) o in
-          let same : serial S.db p ≡ rows base = sym (closed-spoken S.db p (well-phased S.catalog p (well-under S.catalog n c (group phase by aggregates) p wf).0) (not-true (is_open p) e)) ∙ h in
+          let same : serial S.db p ≡ rows base = sym (closed-spoken S.db p (well-phased S.catalog p formed.0) (not-true (is_open p) e)) ∙ h in
           inr (subst P (sym same) big)
 
       go : (phase : Phase) → phase_fits (group phase by aggregates) p ≡ true → (base : List Row) → serial S.db (spoken p) ≡ rows base → 4611686018427387904 < length base
           → Overflows S.db (unary n c (group phase by aggregates) p)
       go plain e base h big = inr (inl (closed plain e base h big))
       go partial e base h big = inr (inl (closed partial e base h big))
-      go final e base h big = inr (inl (inl (open-long by aggregates p e base h big)))
+      go final e base h big = inr (inl (inl (open-long S giv some by aggregates p e base h big)))
 
   -- a worker whose top answers an overflow
-  fails : (p : Plan) → is_fit S.relation_of p ≡ true → well_formed S.catalog p ≡ true → allowed S.catalog p ≡ true
-      → (ts : ℕ → Trace) → RunOf S (Ends S) p ts → (w : ℕ) → w < workers S.sizes (size p)
+  fails : (p : Plan) → Has p → (ts : ℕ → Trace) → RunOf S (Ends S) p ts → (w : ℕ) → w < workers S.sizes (size p)
       → (reads : Reads) → ReadsBegin S (ts w) reads → (out : Stream) → FragAbides (fragment S w p) reads out
       → (node : ℕ) → out.over ≡ Failed (Own Overflow node) → Overflows S.db p
-  fails (scan n c r m z) fit wf ok ts run w l reads begin out h node e = ⊎_elim
+  fails (scan n c r m z) ok ts run w l reads begin out h node e = ⊎_elim
       (λ i. absurd ((begin.scanned n).never_fails (Own Overflow node) (sym (ap (λ (s : Stream). s.over) h.1.scanned) ∙ i)))
       (λ o. absurd o)
       (h.2.blame (Own Overflow node) (ap (λ (s : Stream). s.over) h.3 ∙ e))
-  fails (unary n c op p) fit wf ok ts run w l reads begin out h node e =
-      let wp = (well-under S.catalog n c op p wf).0 in
-      let okp = and-left (allowed S.catalog p) (allowed_here S.catalog (unary n c op p)) ok in
-      ⊎_elim
-      (λ i. real-unary S.db n c op p (fails p fit wp okp ts run w l reads begin h.0.left h.1 node i))
-      (λ o. own op wf ok o)
+  fails (unary n c op p) ok ts run w l reads begin out h node e = ⊎_elim
+      (λ i. real-unary S.db n c op p (fails p (table.inherited.input n c op p ok) ts run w l reads begin h.0.left h.1 node i))
+      (λ o. own op ok o)
       (h.2.blame (Own Overflow node) (ap (λ (s : Stream). s.over) h.3 ∙ e))
     where
-      own : (op : Unary) → well_formed S.catalog (unary n c op p) ≡ true → allowed S.catalog (unary n c op p) ≡ true → OwnBlame (one_op n op) h.0 (Own Overflow node) → Overflows S.db (unary n c op p)
-      own (select cs) wf ok o = absurd o
-      own (project cols) wf ok o = absurd o
-      own (distinct cols) wf ok o = absurd o
-      own (sort of_parts cols) wf ok o = absurd o
-      own (group phase by aggregates) wf ok o =
-          let wp = (well-under S.catalog n c (group phase by aggregates) p wf).0 in
-          let okp = and-left (allowed S.catalog p) (allowed_here S.catalog (unary n c (group phase by aggregates) p)) ok in
-          ⊎_elim
+      own : (op : Unary) → Has (unary n c op p) → OwnBlame (one_op n op) h.0 (Own Overflow node) → Overflows S.db (unary n c op p)
+      own (select cs) ok o = absurd o
+      own (project cols) ok o = absurd o
+      own (distinct cols) ok o = absurd o
+      own (sort of_parts cols) ok o = absurd o
+      own (group phase by aggregates) ok o = ⊎_elim
           (λ got.
           let P : List Row → Type 0 = λ xs. (group_rows by aggregates xs ≡ None) ⊎ (4611686018427387904 < length xs) in
-          group-fails n c phase by aggregates p got.0 wf ok got.1 w l (subst P (sym got.2) o.2))
+          group-fails n c phase by aggregates p got.0 ok got.1 w l (subst P (sym got.2) o.2))
           (λ real. real-unary S.db n c (group phase by aggregates) p real)
-          (complete p fit wp okp ts run w l h.0.left.rows (record { reads = reads; reads_begin = begin; makes = abides-makes S w p reads h.0.left h.1 o.1 }))
-  fails (binary n c op p q) fit wf ok ts run w l reads begin out h node e =
-      let here : Bool = allowed_here S.catalog (binary n c op p q) in
-      let rest = and-right (allowed S.catalog p) (allowed S.catalog q && here) ok in
-      let same : size p ≡ size q = size_eq-is (size p) (size q) (and-left (size_eq (size p) (size q)) _ fit) in
-      let fits = and-right (size_eq (size p) (size q)) (is_fit S.relation_of p && is_fit S.relation_of q) fit in
+          (complete p (table.inherited.input n c (group phase by aggregates) p ok) ts run w l h.0.left.rows (record { reads = reads; reads_begin = begin; makes = abides-makes S w p reads h.0.left h.1 o.1 }))
+  fails (binary n c op p q) ok ts run w l reads begin out h node e =
+      let same = same-size n c op p q ok in
       let P : Size → Type 0 = λ z. w < workers S.sizes z in
       ⊎_elim
       (λ i. ⊎_elim
-      (λ left. real-left S.db n c op p q (fails p (and-left (is_fit S.relation_of p) (is_fit S.relation_of q) fits) (well-both S.catalog n c op p q wf).0
-      (and-left (allowed S.catalog p) (allowed S.catalog q && here) ok) ts run.0 w l reads begin h.0.left h.1 node left))
-      (λ right. real-right S.db n c op p q (fails q (and-right (is_fit S.relation_of p) (is_fit S.relation_of q) fits) (well-both S.catalog n c op p q wf).1
-      (and-left (allowed S.catalog q) here rest) ts run.1 w (subst P same l) reads begin h.0.right h.2 node right))
+      (λ left. real-left S.db n c op p q (fails p (table.inherited.left n c op p q ok) ts run.0 w l reads begin h.0.left h.1 node left))
+      (λ right. real-right S.db n c op p q (fails q (table.inherited.right n c op p q ok) ts run.1 w (subst P same l) reads begin h.0.right h.2 node right))
       i)
       (λ o. absurd (none op o))
       (h.3.blame (Own Overflow node) (ap (λ (s : Stream). s.over) h.4 ∙ e))
@@ -455,52 +443,49 @@ module _ (S : RunModel) (giv : Given S.catalog S.db S.sizes (goes S)) (some : 0 
       none union o = o
       none (join true on) o = o
       none (join false on) o = o
-  fails (exchange n c k merge p) fit wf ok ts run w l reads begin out h node e = ⊎_elim
+  fails (exchange n c k merge p) ok ts run w l reads begin out h node e = ⊎_elim
       (λ i. absurd i)
       (λ o. absurd o)
       (h.2.blame (Own Overflow node) (ap (λ (s : Stream). s.over) h.3 ∙ e))
 
-  pub ends-with : (p : Plan) → is_fit S.relation_of p ≡ true → well_formed S.catalog p ≡ true → allowed S.catalog p ≡ true
-      → (ts : ℕ → Trace) → RunOf S (Ends S) p ts → (w : ℕ) → w < workers S.sizes (size p) → (task : Task) → (node : ℕ)
+  ends-with : (p : Plan) → Has p → (ts : ℕ → Trace) → RunOf S (Ends S) p ts → (w : ℕ) → w < workers S.sizes (size p) → (task : Task) → (node : ℕ)
       → (fate : Fate) → Honest S (fragment S w p) task fate (ts w) → fate ≡ failed (Own Overflow node) → Overflows S.db p
-  ends-with p fit wf ok ts run w l task node fate h e =
+  ends-with p ok ts run w l task node fate h e =
       let P : Fate → Type 0 = λ x. Honest S (fragment S w p) task x (ts w) in
       let f : HasFailed S (fragment S w p) task (Own Overflow node) (ts w) = subst P e h in
-      ⊎_elim (λ o. fails p fit wf ok ts run w l f.reads f.reads_begin f.out f.abides node o) (λ m. absurd m) f.why
+      ⊎_elim (λ o. fails p ok ts run w l f.reads f.reads_begin f.out f.abides node o) (λ m. absurd m) f.why
 
-  pub below : (p : Plan) → is_fit S.relation_of p ≡ true → well_formed S.catalog p ≡ true → allowed S.catalog p ≡ true
-      → (ts : ℕ → Trace) (run : RunOf S (Ends S) p ts) (node : ℕ) → FailsBelow S (Own Overflow node) p ts run → Overflows S.db p
-  below (scan n c r m z) fit wf ok ts run node h = absurd h
-  below (unary n c op p) fit wf ok ts run node h =
-      real-unary S.db n c op p (below p fit (well-under S.catalog n c op p wf).0
-      (and-left (allowed S.catalog p) (allowed_here S.catalog (unary n c op p)) ok) ts run node h)
-  below (binary n c op p q) fit wf ok ts run node h =
-      let here : Bool = allowed_here S.catalog (binary n c op p q) in
-      let rest = and-right (allowed S.catalog p) (allowed S.catalog q && here) ok in
-      let fits = and-right (size_eq (size p) (size q)) (is_fit S.relation_of p && is_fit S.relation_of q) fit in
-      ⊎_elim
-      (λ left. real-left S.db n c op p q (below p (and-left (is_fit S.relation_of p) (is_fit S.relation_of q) fits) (well-both S.catalog n c op p q wf).0
-      (and-left (allowed S.catalog p) (allowed S.catalog q && here) ok) ts run.0 node left))
-      (λ right. real-right S.db n c op p q (below q (and-right (is_fit S.relation_of p) (is_fit S.relation_of q) fits) (well-both S.catalog n c op p q wf).1
-      (and-left (allowed S.catalog q) here rest) ts run.1 node right))
+  below : (p : Plan) → Has p → (ts : ℕ → Trace) (run : RunOf S (Ends S) p ts) (node : ℕ) → FailsBelow S (Own Overflow node) p ts run → Overflows S.db p
+  below (scan n c r m z) ok ts run node h = absurd h
+  below (unary n c op p) ok ts run node h = real-unary S.db n c op p (below p (table.inherited.input n c op p ok) ts run node h)
+  below (binary n c op p q) ok ts run node h = ⊎_elim
+      (λ left. real-left S.db n c op p q (below p (table.inherited.left n c op p q ok) ts run.0 node left))
+      (λ right. real-right S.db n c op p q (below q (table.inherited.right n c op p q ok) ts run.1 node right))
       h
-  below (exchange n c k merge p) fit wf ok ts run node h =
-      let wp = and-left (well_formed S.catalog p) (names_columns (width S.catalog p) c) wf in
-      let okp = and-left (allowed S.catalog p) (allowed_here S.catalog (exchange n c k merge p)) ok in
+  below (exchange n c k merge p) ok ts run node h =
+      let okp = table.inherited.sent n c k merge p ok in
       ⊎_elim
-      (λ x. ends-with p fit wp okp run.0 run.1 x.0 x.1 (send (ship_of S n x.0 k p)) node (run.2 x.0 x.1).0 (run.2 x.0 x.1).1 x.2)
-      (λ x. below p fit wp okp run.0 run.1 node x)
+      (λ x. ends-with p okp run.0 run.1 x.0 x.1 (send (ship_of S n x.0 k p)) node (run.2 x.0 x.1).0 (run.2 x.0 x.1).1 x.2)
+      (λ x. below p okp run.0 run.1 node x)
       h
 
-pub real-erased : (catalog : ℕ → Relation) (db : ℕ → List Row) (p : Plan) → well_formed catalog p ≡ true → Overflows db p → IsReal db p
-real-erased catalog db p wf h = ⊎_elim (λ o. inl ((erased-overflows catalog db p wf).0 o)) (λ l. inr l) h
+  -- all workers ended, and one of them with an overflow of its own
+  pub overflow-of-run : (p : Plan) → Has p → is_one (size p) ≡ true → (ts : ℕ → Trace) (kept : List Row) (root : Ends S (fragment S 0 p) (keep kept) (ts 0)) (run : RunOf S (Ends S) p ts)
+      → (node : ℕ) → (root.0 ≡ failed (Own Overflow node)) ⊎ FailsBelow S (Own Overflow node) p ts run → IsReal S.db p
+  overflow-of-run p ok single ts kept root run node h =
+      let n1 : workers S.sizes (size p) ≡ 1 = one-worker S.sizes (size p) single in
+      let P : ℕ → Type 0 = λ m. 0 < m in
+      real-erased S.catalog S.db p (table.well p ok) (⊎_elim
+      (λ e. ends-with p ok ts run 0 (subst P (sym n1) (omega arith)) (keep kept) node root.0 root.1 e)
+      (λ b. below p ok ts run node b)
+      h)
 
 pub overflow-is-real : OverflowIsReal
 overflow-is-real S set p fit wf ok single t kept root run node h =
     let giv = set-given S set in
-    let n1 : workers S.sizes (size p) ≡ 1 = one-worker S.sizes (size p) single in
-    let P : ℕ → Type 0 = λ m. 0 < m in
-    real-erased S.catalog S.db p wf (⊎_elim
-    (λ e. ends-with S giv set.some_morsel p fit wf ok (λ w. t) run 0 (subst P (sym n1) (omega arith)) (keep kept) node root.0 root.1 e)
-    (λ b. below S giv set.some_morsel p fit wf ok (λ w. t) run node b)
-    h)
+    overflow-of-run S giv set.some_morsel (IsAllowed S) (first-table S giv) p (fit, (wf, ok)) single (λ _. t) kept root run node h
+
+pub overflow-is-real-derived : OverflowIsRealDerived
+overflow-is-real-derived S set p fit wf ins ok single t kept root run node h =
+    let giv = set-given S set in
+    overflow-of-run S giv set.some_morsel (IsAllowedDerived S) (second-table S giv) p (fit, (wf, (ins, ok))) single (λ _. t) kept root run node h

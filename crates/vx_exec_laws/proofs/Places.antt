@@ -146,7 +146,7 @@ place-right goes v cols cs on wd n w ls rs e ws h =
     ws h
 
 -- the columns of a part that is given are columns of the part that gives it
-given-below : (wd : ℕ) (p : Part) (r : Route) (ds : List ℕ) → part_gives p (routed r ds) ≡ true → all_below wd (part_columns p) ≡ true → all_below wd ds ≡ true
+pub given-below : (wd : ℕ) (p : Part) (r : Route) (ds : List ℕ) → part_gives p (routed r ds) ≡ true → all_below wd (part_columns p) ≡ true → all_below wd ds ≡ true
 given-below wd one r ds g h = absurd (true≢false (sym g))
 given-below wd any r ds g h = absurd (true≢false (sym g))
 given-below wd all r ds g h = absurd (true≢false (sym g))

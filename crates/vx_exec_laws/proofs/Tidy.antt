@@ -1,5 +1,5 @@
 -- What a node has given so far is as wide as its columns, and sorted on its claimed order.
-use Rattle.vx_worker.specs.Fragment.{goes, RunModel, Reads, fragment, FragAbides}
+use Rattle.vx_worker.specs.Fragment.{goes, RunModel, Reads, alone, fragment, FragAbides}
 use Rattle.std.proofs.Common.{◌≡◌, ℕ, ◌<◌, ◌==◌, Bool, true, false, ◌&&◌, List, [], ◌∷◌, ◌++◌, map, length, refl, sym, ap, ◌∙◌, subst, arith, append-nil, append_assoc, eqb-true, is_le, ◌||◌}
 use Rattle.std.specs.List.{list_all, list_any}
 use Rattle.vx_rows_values.specs.Values.{Row, pick}
@@ -16,7 +16,7 @@ use Rattle.vx_plan_nodes.specs.Routes.{Routing, Sends}
 use Rattle.vx_check_rules.specs.Claims.{Given}
 use Rattle.vx_ports.specs.Packets.{PacketView, rows_of, Flows}
 use Rattle.vx_worker.specs.Morsels.{morsel_of, morsels}
-use Rattle.vx_ops.specs.Ledger.{Stream}
+use Rattle.vx_ops.specs.Ledger.{Stream, scan_op}
 use Rattle.vx_rows.specs.Lists.{IsBeginning}
 use Rattle.vx_exchange_ends.specs.Ship.{Ship, end_to_end, packet_at, IsCutPort}
 use Rattle.vx_worker.specs.Trace.{Trace, ReadsBegin, Fate, well, failed, Honest, Ends}
@@ -41,7 +41,7 @@ use Rattle.vx_exec_laws.proofs.Concat.{ranged, goes-on-is, exchange-sorted}
 abbrev pub Tidy : ℕ → List ℕ → List Row → Type 0
 Tidy w cols xs = (wide w xs ≡ true) × (sorted cols xs ≡ true)
 
-sorted-left : (cols : List ℕ) (xs ys : List Row) → sorted cols (xs ++ ys) ≡ true → sorted cols xs ≡ true
+pub sorted-left : (cols : List ℕ) (xs ys : List Row) → sorted cols (xs ++ ys) ≡ true → sorted cols xs ≡ true
 sorted-left cols [] ys h = refl
 sorted-left cols (x ∷ xs) ys h =
     let le : Row → Bool = λ y. is_le (compare_on cols x y) in
@@ -60,17 +60,12 @@ tidy-begins w cols xs zs b h = tidy-left w cols xs b.rest zs b.joined h
 tidy-bearing : (w : ℕ) (cols : List ℕ) (i : ℕ) (ts : List (ℕ × Row)) → Tidy w cols (map (λ t. t.1) ts) → Tidy w cols (bearing i ts)
 tidy-bearing w cols i ts h = (list_all-bearing (λ row. length row == w) i ts h.0, sorted-bearing cols i ts h.1)
 
-tidy-drawn : (w : ℕ) (cols : List ℕ) (m : ℕ) (xs : List Row) (i : ℕ) (numbers : List ℕ) → Tidy w cols xs → Drawn m xs i numbers → Tidy w cols (morsels (morsel_of m xs) numbers)
-tidy-drawn w cols m xs i numbers h d =
-    let P : List Row → Type 0 = λ l. Tidy w cols l in
-    subst P d.drawn (tidy-bearing w cols i d.tags (tidy-left w cols (map (λ t. t.1) d.tags) d.rest xs d.begins h))
-
 morsels-append : (f : ℕ → List Row) (ks js : List ℕ) → morsels f (ks ++ js) ≡ morsels f ks ++ morsels f js
 morsels-append f [] js = refl
 morsels-append f (k ∷ ks) js = ap (λ xs. f k ++ xs) (morsels-append f ks js) ∙ sym (append_assoc (f k) (morsels f ks) (morsels f js))
 
 -- what is sent of rows that all pass a test passes it
-sends-all : (goes : Routing) (k : ExchangeKind) (n : ℕ) (xs : List Row) (sent : Streams) → Sends goes k n xs sent → (q : Row → Bool) → list_all q xs ≡ true → (j : ℕ) → j < n → list_all q (sent j) ≡ true
+pub sends-all : (goes : Routing) (k : ExchangeKind) (n : ℕ) (xs : List Row) (sent : Streams) → Sends goes k n xs sent → (q : Row → Bool) → list_all q xs ≡ true → (j : ℕ) → j < n → list_all q (sent j) ≡ true
 sends-all goes (route_to z r cols) n xs sent h q a j l = let P : List Row → Type 0 = λ ys. list_all q ys ≡ true in subst P (h j l) (list_all-filter q _ xs a)
 sends-all goes (round z) n xs sent h q a j l =
     let P : List Row → Type 0 = λ ys. list_all q ys ≡ true in subst P (h.lists_are j l) (list_all-bearing q j h.numbered (subst P (sym h.whole) a))
@@ -81,7 +76,7 @@ sends-all goes concat n xs sent h q a j l = let P : List Row → Type 0 = λ ys.
 dealt-all : (m : ℕ) (xs : List Row) (ls : Streams) → Dealt m xs ls → (q : Row → Bool) → ((i : ℕ) → i < m → list_all q (ls i) ≡ true) → list_all q xs ≡ true
 dealt-all m xs ls d q h = none-against q xs (Dealt-total d (against q) ∙ across-ext m _ (λ i. 0) (λ i l. against-none q (ls i) (h i l)) ∙ across-zero m)
 
-begins-rows : (ps qs : List PacketView) → IsBeginning ps qs → IsBeginning (rows_of ps) (rows_of qs)
+pub begins-rows : (ps qs : List PacketView) → IsBeginning ps qs → IsBeginning (rows_of ps) (rows_of qs)
 begins-rows ps qs b = record { rest = rows_of b.rest; joined = sym (rows_of-append ps b.rest) ∙ ap rows_of b.joined }
 
 cut-rows : (s : Ship) (j : ℕ) (xs : List Row) (ps : List PacketView) → (h : IsCutPort s j xs ps) → rows_of ps ≡ end_to_end h.parts
@@ -101,7 +96,7 @@ sends-place goes concat n xs sent h j l = list_all-always (λ row. true) (λ row
 abbrev pub Neat : Routing → Claim → (wd n w : ℕ) → List Row → Type 0
 Neat goes c wd n w xs = Tidy wd c.order xs × Placed goes c.part n w xs
 
-all-begins : (q : Row → Bool) (xs zs : List Row) → IsBeginning xs zs → list_all q zs ≡ true → list_all q xs ≡ true
+pub all-begins : (q : Row → Bool) (xs zs : List Row) → IsBeginning xs zs → list_all q zs ≡ true → list_all q xs ≡ true
 all-begins q xs zs b h = let P : List Row → Type 0 = λ l. list_all q l ≡ true in all-front q xs b.rest (subst P (sym b.joined) h)
 
 neat-begins : (goes : Routing) (c : Claim) (wd n w : ℕ) (xs zs : List Row) → IsBeginning xs zs → Neat goes c wd n w zs → Neat goes c wd n w xs
@@ -116,7 +111,7 @@ module _ (S : RunModel) (giv : Given S.catalog S.db S.sizes (goes S)) where
   Gives p ts w = (reads : Reads) → ReadsBegin S (ts w) reads → (out : Stream) → FragAbides (fragment S w p) reads out → IsTidy p w out.rows
 
   -- what holds of all that a producer sends a consumer, and of each beginning of it, holds of what the consumer has read so far
-  came-so : (P : List Row → Type 0) → ((xs zs : List Row) → IsBeginning xs zs → P zs → P xs) → (n i : ℕ) (k : ExchangeKind) (p : Plan) (u t : Trace) → Ends S (fragment S i p) (send (ship_of S n i k p)) u
+  pub came-so : (P : List Row → Type 0) → ((xs zs : List Row) → IsBeginning xs zs → P zs → P xs) → (n i : ℕ) (k : ExchangeKind) (p : Plan) (u t : Trace) → Ends S (fragment S i p) (send (ship_of S n i k p)) u
       → (j : ℕ) → j < workers S.sizes (target k)
       → ((reads : Reads) → ReadsBegin S u reads → (out : Stream) → FragAbides (fragment S i p) reads out → (sent : Streams) → Sends (goes S) k (workers S.sizes (target k)) out.rows sent → P (sent j))
       → Flows (u.sent j) (t.came n i) → (seen : List PacketView) → IsBeginning seen (t.came n i) → P (rows_of seen)
@@ -157,25 +152,30 @@ module _ (S : RunModel) (giv : Given S.catalog S.db S.sizes (goes S)) where
       → (is_one z || list_any (λ v. gives v q) (way whole_rows (bare p ∷ []) ∷ [])) ≡ true → Placed (goes S) q (workers S.sizes z) w xs
   made-place z p q w l xs at e = had-place (goes S) giv.in_range (is_one z) p q (workers S.sizes z) w (one-worker S.sizes z) l xs at (made-gives (is_one z) p q e)
 
+  -- what holds of a relation, of each beginning of it and of the rows that are dealt to each worker, holds of what a scan has given so far
+  pub scan-so : (P : List Row → Type 0) → ((xs zs : List Row) → IsBeginning xs zs → P zs → P xs) → ((i : ℕ) (ts : List (ℕ × Row)) → P (map (λ t. t.1) ts) → P (bearing i ts))
+      → (n r i : ℕ) (t : Trace) → (S.relation_of n == r) ≡ true → P (S.db r) → Drawn S.morsel (S.db r) i (t.drew n).numbers
+      → (reads : Reads) → ReadsBegin S t reads → (out : Stream) → FragAbides (alone n scan_op) reads out → P out.rows
+  scan-so P begins dealt n r i t fit has d reads begin out h =
+      let drawn : P (morsels (morsel_of S.morsel (S.db r)) (t.drew n).numbers) = subst P d.drawn (dealt i d.tags (begins (map (λ t. t.1) d.tags) (S.db r) (record { rest = d.rest; joined = d.begins }) has)) in
+      let b = begin.scanned n in
+      let f : ℕ → List Row = morsel_of S.morsel (S.db r) in
+      let R : ℕ → Type 0 = λ k. (reads.scanned n).rows ≡ morsels (morsel_of S.morsel (S.db k)) b.numbers in
+      let heard : h.0.left.rows ≡ morsels f b.numbers = ap (λ (s : Stream). s.rows) h.1.scanned ∙ subst R (eqb-true (S.relation_of n) r fit) b.rows in
+      let some : P (morsels f b.numbers) = begins (morsels f b.numbers) (morsels f (t.drew n).numbers)
+      (record { rest = morsels f b.begins.rest; joined = sym (morsels-append f b.numbers b.begins.rest) ∙ ap (morsels f) b.begins.joined }) drawn in
+      let k = h.2.before in
+      let input : P k.inputs.left.rows = begins k.inputs.left.rows h.0.left.rows k.begins.left (subst P (sym heard) some) in
+      let Q : Stream → Type 0 = λ s. P s.rows in
+      subst Q h.3 (begins h.0.gave.rows k.whole k.gave (subst P (sym k.makes) input))
+
   scan-tidy : (n : ℕ) (c : Claim) (r : ℕ) (m : Bool) (z : Size) → (S.relation_of n == r) ≡ true → is_prefix c.order (S.catalog r).order ≡ true
       → (w i : ℕ) (t : Trace) → Drawn S.morsel (S.db r) i (t.drew n).numbers
       → (reads : Reads) → ReadsBegin S t reads → (out : Stream) → FragAbides (fragment S w (scan n c r m z)) reads out → Tidy (length (S.catalog r).types) c.order out.rows
   scan-tidy n c r m z fit up w i t d reads begin out h =
       let wd : ℕ = length (S.catalog r).types in
-      let db_tidy : Tidy wd c.order (S.db r) = (fit-wide (S.catalog r).types (S.db r) (giv.meets r).fit, sorted-front c.order (S.catalog r).order up (S.db r) (giv.meets r).order) in
-      let all : Tidy wd c.order (morsels (morsel_of S.morsel (S.db r)) (t.drew n).numbers) = tidy-drawn wd c.order S.morsel (S.db r) i (t.drew n).numbers db_tidy d in
-      let b = begin.scanned n in
-      let f : ℕ → List Row = morsel_of S.morsel (S.db r) in
-      let R : ℕ → Type 0 = λ k. (reads.scanned n).rows ≡ morsels (morsel_of S.morsel (S.db k)) b.numbers in
-      let heard : h.0.left.rows ≡ morsels f b.numbers = ap (λ (s : Stream). s.rows) h.1.scanned ∙ subst R (eqb-true (S.relation_of n) r fit) b.rows in
-      let some : Tidy wd c.order (morsels f b.numbers) = tidy-left wd c.order (morsels f b.numbers) (morsels f b.begins.rest) (morsels f (t.drew n).numbers)
-      (sym (morsels-append f b.numbers b.begins.rest) ∙ ap (morsels f) b.begins.joined) all in
-      let P : List Row → Type 0 = λ xs. Tidy wd c.order xs in
-      let left : Tidy wd c.order h.0.left.rows = subst P (sym heard) some in
-      let k = h.2.before in
-      let input : Tidy wd c.order k.inputs.left.rows = tidy-begins wd c.order k.inputs.left.rows h.0.left.rows k.begins.left left in
-      let Q : Stream → Type 0 = λ s. Tidy wd c.order s.rows in
-      subst Q h.3 (tidy-begins wd c.order h.0.gave.rows k.whole k.gave (subst P (sym k.makes) input))
+      scan-so (Tidy wd c.order) (tidy-begins wd c.order) (tidy-bearing wd c.order) n r i t fit
+      (fit-wide (S.catalog r).types (S.db r) (giv.meets r).fit, sorted-front c.order (S.catalog r).order up (S.db r) (giv.meets r).order) d reads begin out h
 
   pub tidy : (p : Plan) → is_fit S.relation_of p ≡ true → well_formed S.catalog p ≡ true → allowed S.catalog p ≡ true
       → (ts : ℕ → Trace) → RunOf S (Ends S) p ts → (w : ℕ) → w < workers S.sizes (size p) → Gives p ts w

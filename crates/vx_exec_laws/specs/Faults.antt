@@ -1,5 +1,5 @@
 -- A fault that a run answers is real, also where other workers were cut short.
-use Rattle.std.specs.Prelude.{◌+◌, ◌≡◌, ℕ, ◌<◌, ◌⊎◌, ◌↔◌, true, List}
+use Rattle.std.specs.Prelude.{◌+◌, ◌≡◌, ℕ, ◌<◌, ◌⊎◌, ◌↔◌, Bool, true, List}
 use Rattle.vx_worker.specs.Fragment.{IsSet, RunModel, fragment}
 use Rattle.vx_exec_laws.specs.Layout.{FlatRun}
 use Rattle.vx_plan_nodes.specs.Workers.{workers_below}
@@ -9,7 +9,9 @@ use Rattle.vx_plan_nodes.specs.Types.{well_formed}
 use Rattle.vx_plan_nodes.specs.Real.{IsReal}
 use Rattle.vx_plan_nodes.specs.Serial.{serial, IsOverflow}
 use Rattle.vx_plan_nodes.specs.Streams.{workers}
+use Rattle.vx_plan_facts.specs.RowFacts.{all_inputs_fit}
 use Rattle.vx_check_rules.specs.Rules.{allowed}
+use Rattle.vx_check_rules.specs.Tables.{allowed_by}
 use Rattle.vx_plan_nodes.specs.Erase.{erase}
 use Rattle.vx_worker.specs.Trace.{Trace, failed, Ends}
 use Rattle.vx_exchange_ends.specs.Tasks.{keep}
@@ -70,11 +72,13 @@ pub record SomeFails (S : RunModel) (p : Plan) (ts : ℕ → Trace) (f : Fault) 
   pub below : FlatRun S (Ends S) ts p 0 1
   pub fails : (root.0 ≡ failed f) ⊎ FlatFails S f ts p 0 1 below
 
--- the theorems on faults from traces by number: an overflow is real, and no order fault or stranger comes
+-- the theorems on faults from traces by number, of a plan that either rule table allows: an overflow is real, and no order fault or stranger comes
 pub record NumberedFaultsAreReal : Type 0 where
   pub overflow : (S : RunModel) → IsSet S
-      → (p : Plan) → is_fit S.relation_of p ≡ true → well_formed S.catalog p ≡ true → allowed S.catalog p ≡ true → is_one (size p) ≡ true
+      → (derives : Bool) (p : Plan) → is_fit S.relation_of p ≡ true → well_formed S.catalog p ≡ true → all_inputs_fit S.catalog p ≡ true
+      → allowed_by derives S.catalog p ≡ true → is_one (size p) ≡ true
       → (ts : ℕ → Trace) (node : ℕ) → SomeFails S p ts (Own Overflow node) → IsReal S.db p
   pub order : (S : RunModel) → IsSet S
-      → (p : Plan) → is_fit S.relation_of p ≡ true → well_formed S.catalog p ≡ true → allowed S.catalog p ≡ true → is_one (size p) ≡ true
+      → (derives : Bool) (p : Plan) → is_fit S.relation_of p ≡ true → well_formed S.catalog p ≡ true → all_inputs_fit S.catalog p ≡ true
+      → allowed_by derives S.catalog p ≡ true → is_one (size p) ≡ true
       → (ts : ℕ → Trace) (f : Fault) → IsOrderFault f → SomeFails S p ts f → ⊥

@@ -3,7 +3,8 @@ use Rattle.std.specs.Prelude.{Bool, List, ◌≡◌, ℕ, ◌+◌, ◌<◌, true
 use Rattle.vx_rows_values.specs.Values.{Row}
 use Rattle.vx_plan_nodes.specs.Types.{well_formed}
 use Rattle.vx_plan_nodes.specs.Runs.{Runs}
-use Rattle.vx_check_rules.specs.Rules.{root_allowed, allowed}
+use Rattle.vx_plan_facts.specs.RowFacts.{all_inputs_fit}
+use Rattle.vx_check_rules.specs.Tables.{allowed_by, root_allowed_by}
 use Rattle.vx_check_rules.specs.Claims.{Delivers}
 use Rattle.vx_worker.specs.Fragment.{goes, IsSet, RunModel, fragment}
 use Rattle.vx_worker.specs.Trace.{Trace, IsWell, Ends}
@@ -36,21 +37,22 @@ FlatIsRun =
     (S : RunModel) (ts : ℕ → Trace) (p : Plan) (top next : ℕ)
     → (FlatRun S (IsWell S) ts p top next → RunOf S (IsWell S) p (λ w. ts (top + w))) × (FlatRun S (Ends S) ts p top next → RunOf S (Ends S) p (λ w. ts (top + w)))
 
--- a numbered plan that the rule table allows is fit
+-- a numbered plan that either rule table allows is fit
 abbrev pub NumberedIsFit : Type 0
 NumberedIsFit =
-    (catalog : ℕ → Relation) (p : Plan) → is_numbered 0 p ≡ true → allowed catalog p ≡ true → is_fit (relation_in p) p ≡ true
+    (derives : Bool) (catalog : ℕ → Relation) (p : Plan) → is_numbered 0 p ≡ true → allowed_by derives catalog p ≡ true → is_fit (relation_in p) p ≡ true
 
 -- all workers of a run ended well: worker 0 gathered these rows at the root, the others are numbered from 1 on
 pub record AllWell (S : RunModel) (p : Plan) (ts : ℕ → Trace) (rows : List Row) : Type 0 where
   pub root : IsWell S (fragment S 0 p) (keep rows) (ts 0)
   pub below : FlatRun S (IsWell S) ts p 0 1
 
--- the headline from traces by number: the rows are stream 0 of a run of the plan relation, and those of the plan without its exchanges, each as often,
--- and the same list where the root claims a total order
+-- the headline from traces by number, of a plan that is judged by either rule table: the rows are stream 0 of a run of the plan relation, and those of the
+-- plan without its exchanges, each as often, and the same list where the root claims a total order
 abbrev pub NumberedRunDelivers : Type 0
 NumberedRunDelivers =
-    (S : RunModel) → IsSet S → (is_total : Bool) (p : Plan) → is_fit S.relation_of p ≡ true
-    → well_formed S.catalog p ≡ true → is_open p ≡ false → allowed S.catalog p ≡ true → root_allowed S.catalog is_total p ≡ true
+    (S : RunModel) → IsSet S → (derives is_total : Bool) (p : Plan) → is_fit S.relation_of p ≡ true
+    → well_formed S.catalog p ≡ true → all_inputs_fit S.catalog p ≡ true → is_open p ≡ false
+    → allowed_by derives S.catalog p ≡ true → root_allowed_by derives S.catalog is_total p ≡ true
     → (ts : ℕ → Trace) (rows : List Row) → AllWell S p ts rows
     → Runs S.db S.sizes (goes S) p (λ _. rows) × Delivers S.db is_total p rows

@@ -1,5 +1,6 @@
 pub mod Sound
 pub mod DerivedSound
+pub mod DerivedFaults
 pub mod Forms
 pub mod WorkedPlans
 pub mod WorkedRows
@@ -8,4 +9,5 @@ pub mod Dispatch
 pub mod RunOf
 pub mod Layout
 pub mod Faults
+pub mod CutRows
 pub mod Samples

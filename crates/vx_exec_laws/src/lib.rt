@@ -1,7 +1,9 @@
 //! The laws that stand on the definitions alone: each is the contract of a function with an empty body.
 #![tactic(auto)]
 
+pub mod cut_rows;
 pub mod derived;
+pub mod derived_faults;
 pub mod runs;
 pub mod worked;
 

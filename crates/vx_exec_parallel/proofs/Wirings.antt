@@ -1,5 +1,5 @@
 -- What the threads of a job's workers hold, made before the first step.
-use Rattle.std.proofs.Common.{◌≡◌, ℕ, true, not, ◌||◌, List, Result, Ok, Err, map, IfOk, refl, sym, arith, true≢false}
+use Rattle.std.proofs.Common.{◌≡◌, ℕ, Bool, true, List, Result, Ok, Err, map, IfOk, refl, sym, arith, true≢false}
 use Rattle.std.specs.declared.alloc.AllocError.{AllocError}
 use Rattle.std.specs.List.{All}
 use Rattle.vx_rows_values.specs.Values.{Row}
@@ -8,8 +8,7 @@ use Rattle.vx_plan_nodes.specs.Plan.{Plan, Size, one_worker, group_of, size, is_
 use Rattle.vx_plan_nodes.specs.Streams.{workers}
 use Rattle.vx_plan_nodes.specs.TypedView.{plan, resolved_of}
 use Rattle.vx_check_rules.specs.Checked.{relations, is_allowed, is_root_allowed}
-use Rattle.vx_check_rules.specs.Rules.{is_total_order}
-use Rattle.vx_exec_laws.proofs.Bags.{and-left}
+use Rattle.vx_exec_laws.proofs.EitherTable.{root-is-one}
 use Rattle.vx_exec_laws.proofs.Layouts.{numbered-is-fit}
 use Rattle.vx_exec_threads.specs.Carrying.{hold_of}
 use Rattle.vx_exec_threads.specs.Drawers.{Sits}
@@ -28,9 +27,10 @@ use Rattle.vx_exec_parallel.specs.Crew.{IsWiringOf}
 pub job-ordered : (j : Job) → is_allowed j.plan.now ≡ true → is_root_allowed j.plan.now ≡ true → AreInOrder 0 1 (spans_of (worker_group_at j.layout.worker_groups.items) (plan j.plan.now) 0 1)
 job-ordered j allowed root =
     let p : Plan = plan j.plan.now in
+    let derives : Bool = (resolved_of j.plan.now).derives in
     let g = worker_group_at j.layout.worker_groups.items in
-    let one = one-worker g (size p) (and-left (is_one (size p)) (not (resolved_of j.plan.now).total || is_total_order (relations j.plan.now) p) root) in
-    plan-in-order j.layout.worker_groups.items j.within.worker_groups (relation_in p) p 0 0 1 j.plan.now.numbered (numbered-is-fit (relations j.plan.now) p j.plan.now.numbered allowed) (omega (arith, one))
+    let one = one-worker g (size p) (root-is-one derives (relations j.plan.now) (resolved_of j.plan.now).total p root) in
+    plan-in-order j.layout.worker_groups.items j.within.worker_groups (relation_in p) p 0 0 1 j.plan.now.numbered (numbered-is-fit derives (relations j.plan.now) p j.plan.now.numbered allowed) (omega (arith, one))
   where
     one-worker : (sizes : ℕ → ℕ) (z : Size) → is_one z ≡ true → workers sizes z ≡ 1
     one-worker sizes one_worker h = refl

@@ -1,10 +1,9 @@
 -- From what a run comes to, to what its verdict is worth.
-use Rattle.std.proofs.Common.{ℕ, ◌≡◌, ◌<◌, Bool, true, List, not, ◌||◌, sym, subst, arith}
+use Rattle.std.proofs.Common.{ℕ, ◌≡◌, ◌<◌, Bool, true, List, sym, subst, arith}
 use Rattle.vx_rows_values.specs.Values.{Val, Row}
 use Rattle.vx_plan_nodes.specs.Plan.{Plan, size, is_one}
 use Rattle.vx_plan_nodes.specs.Streams.{workers}
 use Rattle.vx_plan_nodes.specs.Routes.{Routing}
-use Rattle.vx_check_rules.specs.Rules.{is_total_order}
 use Rattle.vx_ports.specs.Packets.{PacketView}
 use Rattle.vx_ops.specs.Ledger.{Stream, Ledger, Op}
 use Rattle.vx_ops.specs.declared.fault.Fault.{Fault}
@@ -12,9 +11,8 @@ use Rattle.vx_exchange_ends.specs.Tasks.{Task, Post, IsAt}
 use Rattle.vx_worker.specs.Fragment.{RunModel}
 use Rattle.vx_worker.specs.declared.worker.Worker.{Worker}
 use Rattle.vx_exec_laws.specs.Faults.{SomeFails}
-use Rattle.vx_exec_laws.proofs.Bags.{and-left}
 use Rattle.vx_exec_laws.proofs.Parts.{one-worker}
-use Rattle.vx_exec_laws.proofs.Numbered.{numbered-run-delivers, numbered-faults-are-real}
+use Rattle.vx_exec_laws.proofs.EitherTable.{root-is-one, numbered-run-delivers, numbered-faults-are-real}
 use Rattle.vx_exec_steps.specs.LinksView.{LinksView}
 use Rattle.vx_exec_steps.specs.Endings.{ReportsFirst}
 use Rattle.vx_exec_steps.specs.Ready.{Ready, Settled}
@@ -28,21 +26,22 @@ use Rattle.vx_exec_steps.proofs.Settling.{settled, abides}
 -- an accepted plan has a worker at its top
 pub some-workers : (W : RunModel) (is_total : Bool) (p : Plan) → IsAccepted W is_total p → 0 < workers W.sizes (size p)
 some-workers W is_total p ok =
-    let one : is_one (size p) ≡ true = and-left (is_one (size p)) (not is_total || is_total_order W.catalog p) ok.root in
+    let one : is_one (size p) ≡ true = root-is-one ok.derives W.catalog is_total p ok.root in
     let P : ℕ → Type 0 = λ n. 0 < n in
     subst P (sym (one-worker W.sizes (size p) one)) (omega arith)
 
 pub answered : {O S : Type 0} (task : S → Task) (W : RunModel) (is_total : Bool) (p : Plan) (ws : List (Worker O S)) (v : RunState)
     → IsAccepted W is_total p → Settled task W p ws v → Answers task W is_total p ws v
-answered task W is_total p ws run_state.Done ok h = λ d rows e. numbered-run-delivers W ok.set is_total p ok.fit ok.formed ok.closed ok.allows ok.root h.0 rows (h.1 d rows e)
+answered task W is_total p ws run_state.Done ok h = λ d rows e.
+    numbered-run-delivers W ok.set ok.derives is_total p ok.fit ok.formed ok.inputs ok.closed ok.allows ok.root h.0 rows (h.1 d rows e)
 answered task W is_total p ws run_state.Unfinished ok h = tt
 answered task W is_total p ws (run_state.Failed f) ok h =
-    let one : is_one (size p) ≡ true = and-left (is_one (size p)) (not is_total || is_total_order W.catalog p) ok.root in
+    let one : is_one (size p) ≡ true = root-is-one ok.derives W.catalog is_total p ok.root in
     let real = numbered-faults-are-real in
     record {
       own = h.2 ok.fit (some-workers W is_total p ok);
-      overflow = λ node e. real.overflow W ok.set p ok.fit ok.formed ok.allows one h.0 node (let Q : Fault → Type 0 = λ x. SomeFails W p h.0 x in subst Q e h.1);
-      order = λ o. real.order W ok.set p ok.fit ok.formed ok.allows one h.0 f o h.1;
+      overflow = λ node e. real.overflow W ok.set ok.derives p ok.fit ok.formed ok.inputs ok.allows one h.0 node (let Q : Fault → Type 0 = λ x. SomeFails W p h.0 x in subst Q e h.1);
+      order = λ o. real.order W ok.set ok.derives p ok.fit ok.formed ok.inputs ok.allows one h.0 f o h.1;
     }
 
 module _ {O S : Type 0} (OS : O → Ledger → Type 0) (op : O → Op) (SS : S → Routing → Stream → (ℕ → List PacketView) → Type 0) (task : S → Task) (post : S → Post) (bounds : S → List Val)

@@ -7,7 +7,8 @@ use Rattle.vx_plan_nodes.specs.Types.{well_formed}
 use Rattle.vx_plan_nodes.specs.Phases.{is_open}
 use Rattle.vx_plan_nodes.specs.Numbering.{is_fit}
 use Rattle.vx_plan_nodes.specs.Runs.{Runs}
-use Rattle.vx_check_rules.specs.Rules.{allowed, root_allowed}
+use Rattle.vx_plan_facts.specs.RowFacts.{all_inputs_fit}
+use Rattle.vx_check_rules.specs.Tables.{allowed_by, root_allowed_by}
 use Rattle.vx_check_rules.specs.Claims.{Delivers}
 use Rattle.vx_ops.specs.declared.fault.Code.TheVariants.{Overflow}
 use Rattle.vx_ops.specs.declared.fault.Fault.{Fault}
@@ -22,15 +23,17 @@ use Rattle.vx_exec_steps.specs.Verdicts.{IsOwn}
 use Rattle.vx_exec_steps.specs.declared.verdict.RunState.{RunState}
 use Rattle.vx_exec_steps.specs.declared.verdict.RunState.TheVariants as run_state
 
--- a setting with its premises, and a plan that is accepted: its scans read the setting's relations, no partial grouping is left
--- without its final, and the rule table allows it
+-- a setting with its premises, and a plan that is accepted: its scans read the setting's relations, the inputs of its operators fit, no partial grouping is
+-- left without its final, and the rule table that it is judged by allows it: the first one, or if the plan derives the one with what is known of columns
 pub record IsAccepted (W : RunModel) (is_total : Bool) (p : Plan) : Type 0 where
   pub set : IsSet W
   pub fit : is_fit W.relation_of p ≡ true
   pub formed : well_formed W.catalog p ≡ true
+  pub inputs : all_inputs_fit W.catalog p ≡ true
   pub closed : is_open p ≡ false
-  pub allows : allowed W.catalog p ≡ true
-  pub root : root_allowed W.catalog is_total p ≡ true
+  pub derives : Bool
+  pub allows : allowed_by derives W.catalog p ≡ true
+  pub root : root_allowed_by derives W.catalog is_total p ≡ true
 
 -- what a fault is worth: it is a worker's own; an overflow is one of the data; no rows fall and no packet is a stranger's
 pub record IsTrueFault (W : RunModel) (p : Plan) (f : Fault) : Type 0 where

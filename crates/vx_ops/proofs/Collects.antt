@@ -115,7 +115,7 @@ module _ (n : ℕ) (op : Unary) (none : unary_rows op [] ≡ Some []) where
           ended = λ e. absurd (failed-ended (Own NoMemory m) e);
           passes = λ f e. absurd (ended-failed f e);
           tests = tt;
-          holds_back = one-held-back n op k (inl refl);
+          holds_back = one-held-back n op k (inr r.2);
           blame = λ f e. inr (own-memory n op m k f (same-fault (Own NoMemory m) f e));
         };
       }
@@ -133,7 +133,7 @@ module _ (n : ℕ) (op : Unary) (none : unary_rows op [] ≡ Some []) where
           ended = λ e. absurd (failed-ended (Own Overflow n) e);
           passes = λ f e. absurd (ended-failed f e);
           tests = tt;
-          holds_back = one-held-back n op k (inl refl);
+          holds_back = one-held-back n op k (inr r.2);
           blame = λ f e. inr (own-overflow k f (overflows n op k refl (may r.1)) (same-fault (Own Overflow n) f e));
         };
       }
@@ -152,7 +152,7 @@ module _ (n : ℕ) (op : Unary) (none : unary_rows op [] ≡ Some []) where
           ended = λ e. (refl, all);
           passes = λ f e. absurd (ended-failed f e);
           tests = tt;
-          holds_back = one-held-back n op k (inl refl);
+          holds_back = one-held-back n op k (inl (refl, all));
           blame = λ f e. absurd (ended-failed f e);
         };
       }
@@ -171,7 +171,7 @@ module _ (n : ℕ) (op : Unary) (none : unary_rows op [] ≡ Some []) where
           ended = λ e. absurd (running-ended (sym h.stands ∙ e));
           passes = λ f e. absurd (ended-failed f e);
           tests = tt;
-          holds_back = one-held-back n op k (inl refl);
+          holds_back = one-held-back n op k (inl (refl, all));
           blame = λ f e. absurd (running-failed f (sym h.stands ∙ e));
         };
       }
@@ -188,7 +188,7 @@ module _ (n : ℕ) (op : Unary) (none : unary_rows op [] ≡ Some []) where
           ended = λ e. (r.0, r.1);
           passes = λ f e. absurd (ended-failed f (sym r.0 ∙ e));
           tests = tt;
-          holds_back = one-held-back n op (with_end l) (inl r.0);
+          holds_back = one-held-back n op (with_end l) (inl (r.0, r.1));
           blame = λ f e. absurd (ended-failed f e);
         };
       }

@@ -2,7 +2,7 @@
 use Rattle.std.proofs.Common.{◌≡◌, ◌⊎◌, ℕ, List, [], ◌++◌, subst, true, false}
 use Rattle.vx_rows_values.specs.Values.{Row}
 use Rattle.vx_plan_nodes.specs.Plan.{Unary, select, project, distinct, sort, group, Binary, union, join}
-use Rattle.vx_ops.specs.Ledger.{Ledger, one_op, two_op, OwnBlame, HoldsBack}
+use Rattle.vx_ops.specs.Ledger.{Ledger, one_op, two_op, OwnBlame, IsAllGiven, HoldsBack}
 use Rattle.vx_ops.specs.declared.fault.Code.TheVariants.{NoMemory}
 use Rattle.vx_ops.specs.declared.fault.Fault.{Fault}
 use Rattle.vx_ops.specs.declared.fault.Fault.TheVariants.{Own}
@@ -37,8 +37,8 @@ same-fault f g e = cc
 pub own-memory : (n : ℕ) (op : Unary) (m : ℕ) (l : Ledger) (f : Fault) → Own NoMemory m ≡ f → OwnBlame (one_op n op) l f
 own-memory n op m l f e = let P : Fault → Type 0 = λ v. OwnBlame (one_op n op) l v in subst P e tt
 
--- an operator whose input has ended, or that has returned nothing, returned nothing too early
-pub one-held-back : (n : ℕ) (op : Unary) (l : Ledger) → (l.left.over ≡ Ended) ⊎ (l.gave.rows ≡ []) → HoldsBack (one_op n op) l
+-- an operator that has returned all of an input that has ended, or nothing, returned nothing too early
+pub one-held-back : (n : ℕ) (op : Unary) (l : Ledger) → IsAllGiven op l ⊎ (l.gave.rows ≡ []) → HoldsBack (one_op n op) l
 one-held-back n (group phase by aggregates) l h = h
 one-held-back n (sort of_parts cols) l h = h
 one-held-back n (select cs) l h = tt

@@ -116,10 +116,14 @@ abbrev pub TestsPackets : Op → Ledger → Type 0
 TestsPackets (receive port) l = (i : ℕ) → Came (λ p. IsFor port i p → ⊥) (l.came i) → l.gave.over ≡ Failed (Own Stranger port.exchange)
 TestsPackets op l = Unit {0}
 
--- a group and a sort return nothing before their input has ended, a hash join nothing before its right input has
+-- the input has ended, and all that is made of its rows was returned
+abbrev pub IsAllGiven : Unary → Ledger → Type 0
+IsAllGiven op l = (l.left.over ≡ Ended) × (unary_rows op l.left.rows ≡ Some l.gave.rows)
+
+-- a group and a sort return nothing before their input has ended, and then all that they make of it; a hash join nothing before its right input has
 abbrev pub HoldsBack : Op → Ledger → Type 0
-HoldsBack (one_op n (group phase by aggregates)) l = (l.left.over ≡ Ended) ⊎ (l.gave.rows ≡ [])
-HoldsBack (one_op n (sort of_parts cols)) l = (l.left.over ≡ Ended) ⊎ (l.gave.rows ≡ [])
+HoldsBack (one_op n (group phase by aggregates)) l = IsAllGiven (group phase by aggregates) l ⊎ (l.gave.rows ≡ [])
+HoldsBack (one_op n (sort of_parts cols)) l = IsAllGiven (sort of_parts cols) l ⊎ (l.gave.rows ≡ [])
 HoldsBack (two_op n (join false on)) l = (l.right.over ≡ Ended) ⊎ (l.gave.rows ≡ [])
 HoldsBack op l = Unit {0}
 

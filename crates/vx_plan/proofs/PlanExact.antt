@@ -28,14 +28,14 @@ unfolding resolved
 resolved-said d catalog p cat formed h =
     let a = ok_then _ (test_sizes d.sizes) p h in
     let b = ok_then _ (test_ranges d.ranges) p a.2 in
-    let t = ok_last (λ (t : Outline × ℕ). record { names = names_for d catalog; total = d.total; root = t.0 }) (typed_in (names_for d catalog) false 0 d.root) p b.2 in
+    let t = ok_last (λ (t : Outline × ℕ). record { names = names_for d catalog; total = d.total; derives = d.derives; root = t.0 }) (typed_in (names_for d catalog) false 0 d.root) p b.2 in
     let said = tree-said (names_for d catalog) false 0 d.root t.0 cat t.1 in
     let typed = resolved-typed (names_for d catalog) d.root t.0.0 t.0.1 cat formed a.1 b.1 t.1 in
     let P : TypedPlanView → Type 0 = λ p. IsExact d catalog p in
     subst P t.2 (
       refl,
       record { typed = typed.0; outputs = typed.2; sizes = sizes-passed d.sizes a.1; ranges = ranges-passed d.ranges b.1; columns = said.named },
-      ap (λ root. record { sizes = d.sizes; ranges = d.ranges; total = d.total; root = root }) said.says,
+      ap (λ root. record { sizes = d.sizes; ranges = d.ranges; total = d.total; derives = d.derives; root = root }) said.says,
     )
 
 resolved-again : (p : TypedPlanView) → IsCatalog p.names.catalog → IsNamed p → resolved (document_by_name p) p.names.catalog ≡ Ok p

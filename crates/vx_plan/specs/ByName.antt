@@ -115,4 +115,4 @@ tree_by_name s (binary h op t u) = form.binary (top_by_name s h) (binary_by_name
 tree_by_name s (exchange h k merge t) = form.exchange (top_by_name s h) (kind_by_name s (column_names t) k) (names_at (column_names t) merge) (tree_by_name s t)
 
 abbrev pub document_by_name : TypedPlanView → Document
-document_by_name p = record { sizes = p.names.sizes; ranges = p.names.ranges; total = p.total; root = tree_by_name p.names p.root }
+document_by_name p = record { sizes = p.names.sizes; ranges = p.names.ranges; total = p.total; derives = p.derives; root = tree_by_name p.names p.root }

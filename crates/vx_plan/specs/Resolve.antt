@@ -354,4 +354,4 @@ unfoldable pub resolved : Document → List Relation → Result TypedPlanView Re
 resolved d catalog =
     test_sizes d.sizes >>= λ u. test_ranges d.ranges >>= λ v.
     typed_in (record { catalog = catalog; ranges = d.ranges; sizes = d.sizes }) false 0 d.root >>= λ t.
-    Ok (record { names = record { catalog = catalog; ranges = d.ranges; sizes = d.sizes }; total = d.total; root = t.0 })
+    Ok (record { names = record { catalog = catalog; ranges = d.ranges; sizes = d.sizes }; total = d.total; derives = d.derives; root = t.0 })

@@ -133,17 +133,18 @@ fn erased_from(alloc: Global, number: u32, node: &TypedNode) -> Result<(TypedNod
 }
 
 /// The plan with every exchange replaced by its input, every group in two phases made one over the input of its partial, below the sorts between the two, every scan whole and of one worker, every claim one stream
-/// without order and keys, and not total. Nodes are numbered anew; declared sizes and ranges stay.
+/// without order and keys, and neither total nor asking for what is known of columns. Nodes are numbered anew; declared sizes and ranges stay.
 pub fn erase(alloc: Global, typed: &TypedPlan) -> Result<TypedPlan, PlanFault>
     ensures plan { IfOk result (λ p. plan p ≡ erase (plan typed.now)) }
     ensures names { IfOk result (λ p. names_in p ≡ names_in typed.now) }
     ensures outline { IfOk result (λ p. (resolved_of p).root ≡ erased_from 0 (resolved_of typed.now).root) }
     ensures total { IfOk result (λ p. (resolved_of p).total ≡ false) }
+    ensures derives { IfOk result (λ p. (resolved_of p).derives ≡ false) }
     ensures memory { IfErr result (λ e. e ≡ PlanFault.NoMemory) }
 {
     let (root, _) = erased_from(alloc, 0, typed.root())?;
     let catalog = typed.catalog().share()?;
     let sizes = copied_names(alloc, typed.sizes())?;
     let ranges = copied_ranges(alloc, typed.ranges())?;
-    Ok(TypedPlan::new(catalog, sizes, ranges, false, root))
+    Ok(TypedPlan::new(catalog, sizes, ranges, false, false, root))
 }

@@ -82,7 +82,8 @@ pub fn resolve(alloc: Global, plan: &Plan, catalog: &Catalog) -> Result<TypedPla
     let own = catalog.share()?;
     let sizes = copied_names(alloc, declared.sizes)?;
     let ranges = copied_ranges(alloc, declared.ranges)?;
-    Ok(TypedPlan::new(own, sizes, ranges, plan.is_total(), root))
+    let (total, derives) = (plan.is_total(), plan.derives());
+    Ok(TypedPlan::new(own, sizes, ranges, total, derives, root))
 }
 
 /// The law of resolving: a plan resolves to a typed plan exactly where the typed plan is over the catalog, typed and well named, and

@@ -65,7 +65,7 @@ sources-below w k v s reach x h =
     let r = any-first (λ c. s c && is_copy_of x (source k c)) w h in
     reach r.0 x r.1 (copy-is x (source k r.0) (and-right (s r.0) (is_copy_of x (source k r.0)) r.2))
 
-bool-same : (b c d : Bool) → (b ≡ true → c ≡ true → d ≡ true) → (b ≡ true → d ≡ true → c ≡ true) → (b && c) ≡ (b && d)
+pub bool-same : (b c d : Bool) → (b ≡ true → c ≡ true → d ≡ true) → (b ≡ true → d ≡ true → c ≡ true) → (b && c) ≡ (b && d)
 bool-same false c d f g = refl
 bool-same true true d f g = sym (f refl refl)
 bool-same true false true f g = g refl refl

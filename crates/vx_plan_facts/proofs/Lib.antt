@@ -16,8 +16,13 @@ pub mod Kept
 pub mod NamedColumns
 pub mod Numbers
 pub mod ColumnSets
+pub mod MarkedFacts
 pub mod ClosingFacts
 pub mod Searching
 pub mod AskingFacts
 pub mod Told
+pub mod WellTyped
 pub mod TypedKnown
+pub mod AnswerFacts
+pub mod KeptFacts
+pub mod KnownFacts

@@ -9,9 +9,13 @@ use Rattle.vx_plan_facts.specs.Facts.{Facts, values_of}
 use Rattle.vx_plan_facts.specs.Determined.{Columns, by_rows}
 use Rattle.vx_plan_facts.specs.DeterminedFacts.{WithinFirst}
 
+-- the first column of the class of one of the set, which is among the first n columns
+abbrev pub has_first : Facts → Columns → ℕ → Columns
+has_first k s n v = list_any (λ d. s d && (slice_index k.firsts d == v)) (first_columns n)
+
 -- a column that is equal to one of the set, itself among them
 abbrev pub has_equal : Facts → Columns → Columns
-has_equal k s c = list_any (λ d. s d && (slice_index k.firsts d == slice_index k.firsts c)) (first_columns (length k.firsts))
+has_equal k s c = has_first k s (length k.firsts) (slice_index k.firsts c)
 
 -- a fixed column, or such a one
 abbrev pub is_reached : Facts → Columns → Columns

@@ -14,3 +14,6 @@ pub mod ColumnSetView
 pub mod Closing
 pub mod Asking
 pub mod AskingView
+pub mod Known
+pub mod AnswersView
+pub mod KnownView

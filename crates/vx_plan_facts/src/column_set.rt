@@ -10,7 +10,8 @@ use vx_rows_values::limits::MAX_COLUMNS;
 /// A set of columns of a node, of those below the limit.
 #[derive(Clone, Copy)]
 pub struct ColumnSet {
-    held: [bool; MAX_COLUMNS],
+    // A bit for each column.
+    held: u64,
 }
 
 impl ColumnSet {
@@ -20,9 +21,7 @@ impl ColumnSet {
     pub fn new() -> ColumnSet
         ensures { (c : ℕ) → set_of_columns result c ≡ false }
     {
-        ColumnSet {
-            held: [false; MAX_COLUMNS],
-        }
+        ColumnSet { held: 0 }
     }
 
     /// These columns, of which those past the limit are left out.
@@ -51,7 +50,7 @@ impl ColumnSet {
     pub fn contains(&self, column: usize) -> bool
         ensures { result ≡ set_of_columns self.now column }
     {
-        column < MAX_COLUMNS && self.held[column]
+        column < MAX_COLUMNS && self.held >> column & 1 == 1
     }
 
     /// Whether all of these columns are among them.
@@ -66,12 +65,7 @@ impl ColumnSet {
         ensures all { result ≡ true → (c : ℕ) → set_of_columns self.now c ≡ true → set_of_columns others.now c ≡ true }
         ensures one { result ≡ false → (c : ℕ) × (c < max_columns) × (set_of_columns self.now c ≡ true) × (set_of_columns others.now c ≡ false) }
     {
-        for column in 0..MAX_COLUMNS {
-            if self.contains(column) && !others.contains(column) {
-                return false;
-            }
-        }
-        true
+        self.held & others.held == self.held
     }
 
     /// Puts a column in, if it is not past the limit.
@@ -79,8 +73,15 @@ impl ColumnSet {
         ensures { (c : ℕ) → c < max_columns → set_of_columns self.new c ≡ (set_of_columns self.old c || (c == column)) }
     {
         if column < MAX_COLUMNS {
-            self.held[column] = true;
+            self.held |= 1 << column;
         }
+    }
+
+    /// Puts the others in.
+    pub fn put_all(&mut self, others: &ColumnSet)
+        ensures { (c : ℕ) → c < max_columns → set_of_columns self.new c ≡ (set_of_columns self.old c || set_of_columns others.now c) }
+    {
+        self.held |= others.held;
     }
 
     /// Puts a column in, and says whether it is a new one.

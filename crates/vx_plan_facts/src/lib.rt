@@ -2,6 +2,7 @@
 //! of a plan, and is never claimed.
 #![tactic(auto)]
 
+mod answers;
 mod carrying;
 mod classes;
 mod closing;
@@ -13,6 +14,7 @@ mod facts;
 mod follow_laws;
 mod inputs;
 mod joining;
+mod known;
 mod labels;
 mod laws;
 mod numbered;
@@ -25,9 +27,9 @@ pub use determined_laws::{
     determined_holds, determined_in_listed, facts_of_serial, keys_of_serial, least_sets,
     more_from_keys, more_from_more,
 };
-pub use determining::{determined, determined_aside};
 pub use facts::{ColumnFacts, FixedColumn};
 pub use follow_laws::{keys_follow, orders_follow, totals_follow};
+pub use known::{KnownColumns, known_columns};
 pub use laws::{
     binary_meets, exchange_meets, scan_meets, serial_meets, typed_inputs_fit, unary_meets,
 };

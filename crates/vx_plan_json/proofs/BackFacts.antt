@@ -14,10 +14,10 @@ use Rattle.vx_rows_values.specs.Lists.{is_some_list}
 use Rattle.vx_plan_json.specs.Document.{PartForm, one, any, all, hash_part, range_part, ClaimForm, SideForm, column, constant, ConditionForm, OutputForm, FunctionForm, least, greatest, sum, count_rows, AggregateForm, ScanForm, UnaryForm, select, project, distinct, sort, partial_sort, group, partial_group, final_group, BinaryForm, union, join, KindForm, hash, range, round, broadcast, gather, concat, Tree, scan, unary, binary, exchange, Document, tree_nodes, tree_levels}
 use Rattle.vx_rows_values.specs.Ranges.{RangeForm}
 use Rattle.vx_plan_json.specs.Form.{names_in, some_names_in, hash_part_in, range_part_in, part_in, keys_in, claim_in, claimed, test_named, side_in, condition_in, renamed_in, output_in, function_at, aggregate_in, pair_in}
-use Rattle.vx_plan_json.specs.Formed.{are_names, are_some_names, is_range_form, is_head_form, is_part_form, is_claim_form, is_side_form, is_condition_form, is_new_name, is_output_form, is_function_form, is_aggregate_form, is_scan_form, is_unary_form, is_pair_form, is_binary_form, is_kind_form, is_merge_form, is_tree_form}
-use Rattle.vx_plan_json.specs.Operators.{own_scan, own_unary, own_binary, own_exchange, own_in, scan_in, scan_own, select_in, outputs_in, sort_in, partial_sort_in, sorted_in, lists_in, group_in, partial_in, final_in, phased_in, unary_in, unary_own, join_in, union_in, hash_in, range_in, sized_in, gather_in, concat_in, kind_in, merge_in, exchange_own}
+use Rattle.vx_plan_json.specs.Formed.{are_names, are_some_names, is_range_form, is_head_form, is_part_form, is_claim_form, is_side_form, is_condition_form, is_new_name, is_output_form, is_function_form, is_aggregate_form, is_scan_form, is_unary_form, is_pair_form, is_binary_form, is_kind_form, is_merge_form, is_tree_form, has_few_keys, are_keys_few}
+use Rattle.vx_plan_json.specs.Operators.{OwnForm, own_scan, own_unary, own_binary, own_exchange, own_in, own_claim, own_under, scan_in, scan_own, select_in, outputs_in, sort_in, partial_sort_in, sorted_in, lists_in, group_in, partial_in, final_in, phased_in, unary_in, unary_own, join_in, union_in, hash_in, range_in, sized_in, gather_in, concat_in, kind_in, merge_in, exchange_own}
 use Rattle.vx_plan_json.specs.Reading.{node_in, declared_in, head_of, head_in, document_in}
-use Rattle.vx_plan_json.specs.Written.{list_json, names_json, value_json, with_some, with_text, range_json, part_json, with_part, claim_members, with_object, with_claim, with_side, condition_json, output_json, with_function, aggregate_json, pair_json, with_scan, with_unary, with_binary, with_kind, scan_json, unary_json, binary_json, exchange_json, node_json, with_total, document_json}
+use Rattle.vx_plan_json.specs.Written.{list_json, names_json, value_json, with_some, with_text, range_json, part_json, with_part, claim_members, with_object, with_claim, with_side, condition_json, output_json, with_function, aggregate_json, pair_json, with_scan, with_unary, with_binary, with_kind, scan_json, unary_json, binary_json, exchange_json, node_json, with_flag, document_json}
 use Rattle.vx_plan_json.proofs.Holds.{and-left, and-right}
 use Rattle.vx_catalog_json.proofs.LookFacts.{list_of-items_of}
 use Rattle.vx_plan_json.proofs.NodeFacts.{node_step}
@@ -285,55 +285,73 @@ exchange-back c k m d h i j =
     by_claim (λ ms c. own_in (object (put (codes "input") d (with_some (codes "merge") string m (with_kind k (with_text (codes "op") (codes "exchange") ms))))) ≡ Some (own_exchange c k m d))
     (exchange_bare k m d i j) (λ e c g. exchange_claimed e c g k m d i j) c h
 
+-- the same in a plan that asks for what is known of its columns, or does not
+under-back : (derives : Bool) (d : Data) (own : OwnForm) → own_in d ≡ Some own → has_few_keys derives (own_claim own) ≡ true → own_under derives d ≡ Some own
+unfolding own_under
+under-back derives d own e h = rw (e, h) refl
+
 -- a tree that is neither too deep nor too large
-pub node-back : (levels seen : ℕ) (path : List ℕ) (t : Tree) → is_tree_form t ≡ true → tree_levels t ≤ levels → seen + tree_nodes t ≤ 1000
-    → node_in levels seen path (node_json t) ≡ Ok (t, seen + tree_nodes t)
-node-back levels seen path (scan c s) h low few =
-    node_step levels seen path _ _ (omega (arith, low)) (omega (arith, few)) (scan-back c s (and-left (is_claim_form c) (is_scan_form s) h) (and-right (is_claim_form c) (is_scan_form s) h))
-node-back levels seen path (unary c op t) h low few =
+pub node-back : (derives : Bool) (levels seen : ℕ) (path : List ℕ) (t : Tree) → is_tree_form t ≡ true → are_keys_few derives t ≡ true → tree_levels t ≤ levels → seen + tree_nodes t ≤ 1000
+    → node_in derives levels seen path (node_json t) ≡ Ok (t, seen + tree_nodes t)
+node-back derives levels seen path (scan c s) h keys low few =
+    let own = scan-back c s (and-left (is_claim_form c) (is_scan_form s) h) (and-right (is_claim_form c) (is_scan_form s) h) in
+    node_step derives levels seen path _ _ (omega (arith, low)) (omega (arith, few)) (under-back derives _ _ own keys)
+node-back derives levels seen path (unary c op t) h keys low few =
     let rest = and-right (is_claim_form c) (is_unary_form op && is_tree_form t) h in
     let own = unary-back c op (node_json t) (and-left (is_claim_form c) (is_unary_form op && is_tree_form t) h) (and-left (is_unary_form op) (is_tree_form t) rest) in
-    let step = node_step levels seen path _ _ (omega (arith, low)) (omega (arith, few)) own in
-    let below = node-back (levels - 1) (seen + 1) (path ++ codes ".input") t (and-right (is_unary_form op) (is_tree_form t) rest) (omega (arith, low)) (omega (arith, few)) in
+    let under = under-back derives _ _ own (and-left (has_few_keys derives c) (are_keys_few derives t) keys) in
+    let step = node_step derives levels seen path _ _ (omega (arith, low)) (omega (arith, few)) under in
+    let below = node-back derives (levels - 1) (seen + 1) (path ++ codes ".input") t (and-right (is_unary_form op) (is_tree_form t) rest) (and-right (has_few_keys derives c) (are_keys_few derives t) keys) (omega (arith, low)) (omega (arith, few)) in
     let count : seen + 1 + tree_nodes t ≡ seen + suc (tree_nodes t) = omega arith in
     rw (step, below) (ap (λ n. Ok (unary c op t, n)) count)
-node-back levels seen path (binary c op t u) h low few =
+node-back derives levels seen path (binary c op t u) h keys low few =
     let rest = and-right (is_claim_form c) (is_binary_form op && (is_tree_form t && is_tree_form u)) h in
     let trees = and-right (is_binary_form op) (is_tree_form t && is_tree_form u) rest in
     let own = binary-back c op (node_json t) (node_json u) (and-left (is_claim_form c) (is_binary_form op && (is_tree_form t && is_tree_form u)) h) (and-left (is_binary_form op) (is_tree_form t && is_tree_form u) rest) in
-    let step = node_step levels seen path _ _ (omega (arith, low)) (omega (arith, few)) own in
+    let inputs = and-right (has_few_keys derives c) (are_keys_few derives t && are_keys_few derives u) keys in
+    let under = under-back derives _ _ own (and-left (has_few_keys derives c) (are_keys_few derives t && are_keys_few derives u) keys) in
+    let step = node_step derives levels seen path _ _ (omega (arith, low)) (omega (arith, few)) under in
     let l = le-max_left (tree_levels t) (tree_levels u) in
     let r = le-max_right (tree_levels t) (tree_levels u) in
-    let first = node-back (levels - 1) (seen + 1) (path ++ codes ".left") t (and-left (is_tree_form t) (is_tree_form u) trees) (omega (arith, low, l)) (omega (arith, few)) in
-    let second = node-back (levels - 1) (seen + 1 + tree_nodes t) (path ++ codes ".right") u (and-right (is_tree_form t) (is_tree_form u) trees) (omega (arith, low, r)) (omega (arith, few)) in
+    let first = node-back derives (levels - 1) (seen + 1) (path ++ codes ".left") t (and-left (is_tree_form t) (is_tree_form u) trees) (and-left (are_keys_few derives t) (are_keys_few derives u) inputs) (omega (arith, low, l)) (omega (arith, few)) in
+    let second = node-back derives (levels - 1) (seen + 1 + tree_nodes t) (path ++ codes ".right") u (and-right (is_tree_form t) (is_tree_form u) trees) (and-right (are_keys_few derives t) (are_keys_few derives u) inputs) (omega (arith, low, r)) (omega (arith, few)) in
     let count : seen + 1 + tree_nodes t + tree_nodes u ≡ seen + suc (tree_nodes t + tree_nodes u) = omega arith in
     rw (step, first, second) (ap (λ n. Ok (binary c op t u, n)) count)
-node-back levels seen path (exchange c k m t) h low few =
+node-back derives levels seen path (exchange c k m t) h keys low few =
     let rest = and-right (is_claim_form c) (is_kind_form k && (is_merge_form k m && is_tree_form t)) h in
     let last = and-right (is_kind_form k) (is_merge_form k m && is_tree_form t) rest in
     let own = exchange-back c k m (node_json t) (and-left (is_claim_form c) (is_kind_form k && (is_merge_form k m && is_tree_form t)) h) (and-left (is_kind_form k) (is_merge_form k m && is_tree_form t) rest) (and-left (is_merge_form k m) (is_tree_form t) last) in
-    let step = node_step levels seen path _ _ (omega (arith, low)) (omega (arith, few)) own in
-    let below = node-back (levels - 1) (seen + 1) (path ++ codes ".input") t (and-right (is_merge_form k m) (is_tree_form t) last) (omega (arith, low)) (omega (arith, few)) in
+    let under = under-back derives _ _ own (and-left (has_few_keys derives c) (are_keys_few derives t) keys) in
+    let step = node_step derives levels seen path _ _ (omega (arith, low)) (omega (arith, few)) under in
+    let below = node-back derives (levels - 1) (seen + 1) (path ++ codes ".input") t (and-right (is_merge_form k m) (is_tree_form t) last) (and-right (has_few_keys derives c) (are_keys_few derives t) keys) (omega (arith, low)) (omega (arith, few)) in
     let count : seen + 1 + tree_nodes t ≡ seen + suc (tree_nodes t) = omega arith in
     rw (step, below) (ap (λ n. Ok (exchange c k m t, n)) count)
 
 -- ---- documents
 
-head-back : (zs : List Name) (rs : List RangeForm) (b : Bool) (d : Data) → are_names zs ≡ true → list_all is_range_form rs ≡ true
-    → head_in (object (put (codes "root") d (with_total b (with_some (codes "ranges") range_json rs (with_some (codes "sizes") string zs no_members))))) ≡ Some (head_of zs rs b d)
+head-back : (zs : List Name) (rs : List RangeForm) (b v : Bool) (d : Data) → are_names zs ≡ true → list_all is_range_form rs ≡ true
+    → head_in (object (put (codes "root") d (with_flag (codes "derive") v (with_flag (codes "total") b (with_some (codes "ranges") range_json rs (with_some (codes "sizes") string zs no_members)))))) ≡ Some (head_of zs rs b v d)
 unfolding head_in
-head-back [] [] true d h k = refl
-head-back [] (r ∷ rs) true d h k = rw (list-back is_range_form declared_in range_json declared-back (r ∷ rs) k) refl
-head-back (z ∷ zs) [] true d h k = rw (names-back (z ∷ zs) h) refl
-head-back (z ∷ zs) (r ∷ rs) true d h k = rw (names-back (z ∷ zs) h, list-back is_range_form declared_in range_json declared-back (r ∷ rs) k) refl
-head-back [] [] false d h k = refl
-head-back [] (r ∷ rs) false d h k = rw (list-back is_range_form declared_in range_json declared-back (r ∷ rs) k) refl
-head-back (z ∷ zs) [] false d h k = rw (names-back (z ∷ zs) h) refl
-head-back (z ∷ zs) (r ∷ rs) false d h k = rw (names-back (z ∷ zs) h, list-back is_range_form declared_in range_json declared-back (r ∷ rs) k) refl
+head-back [] [] true true d h k = refl
+head-back [] (r ∷ rs) true true d h k = rw (list-back is_range_form declared_in range_json declared-back (r ∷ rs) k) refl
+head-back (z ∷ zs) [] true true d h k = rw (names-back (z ∷ zs) h) refl
+head-back (z ∷ zs) (r ∷ rs) true true d h k = rw (names-back (z ∷ zs) h, list-back is_range_form declared_in range_json declared-back (r ∷ rs) k) refl
+head-back [] [] true false d h k = refl
+head-back [] (r ∷ rs) true false d h k = rw (list-back is_range_form declared_in range_json declared-back (r ∷ rs) k) refl
+head-back (z ∷ zs) [] true false d h k = rw (names-back (z ∷ zs) h) refl
+head-back (z ∷ zs) (r ∷ rs) true false d h k = rw (names-back (z ∷ zs) h, list-back is_range_form declared_in range_json declared-back (r ∷ rs) k) refl
+head-back [] [] false true d h k = refl
+head-back [] (r ∷ rs) false true d h k = rw (list-back is_range_form declared_in range_json declared-back (r ∷ rs) k) refl
+head-back (z ∷ zs) [] false true d h k = rw (names-back (z ∷ zs) h) refl
+head-back (z ∷ zs) (r ∷ rs) false true d h k = rw (names-back (z ∷ zs) h, list-back is_range_form declared_in range_json declared-back (r ∷ rs) k) refl
+head-back [] [] false false d h k = refl
+head-back [] (r ∷ rs) false false d h k = rw (list-back is_range_form declared_in range_json declared-back (r ∷ rs) k) refl
+head-back (z ∷ zs) [] false false d h k = rw (names-back (z ∷ zs) h) refl
+head-back (z ∷ zs) (r ∷ rs) false false d h k = rw (names-back (z ∷ zs) h, list-back is_range_form declared_in range_json declared-back (r ∷ rs) k) refl
 
-pub document-back : (d : Document) → is_head_form d.sizes d.ranges ≡ true → is_tree_form d.root ≡ true → tree_levels d.root ≤ 64 → tree_nodes d.root ≤ 1000 → document_in (document_json d) ≡ Ok d
+pub document-back : (d : Document) → is_head_form d.sizes d.ranges ≡ true → is_tree_form d.root ≡ true → are_keys_few d.derives d.root ≡ true → tree_levels d.root ≤ 64 → tree_nodes d.root ≤ 1000 → document_in (document_json d) ≡ Ok d
 unfolding document_in
-document-back d h formed low few =
-    let head = head-back d.sizes d.ranges d.total (node_json d.root) (and-left (are_names d.sizes) (list_all is_range_form d.ranges) h) (and-right (are_names d.sizes) (list_all is_range_form d.ranges) h) in
-    let root = node-back 64 0 (codes "root") d.root formed low (omega (arith, few)) in
+document-back d h formed keys low few =
+    let head = head-back d.sizes d.ranges d.total d.derives (node_json d.root) (and-left (are_names d.sizes) (list_all is_range_form d.ranges) h) (and-right (are_names d.sizes) (list_all is_range_form d.ranges) h) in
+    let root = node-back d.derives 64 0 (codes "root") d.root formed keys low (omega (arith, few)) in
     rw (head, root) refl

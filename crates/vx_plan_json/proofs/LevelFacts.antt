@@ -4,7 +4,7 @@ use Rattle.std.proofs.Math.Nat.{max-le}
 use Rattle.serde_json.specs.Data.{Data}
 use Rattle.vx_plan_json.specs.Fault.{Refusal, too_deep, ◌>>=◌}
 use Rattle.vx_plan_json.specs.Document.{Tree, scan, unary, binary, exchange, tree_levels}
-use Rattle.vx_plan_json.specs.Operators.{OwnForm, own_scan, own_unary, own_binary, own_exchange, own_in}
+use Rattle.vx_plan_json.specs.Operators.{OwnForm, own_scan, own_unary, own_binary, own_exchange, own_under}
 use Rattle.vx_plan_json.specs.Reading.{node_in, with_inputs}
 use Rattle.vx_plan_json.proofs.NodeCounts.{both_ok}
 
@@ -44,15 +44,15 @@ inputs_low levels below low seen path (Some (own_exchange c k m d)) r h =
     let P : Tree × ℕ → Type 0 = λ p. IsLow (suc levels) p in
     subst P e (omega (arith, n))
 
-low_if : (levels : ℕ) (below : ℕ → List ℕ → Data → Result (Tree × ℕ) Refusal) → AreLow levels below → (seen : ℕ) (path : List ℕ) (d : Data) (r : Tree × ℕ) (b : Bool)
-    → cond b (with_inputs below seen path (own_in d)) (Err too_deep) ≡ Ok r → IsLow (suc levels) r
-low_if levels below low seen path d r true h = inputs_low levels below low seen path (own_in d) r h
-low_if levels below low seen path d r false h = cc
+low_if : (derives : Bool) (levels : ℕ) (below : ℕ → List ℕ → Data → Result (Tree × ℕ) Refusal) → AreLow levels below → (seen : ℕ) (path : List ℕ) (d : Data) (r : Tree × ℕ) (b : Bool)
+    → cond b (with_inputs below seen path (own_under derives d)) (Err too_deep) ≡ Ok r → IsLow (suc levels) r
+low_if derives levels below low seen path d r true h = inputs_low levels below low seen path (own_under derives d) r h
+low_if derives levels below low seen path d r false h = cc
 
-node_low : (levels : ℕ) → AreLow levels (node_in levels)
+node_low : (derives : Bool) (levels : ℕ) → AreLow levels (node_in derives levels)
 unfolding node_in
-node_low zero seen path d r h = cc
-node_low (suc levels) seen path d r h = low_if levels (node_in levels) (node_low levels) seen path d r (ltb seen 1000) h
+node_low derives zero seen path d r h = cc
+node_low derives (suc levels) seen path d r h = low_if derives levels (node_in derives levels) (node_low derives levels) seen path d r (ltb seen 1000) h
 
-pub few_levels : (levels seen : ℕ) (path : List ℕ) (d : Data) (t : Tree) (after : ℕ) → node_in levels seen path d ≡ Ok (t, after) → tree_levels t ≤ levels
-few_levels levels seen path d t after h = node_low levels seen path d (t, after) h
+pub few_levels : (derives : Bool) (levels seen : ℕ) (path : List ℕ) (d : Data) (t : Tree) (after : ℕ) → node_in derives levels seen path d ≡ Ok (t, after) → tree_levels t ≤ levels
+few_levels derives levels seen path d t after h = node_low derives levels seen path d (t, after) h

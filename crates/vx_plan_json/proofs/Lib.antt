@@ -4,6 +4,7 @@ pub mod TextFacts
 pub mod Holds
 pub mod FormedFacts
 pub mod OwnFacts
+pub mod KeyFacts
 pub mod LevelFacts
 pub mod HeadFacts
 pub mod PlainFacts

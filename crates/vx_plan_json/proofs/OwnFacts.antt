@@ -10,9 +10,9 @@ use Rattle.vx_plan_json.specs.Fault.{Refusal, too_deep, ◌>>=◌}
 use Rattle.vx_rows_values.specs.Values.{Name}
 use Rattle.vx_plan_json.specs.Document.{AggregateForm, select, project, distinct, sort, partial_sort, group, partial_group, final_group, BinaryForm, union, join, hash, range, round, broadcast, gather, concat, KindForm, Tree, unary, binary, exchange}
 use Rattle.vx_plan_json.specs.Form.{names_in, some_names_in, claimed, condition_in, output_in, aggregate_in, pair_in}
-use Rattle.vx_plan_json.specs.Operators.{OwnForm, own_scan, own_unary, own_binary, own_exchange, mode_named, scan_in, scan_own, select_in, outputs_in, sort_in, partial_sort_in, sort_named, sort_by, sorted_in, group_or, lists_in, group_in, partial_in, final_in, phase_named, group_by, phased_in, unary_in, unary_own, method_named, join_in, union_in, binary_own, hash_in, range_in, sized_in, gather_in, concat_in, kind_in, merge_in, merge_by, exchange_own, own_named, own_in}
+use Rattle.vx_plan_json.specs.Operators.{OwnForm, own_scan, own_unary, own_binary, own_exchange, mode_named, scan_in, scan_own, select_in, outputs_in, sort_in, partial_sort_in, sort_named, sort_by, sorted_in, group_or, lists_in, group_in, partial_in, final_in, phase_named, group_by, phased_in, unary_in, unary_own, method_named, join_in, union_in, binary_own, hash_in, range_in, sized_in, gather_in, concat_in, kind_in, merge_in, merge_by, exchange_own, own_named, own_in, own_claim, if_few_keys, own_under}
 use Rattle.vx_plan_json.specs.Reading.{node_in, with_inputs}
-use Rattle.vx_plan_json.specs.Formed.{are_names, are_some_names, is_claim_form, is_condition_form, is_output_form, is_aggregate_form, is_scan_form, is_group_form, is_unary_form, is_pair_form, is_binary_form, is_kind_form, is_merge_form, is_tree_form}
+use Rattle.vx_plan_json.specs.Formed.{are_names, are_some_names, is_claim_form, is_condition_form, is_output_form, is_aggregate_form, is_scan_form, is_group_form, is_unary_form, is_pair_form, is_binary_form, is_kind_form, is_merge_form, is_tree_form, has_few_keys}
 use Rattle.vx_plan_json.proofs.Holds.{and-left, and-right, and-both, Within, within_then, within_any, within_map, within_if, Holds, holds_then}
 use Rattle.vx_plan_json.proofs.FormedFacts.{name_at-some, each_within, some_within, names_within, some_names_within, claimed-within, condition-within, output-within, aggregate-within, pair-within}
 
@@ -239,6 +239,13 @@ own-within d = within_any is_own_form (λ s. own_named s d) (text_at (codes "op"
     (within_if is_own_form (bytes_eq s (codes "join")) (binary_own (join_in d) d) _ (binary_own-within (join_in d) d (join-within d))
     (within_if is_own_form (bytes_eq s (codes "exchange")) (exchange_own d) (unary_own s d) (exchange_own-within d) (unary_own-within s d)))))
 
+few-within : (derives : Bool) (own : OwnForm) → is_own_form own ≡ true → Within is_own_form (if_few_keys derives own)
+few-within derives own h = within_if is_own_form (has_few_keys derives (own_claim own)) (Some own) None h tt
+
+under-within : (derives : Bool) (d : Data) → Within is_own_form (own_under derives d)
+unfolding own_under
+under-within derives d = within_then is_own_form is_own_form (if_few_keys derives) (own_in d) (own-within d) (few-within derives)
+
 abbrev IsFormed : Tree × ℕ → Type 0
 IsFormed r = is_tree_form r.0 ≡ true
 
@@ -266,7 +273,8 @@ formed_if true r h = h
 formed_if false r h = tt
 
 -- every tree that is read has the form
-pub node-formed : (levels seen : ℕ) (path : List ℕ) (d : Data) → Holds (λ (r : Tree × ℕ). is_tree_form r.0 ≡ true) (node_in levels seen path d)
+pub node-formed : (derives : Bool) (levels seen : ℕ) (path : List ℕ) (d : Data) → Holds (λ (r : Tree × ℕ). is_tree_form r.0 ≡ true) (node_in derives levels seen path d)
 unfolding node_in
-node-formed zero seen path d = tt
-node-formed (suc levels) seen path d = formed_if (ltb seen 1000) (with_inputs (node_in levels) seen path (own_in d)) (inputs-formed (node_in levels) (node-formed levels) seen path (own_in d) (own-within d))
+node-formed derives zero seen path d = tt
+node-formed derives (suc levels) seen path d =
+    formed_if (ltb seen 1000) (with_inputs (node_in derives levels) seen path (own_under derives d)) (inputs-formed (node_in derives levels) (node-formed derives levels) seen path (own_under derives d) (under-within derives d))

@@ -12,7 +12,7 @@ use Rattle.vx_rows_values.specs.Values.{Val, num, text, Name}
 use Rattle.vx_rows_values.specs.Test.{test_text}
 use Rattle.vx_plan_json.specs.Document.{PartForm, one, any, all, hash_part, range_part, ClaimForm, SideForm, column, constant, ConditionForm, OutputForm, FunctionForm, least, greatest, sum, count_rows, AggregateForm, ScanForm, UnaryForm, select, project, distinct, sort, partial_sort, group, partial_group, final_group, BinaryForm, union, join, KindForm, hash, range, round, broadcast, gather, concat, Tree, scan, unary, binary, exchange, Document, tree_levels}
 use Rattle.vx_rows_values.specs.Ranges.{RangeForm}
-use Rattle.vx_plan_json.specs.Written.{list_json, names_json, value_json, with_some, with_text, range_json, part_json, with_part, claim_members, with_object, with_claim, with_side, condition_json, renamed_json, output_json, with_call, with_function, aggregate_json, pair_json, with_some_text, mode_text, with_scan, with_lists, with_phase, with_unary, method_text, with_binary, with_kind, node_json, with_total, document_json}
+use Rattle.vx_plan_json.specs.Written.{list_json, names_json, value_json, with_some, with_text, range_json, part_json, with_part, claim_members, with_object, with_claim, with_side, condition_json, renamed_json, output_json, with_call, with_function, aggregate_json, pair_json, with_some_text, mode_text, with_scan, with_lists, with_phase, with_unary, method_text, with_binary, with_kind, node_json, with_flag, document_json}
 
 -- no deeper than n, and without floats
 pub record IsPlain (n : ℕ) (d : Data) : Type 0 where
@@ -212,14 +212,15 @@ node-plain (exchange c k m t) =
     (object-plain (tree_levels t + 3) _ (put-plain (tree_levels t + 3) (codes "input") (node_json t) _ (node-plain t)
     (all-more _ (omega arith) (with_some-plain 2 (codes "merge") string (text-plain 2) m _ (with_kind-plain k _ (with_text-plain 3 (codes "op") (codes "exchange") _ (with_claim-plain c)))))))
 
-total-plain : (b : Bool) (ms : Members) → ArePlain 3 ms → ArePlain 3 (with_total b ms)
-total-plain false ms q = q
-total-plain true ms q = put-plain 3 (codes "total") (boolean true) ms (record { low = omega arith; exact = refl }) q
+flag-plain : (key : List ℕ) (b : Bool) (ms : Members) → ArePlain 3 ms → ArePlain 3 (with_flag key b ms)
+flag-plain key false ms q = q
+flag-plain key true ms q = put-plain 3 key (boolean true) ms (record { low = omega arith; exact = refl }) q
 
 pub document-plain : (d : Document) → tree_levels d.root ≤ 64 → IsPlain 68 (document_json d)
 document-plain d h =
     object-plain 67 _ (put-plain 67 (codes "root") (node_json d.root) _ (more (omega (arith, h)) (node-plain d.root))
-    (all-more _ (omega arith) (total-plain d.total _ (with_some-plain 2 (codes "ranges") range_json range-plain d.ranges _ (with_some-plain 2 (codes "sizes") string (text-plain 2) d.sizes no_members (none-plain 3))))))
+    (all-more _ (omega arith) (flag-plain (codes "derive") d.derives _ (flag-plain (codes "total") d.total _
+    (with_some-plain 2 (codes "ranges") range_json range-plain d.ranges _ (with_some-plain 2 (codes "sizes") string (text-plain 2) d.sizes no_members (none-plain 3)))))))
 
 -- an object with a member is put
 pub some_object : (key : List ℕ) (es : List (String Global × Value)) (ms : Members) → (length es ≡ 0 → ⊥) → with_object key (members_view es) ms ≡ put key (object (members_view es)) ms

@@ -102,6 +102,7 @@ pub record Document : Type 0 where
   pub sizes : List Name
   pub ranges : List RangeForm
   pub total : Bool
+  pub derives : Bool
   pub root : Tree
 
 -- how many nodes

@@ -1,8 +1,9 @@
 -- What reading assures of a plan: no name and no list that must have an entry is empty, and every constant and bound can be held.
-use Rattle.std.specs.Prelude.{Bool, true, not, ◌&&◌, ◌||◌, List, Option, Some, None}
+use Rattle.std.specs.Prelude.{Bool, true, not, ◌&&◌, ◌||◌, List, length, nat_le, Option, Some, None}
 use Rattle.std.specs.List.{list_all}
 use Rattle.vx_rows_values.specs.Types.{is_held}
 use Rattle.vx_rows_values.specs.Lists.{is_some_list}
+use Rattle.vx_rows_values.specs.Limits.{max_keys}
 use Rattle.vx_rows_values.specs.Values.{Name}
 use Rattle.vx_plan_json.specs.Document.{PartForm, one, any, all, hash_part, range_part, ClaimForm, SideForm, column, constant, ConditionForm, OutputForm, FunctionForm, least, greatest, sum, count_rows, AggregateForm, ScanForm, UnaryForm, select, project, distinct, sort, partial_sort, group, partial_group, final_group, BinaryForm, union, join, KindForm, hash, range, round, broadcast, gather, concat, Tree, scan, unary, binary, exchange}
 use Rattle.vx_rows_values.specs.Ranges.{RangeForm}
@@ -101,3 +102,14 @@ is_tree_form (scan c s) = is_claim_form c && is_scan_form s
 is_tree_form (unary c op t) = is_claim_form c && (is_unary_form op && is_tree_form t)
 is_tree_form (binary c op t u) = is_claim_form c && (is_binary_form op && (is_tree_form t && is_tree_form u))
 is_tree_form (exchange c k m t) = is_claim_form c && (is_kind_form k && (is_merge_form k m && is_tree_form t))
+
+-- where the plan asks for what is known of its columns, the claim has at most 16 keys
+abbrev pub has_few_keys : (derives : Bool) → ClaimForm → Bool
+has_few_keys derives c = not derives || nat_le (length c.keys) max_keys
+
+-- and so has every claim
+abbrev pub are_keys_few : (derives : Bool) → Tree → Bool
+are_keys_few derives (scan c s) = has_few_keys derives c
+are_keys_few derives (unary c op t) = has_few_keys derives c && are_keys_few derives t
+are_keys_few derives (binary c op t u) = has_few_keys derives c && (are_keys_few derives t && are_keys_few derives u)
+are_keys_few derives (exchange c k m t) = has_few_keys derives c && are_keys_few derives t

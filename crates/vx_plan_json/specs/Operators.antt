@@ -8,6 +8,7 @@ use Rattle.vx_plan_json.specs.Look.{name_at, text_at, each_in, some_in, or_defau
 use Rattle.vx_rows_values.specs.Values.{Name}
 use Rattle.vx_plan_json.specs.Document.{ClaimForm, ScanForm, OutputForm, AggregateForm, UnaryForm, select, project, distinct, sort, partial_sort, group, partial_group, final_group, BinaryForm, union, join, KindForm, hash, range, round, broadcast, gather, concat, claim_form, scan_form, unary_form, binary_form, kind_form}
 use Rattle.vx_plan_json.specs.Form.{names_in, some_names_in, claimed, condition_in, output_in, aggregate_in, pair_in}
+use Rattle.vx_plan_json.specs.Formed.{has_few_keys}
 use Rattle.vx_plan_json.specs.declared.operators.Own.{Own}
 use Rattle.vx_plan_json.specs.declared.operators.Own.TheVariants as own
 
@@ -217,3 +218,16 @@ own_named s d =
 
 unfoldable pub own_in : Data → Option OwnForm
 own_in d = option_and_then (λ s. own_named s d) (text_at (codes "op") d)
+
+abbrev pub own_claim : OwnForm → ClaimForm
+own_claim (own_scan c s) = c
+own_claim (own_unary c op d) = c
+own_claim (own_binary c op d e) = c
+own_claim (own_exchange c k m d) = c
+
+abbrev pub if_few_keys : (derives : Bool) → OwnForm → Option OwnForm
+if_few_keys derives own = if has_few_keys derives (own_claim own) then Some own else None
+
+-- the same in a plan that asks for what is known of its columns, or does not: there a claim has at most 16 keys
+unfoldable pub own_under : (derives : Bool) → Data → Option OwnForm
+own_under derives d = option_and_then (if_few_keys derives) (own_in d)

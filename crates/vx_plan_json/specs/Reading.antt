@@ -13,7 +13,7 @@ use Rattle.vx_rows_values.specs.Values.{Name}
 use Rattle.vx_plan_json.specs.Document.{Tree, scan, unary, binary, exchange, Document}
 use Rattle.vx_rows_values.specs.Ranges.{range_form, RangeForm}
 use Rattle.vx_plan_json.specs.Form.{names_in}
-use Rattle.vx_plan_json.specs.Operators.{OwnForm, own_scan, own_unary, own_binary, own_exchange, own_in}
+use Rattle.vx_plan_json.specs.Operators.{OwnForm, own_scan, own_unary, own_binary, own_exchange, own_under}
 use Rattle.vx_rows_values.specs.Limits.{max_levels, max_nodes}
 
 -- a node from what it says of itself; `below` reads an input, `seen` nodes come before it
@@ -26,9 +26,9 @@ with_inputs below seen path (Some (own_binary c op d e)) =
 with_inputs below seen path (Some (own_exchange c k m d)) = below (seen + 1) (path ++ codes ".input") d >>= λ t. Ok (exchange c k m t.0, t.1)
 
 -- the tree of a value, and how many nodes have been seen after it, in preorder
-unfoldable pub node_in : ℕ → ℕ → List ℕ → Data → Result (Tree × ℕ) Refusal
-node_in zero seen path d = Err too_deep
-node_in (suc levels) seen path d = if nat_lt seen max_nodes then with_inputs (node_in levels) seen path (own_in d) else Err too_deep
+unfoldable pub node_in : (derives : Bool) → ℕ → ℕ → List ℕ → Data → Result (Tree × ℕ) Refusal
+node_in derives zero seen path d = Err too_deep
+node_in derives (suc levels) seen path d = if nat_lt seen max_nodes then with_inputs (node_in derives levels) seen path (own_under derives d) else Err too_deep
 
 -- `{"name": name, "bounds": [value, ..]}`
 unfoldable pub declared_in : Data → Option RangeForm
@@ -41,23 +41,28 @@ pub record Head : Type 0 where
   pub sizes : List Name
   pub ranges : List RangeForm
   pub total : Bool
+  pub derives : Bool
   pub root : Data
 
-abbrev pub head_of : List Name → List RangeForm → Bool → Data → Head
-head_of zs rs t d = record { sizes = zs; ranges = rs; total = t; root = d }
+abbrev pub head_of : List Name → List RangeForm → (total derives : Bool) → Data → Head
+head_of zs rs total derives d = record { sizes = zs; ranges = rs; total = total; derives = derives; root = d }
 
 abbrev pub head_form : Header → Head
-head_form h = record { sizes = map string_bytes h.sizes.items; ranges = map range_form h.ranges.items; total = h.total; root = view h.root.now }
+head_form h = record { sizes = map string_bytes h.sizes.items; ranges = map range_form h.ranges.items; total = h.total; derives = h.derives; root = view h.root.now }
+
+-- a member that is true or false; false where it is left out
+abbrev pub flag_in : List ℕ → Data → Option Bool
+flag_in key d = or_default false as_bool (get key d)
 
 unfoldable pub head_in : Data → Option Head
-head_in d = if has_only (codes "sizes" ∷ codes "ranges" ∷ codes "total" ∷ codes "root" ∷ []) d
-    then option_and_then (λ zs. option_and_then (λ rs. option_and_then (λ t. option_map (head_of zs rs t) (get (codes "root") d))
-    (or_default false as_bool (get (codes "total") d))) (or_default [] (each_in declared_in) (get (codes "ranges") d))) (or_default [] names_in (get (codes "sizes") d))
+head_in d = if has_only (codes "sizes" ∷ codes "ranges" ∷ codes "total" ∷ codes "derive" ∷ codes "root" ∷ []) d
+    then option_and_then (λ zs. option_and_then (λ rs. option_and_then (λ t. option_and_then (λ e. option_map (head_of zs rs t e) (get (codes "root") d))
+    (flag_in (codes "derive") d)) (flag_in (codes "total") d)) (or_default [] (each_in declared_in) (get (codes "ranges") d))) (or_default [] names_in (get (codes "sizes") d))
     else None
 
 abbrev pub with_root : Option Head → Result Document Refusal
 with_root None = Err (bad_node (codes "document"))
-with_root (Some h) = node_in max_levels 0 (codes "root") h.root >>= λ t. Ok (record { sizes = h.sizes; ranges = h.ranges; total = h.total; root = t.0 })
+with_root (Some h) = node_in h.derives max_levels 0 (codes "root") h.root >>= λ t. Ok (record { sizes = h.sizes; ranges = h.ranges; total = h.total; derives = h.derives; root = t.0 })
 
 -- the plan of a JSON value
 unfoldable pub document_in : Data → Result Document Refusal

@@ -166,10 +166,12 @@ node_json (exchange c k m t) = exchange_json c k m (node_json t)
 
 -- ---- the document
 
-abbrev pub with_total : Bool → Members → Members
-with_total false ms = ms
-with_total true ms = put (codes "total") (boolean true) ms
+-- with true at the key, unless it is false
+abbrev pub with_flag : List ℕ → Bool → Members → Members
+with_flag key false ms = ms
+with_flag key true ms = put key (boolean true) ms
 
 abbrev pub document_json : Document → Data
 document_json d = object (put (codes "root") (node_json d.root)
-    (with_total d.total (with_some (codes "ranges") range_json d.ranges (with_some (codes "sizes") string d.sizes no_members))))
+    (with_flag (codes "derive") d.derives (with_flag (codes "total") d.total
+    (with_some (codes "ranges") range_json d.ranges (with_some (codes "sizes") string d.sizes no_members)))))

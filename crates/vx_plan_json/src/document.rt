@@ -1,7 +1,7 @@
 //! A plan as it was read.
 
 ghost use Rattle.std.specs.Prelude.{◌≡◌, ◌≤◌, true, map, string_bytes};
-ghost use Rattle.vx_plan_json.specs.Formed.{is_tree_form, is_head_form};
+ghost use Rattle.vx_plan_json.specs.Formed.{is_tree_form, is_head_form, are_keys_few};
 ghost use Rattle.vx_plan_json.specs.Document.{tree_of, tree_nodes, tree_levels};
 ghost use Rattle.vx_rows_values.specs.Ranges.{range_form};
 ghost use Rattle.vx_rows_values.specs.Limits.{max_levels, max_nodes};
@@ -14,16 +14,18 @@ use std::alloc::Global;
 use vx_rows_values::NamedRange;
 
 /// A plan that was read, with names in place of positions. It has at most 1,000 nodes, 64 below one another, and no name in
-/// it is empty.
+/// it is empty. Where it asks for what is known of its columns, a claim has at most 16 keys.
 pub struct Plan {
     sizes: Vec<String>,
     ranges: Vec<NamedRange>,
     total: bool,
+    derives: bool,
     root: Node,
     ghost few_nodes: { tree_nodes (tree_of root) ≤ max_nodes },
     ghost few_levels: { tree_levels (tree_of root) ≤ max_levels },
     ghost declared: { is_head_form (map string_bytes sizes.items) (map range_form ranges.items) ≡ true },
     ghost formed: { is_tree_form (tree_of root) ≡ true },
+    ghost few_keys: { are_keys_few derives (tree_of root) ≡ true },
 }
 
 // By hand, so that the drops of its parts are made and proved here once, and not again in each crate that drops one.
@@ -33,6 +35,7 @@ impl Drop for Plan {
             sizes: _,
             ranges: _,
             total: _,
+            derives: _,
             root: _,
         } = self;
     }
@@ -45,20 +48,29 @@ impl Plan {
     ghost use Rattle.serde_json.specs.View.{view};
 
     /// The parts of a plan, as a document has them.
-    pub fn new(sizes: Vec<String>, ranges: Vec<NamedRange>, total: bool, root: Node) -> Plan
+    pub fn new(
+        sizes: Vec<String>,
+        ranges: Vec<NamedRange>,
+        total: bool,
+        derives: bool,
+        root: Node,
+    ) -> Plan
         requires few { tree_nodes (tree_of root) ≤ max_nodes }
         requires low { tree_levels (tree_of root) ≤ max_levels }
         requires declared { is_head_form (map string_bytes sizes.items) (map range_form ranges.items) ≡ true }
         requires formed { is_tree_form (tree_of root) ≡ true }
+        requires few_keys { are_keys_few derives (tree_of root) ≡ true }
         ensures sizes { (document_of result).sizes ≡ map string_bytes sizes.items }
         ensures ranges { (document_of result).ranges ≡ map range_form ranges.items }
         ensures total { (document_of result).total ≡ total }
+        ensures derives { (document_of result).derives ≡ derives }
         ensures root { (document_of result).root ≡ tree_of root }
     {
         Plan {
             sizes,
             ranges,
             total,
+            derives,
             root,
         }
     }
@@ -99,6 +111,14 @@ impl Plan {
         self.total
     }
 
+    /// Whether the plan asks that the checker use what is known of its columns: equal ones, fixed ones and what keys
+    /// determine.
+    pub fn derives(&self) -> bool
+        ensures { result ≡ (document_of self.now).derives }
+    {
+        self.derives
+    }
+
     /// The node at the top.
     pub fn root(&self) -> &Node
         ensures root { tree_of result.now ≡ (document_of self.now).root }
@@ -106,6 +126,7 @@ impl Plan {
         ensures low { tree_levels (tree_of result.now) ≤ max_levels }
         ensures declared { is_head_form (document_of self.now).sizes (document_of self.now).ranges ≡ true }
         ensures formed { is_tree_form (tree_of result.now) ≡ true }
+        ensures few_keys { are_keys_few (document_of self.now).derives (tree_of result.now) ≡ true }
     {
         &self.root
     }
@@ -119,11 +140,13 @@ impl Plan {
         ensures low { tree_levels (tree_of result.2) ≤ max_levels }
         ensures declared { is_head_form (document_of self).sizes (document_of self).ranges ≡ true }
         ensures formed { is_tree_form (tree_of result.2) ≡ true }
+        ensures few_keys { are_keys_few (document_of self).derives (tree_of result.2) ≡ true }
     {
         let Plan {
             sizes,
             ranges,
             total: _,
+            derives: _,
             root,
         } = self;
         (sizes, ranges, root)

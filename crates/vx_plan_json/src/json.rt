@@ -10,7 +10,7 @@ ghost use Rattle.vx_plan_json.specs.Document.{hash_part, range_part, part_form, 
 ghost use Rattle.vx_rows_values.specs.Ranges.{RangeForm, range_form};
 ghost use Rattle.vx_plan_json.specs.PlanView.{document_of};
 ghost use Rattle.vx_plan_json.specs.Reading.{document_of_text};
-ghost use Rattle.vx_plan_json.specs.Written.{names_json, list_json, value_json, with_some, with_text, range_json, part_json, with_part, claim_members, with_object, with_claim, with_side, condition_json, output_json, with_function, with_call, aggregate_json, pair_json, scan_json, unary_json, binary_json, exchange_json, node_json, with_total, document_json};
+ghost use Rattle.vx_plan_json.specs.Written.{names_json, list_json, value_json, with_some, with_text, range_json, part_json, with_part, claim_members, with_object, with_claim, with_side, condition_json, output_json, with_function, with_call, aggregate_json, pair_json, scan_json, unary_json, binary_json, exchange_json, node_json, with_flag, document_json};
 
 use crate::document::Plan;
 use crate::operators::{put_binary, put_kind, put_scan, put_unary};
@@ -406,14 +406,14 @@ fn node_json(alloc: Global, node: &Node) -> Result<Json, AllocError>
     }
 }
 
-// Whether the root's list is in a total order, unless it is not.
-fn put_total(members: &mut Members, alloc: Global, total: bool) -> Result<(), AllocError>
-    ensures { OnOk result (members_view members.new.entries ≡ with_total total (members_view members.old.entries)) }
+// True, unless the flag is false.
+fn put_flag(members: &mut Members, alloc: Global, key: &str, flag: bool) -> Result<(), AllocError>
+    ensures { OnOk result (members_view members.new.entries ≡ with_flag key.now flag (members_view members.old.entries)) }
 {
-    if !total {
+    if !flag {
         return Ok(());
     }
-    put(members, alloc, "total", Json::Bool(true))
+    put(members, alloc, key, Json::Bool(true))
 }
 
 fn plan_json(alloc: Global, plan: &Plan) -> Result<Json, AllocError>
@@ -422,7 +422,8 @@ fn plan_json(alloc: Global, plan: &Plan) -> Result<Json, AllocError>
     let mut members = Map::new(alloc);
     put_some(&mut members, alloc, "sizes", plan.sizes())?;
     put_some(&mut members, alloc, "ranges", plan.ranges())?;
-    put_total(&mut members, alloc, plan.is_total())?;
+    put_flag(&mut members, alloc, "total", plan.is_total())?;
+    put_flag(&mut members, alloc, "derive", plan.derives())?;
     put(&mut members, alloc, "root", node_json(alloc, plan.root())?)?;
     Ok(Json::Object(members))
 }

@@ -5,9 +5,9 @@ ghost use Rattle.serde_json.specs.Find.{get, as_str};
 ghost use Rattle.serde_json.specs.View.{view, members_view};
 ghost use Rattle.vx_catalog_json.specs.Look.{Finds, Parses};
 ghost use Rattle.vx_plan_json.specs.Look.{or_default};
-ghost use Rattle.vx_plan_json.specs.Document.{output_form, aggregate_form, scan_form, unary_form, pair_form, binary_form, kind_form};
+ghost use Rattle.vx_plan_json.specs.Document.{claim_form, output_form, aggregate_form, scan_form, unary_form, pair_form, binary_form, kind_form};
 ghost use Rattle.vx_plan_json.specs.Form.{some_names_in};
-ghost use Rattle.vx_plan_json.specs.Operators.{own_form, mode_named, scan_in, scan_own, select_in, outputs_in, sort_in, partial_sort_in, sort_named, sorted_in, lists_in, group_in, partial_in, final_in, phase_named, phased_in, unary_in, unary_own, method_named, join_in, union_in, binary_own, hash_in, range_in, sized_in, gather_in, concat_in, kind_in, merge_by, exchange_own, own_named, own_in};
+ghost use Rattle.vx_plan_json.specs.Operators.{own_form, mode_named, scan_in, scan_own, select_in, outputs_in, sort_in, partial_sort_in, sort_named, sorted_in, lists_in, group_in, partial_in, final_in, phase_named, phased_in, unary_in, unary_own, method_named, join_in, union_in, binary_own, hash_in, range_in, sized_in, gather_in, concat_in, kind_in, merge_by, exchange_own, own_named, own_in, own_claim, own_under};
 ghost use Rattle.vx_plan_json.specs.Written.{with_text, with_some_text, with_scan, with_lists, with_phase, with_unary, with_join, with_binary, with_kind};
 
 use crate::forms::{AggregateReader, ConditionReader, OutputReader, PairReader, read_node_claim};
@@ -21,6 +21,7 @@ use std::alloc::{AllocError, Global};
 use vx_catalog_json::{
     Misread, NameReader, get_member, get_text, read_list, read_some, test_members,
 };
+use vx_rows_values::limits::MAX_KEYS;
 
 /// What a node says of itself, and the values of its inputs.
 #[derive(Drop)]
@@ -29,6 +30,20 @@ pub enum Own<'v> {
     Unary(NamedClaim, NamedUnary, &'v Json),
     Binary(NamedClaim, NamedBinary, &'v Json, &'v Json),
     Exchange(NamedClaim, NamedKind, Vec<String>, &'v Json),
+}
+
+impl Own<'_> {
+    // The claim of the node.
+    fn claim(&self) -> &NamedClaim
+        ensures { claim_form result.now ≡ own_claim (own_form self.now) }
+    {
+        match self {
+            Own::Scan(claim, _) => claim,
+            Own::Unary(claim, _, _) => claim,
+            Own::Binary(claim, _, _, _) => claim,
+            Own::Exchange(claim, _, _, _) => claim,
+        }
+    }
 }
 
 // Whether the workers share the rows.
@@ -384,12 +399,25 @@ fn read_node_of<'v>(alloc: Global, op: &str, value: &'v Json) -> Result<Own<'v>,
     }
 }
 
-/// What a value says of a node, if it is a node.
+// What a value says of a node, if it is a node.
 #[tactic(auto, unfolding(crate::specs::Operators::own_in))]
-pub fn read_own<'v>(alloc: Global, value: &'v Json) -> Result<Own<'v>, Misread>
+fn read_any_own<'v>(alloc: Global, value: &'v Json) -> Result<Own<'v>, Misread>
     ensures { Parses own_form result (own_in (view value.now)) }
 {
     read_node_of(alloc, get_text_at(value, "op")?, value)
+}
+
+/// What a value says of a node, if it is a node. In a plan that asks for what is known of its columns, a claim has at most
+/// 16 keys.
+#[tactic(auto, unfolding(crate::specs::Operators::own_under))]
+pub fn read_own<'v>(alloc: Global, derives: bool, value: &'v Json) -> Result<Own<'v>, Misread>
+    ensures { Parses own_form result (own_under derives (view value.now)) }
+{
+    let own = read_any_own(alloc, value)?;
+    if derives && own.claim().keys.len() > MAX_KEYS {
+        return Err(Misread::NotOfForm);
+    }
+    Ok(own)
 }
 
 // A text, unless it is empty.

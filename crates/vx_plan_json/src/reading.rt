@@ -1,14 +1,12 @@
 //! Plans from JSON values and texts.
 
-ghost use Rattle.std.specs.Prelude.{◌≡◌, false, ◌+◌, ◌++◌, codes, string_bytes, IfOk};
-ghost use Rattle.serde_json.specs.Find.{get, as_bool};
+ghost use Rattle.std.specs.Prelude.{◌≡◌, ◌+◌, ◌++◌, string_bytes, IfOk};
 ghost use Rattle.serde_json.specs.View.{view};
 ghost use Rattle.vx_catalog_json.specs.Look.{Finds, Parses};
 ghost use Rattle.vx_plan_json.specs.Fault.{Gives};
-ghost use Rattle.vx_plan_json.specs.Look.{or_default};
 ghost use Rattle.vx_plan_json.specs.Document.{tree_of};
 ghost use Rattle.vx_rows_values.specs.Ranges.{RangeForm, range_form};
-ghost use Rattle.vx_plan_json.specs.Reading.{node_in, declared_in, head_in, head_form, document_in, document_of_text};
+ghost use Rattle.vx_plan_json.specs.Reading.{node_in, declared_in, flag_in, head_in, head_form, document_in, document_of_text};
 ghost use Rattle.vx_plan_json.specs.PlanView.{document_of};
 
 use crate::document::Plan;
@@ -58,16 +56,17 @@ fn path_of(alloc: Global, path: &str, step: &str) -> Result<String, AllocError>
 #[cycle(nodes)]
 fn read_input(
     alloc: Global,
+    derives: bool,
     levels: u32,
     seen: u32,
     path: &str,
     step: &str,
     value: &Json,
 ) -> Result<(Box<Node>, u32), PlanFault>
-    ensures { Gives (λ r. (tree_of r.0.value, r.1)) result (node_in levels seen (path.now ++ step.now) (view value.now)) }
+    ensures { Gives (λ r. (tree_of r.0.value, r.1)) result (node_in derives levels seen (path.now ++ step.now) (view value.now)) }
 {
     let below = path_of(alloc, path, step)?;
-    let (node, after) = read_node(alloc, levels, seen, below.as_str(), value)?;
+    let (node, after) = read_node(alloc, derives, levels, seen, below.as_str(), value)?;
     Ok((Box::new(alloc, node)?, after))
 }
 
@@ -76,17 +75,18 @@ fn read_input(
 #[tactic(auto, unfolding(crate::specs::Reading::node_in))]
 pub fn read_node(
     alloc: Global,
+    derives: bool,
     levels: u32,
     seen: u32,
     path: &str,
     value: &Json,
 ) -> Result<(Node, u32), PlanFault>
-    ensures { Gives (λ r. (tree_of r.0, r.1)) result (node_in levels seen path.now (view value.now)) }
+    ensures { Gives (λ r. (tree_of r.0, r.1)) result (node_in derives levels seen path.now (view value.now)) }
 {
     if levels == 0 || seen >= MAX_NODES {
         return Err(PlanFault::TooDeep);
     }
-    let own = match read_own(alloc, value) {
+    let own = match read_own(alloc, derives, value) {
         Ok(own) => own,
         Err(Misread::NoMemory) => return Err(PlanFault::NoMemory),
         Err(Misread::NotOfForm) => {
@@ -94,19 +94,20 @@ pub fn read_node(
             return Err(PlanFault::BadNode { path });
         }
     };
+    let below = levels - 1;
     match own {
         Own::Scan(claim, scan) => Ok((Node::Scan(claim, scan), seen + 1)),
         Own::Unary(claim, unary, input) => {
-            let (node, after) = read_input(alloc, levels - 1, seen + 1, path, ".input", input)?;
+            let (node, after) = read_input(alloc, derives, below, seen + 1, path, ".input", input)?;
             Ok((Node::Unary(claim, unary, node), after))
         }
         Own::Binary(claim, binary, left, right) => {
-            let (first, between) = read_input(alloc, levels - 1, seen + 1, path, ".left", left)?;
-            let (second, after) = read_input(alloc, levels - 1, between, path, ".right", right)?;
+            let (first, seen) = read_input(alloc, derives, below, seen + 1, path, ".left", left)?;
+            let (second, after) = read_input(alloc, derives, below, seen, path, ".right", right)?;
             Ok((Node::Binary(claim, binary, first, second), after))
         }
         Own::Exchange(claim, kind, merge, input) => {
-            let (node, after) = read_input(alloc, levels - 1, seen + 1, path, ".input", input)?;
+            let (node, after) = read_input(alloc, derives, below, seen + 1, path, ".input", input)?;
             Ok((Node::Exchange(claim, kind, merge, node), after))
         }
     }
@@ -118,14 +119,16 @@ pub struct Header<'v> {
     sizes: Vec<String>,
     ranges: Vec<NamedRange>,
     total: bool,
+    derives: bool,
     root: &'v Json,
 }
 
-fn read_total(value: &Json) -> Result<bool, Misread>
-    ensures { Finds (λ b. b) result (or_default false as_bool (get (codes "total") (view value.now))) }
+// A member that is true or false; false where it is left out.
+fn read_flag(value: &Json, key: &str) -> Result<bool, Misread>
+    ensures { Finds (λ b. b) result (flag_in key.now (view value.now)) }
 {
-    match value.get("total") {
-        Some(total) => total.as_bool().ok_or(Misread::NotOfForm),
+    match value.get(key) {
+        Some(flag) => flag.as_bool().ok_or(Misread::NotOfForm),
         None => Ok(false),
     }
 }
@@ -135,15 +138,17 @@ fn read_total(value: &Json) -> Result<bool, Misread>
 fn read_header<'v>(alloc: Global, value: &'v Json) -> Result<Header<'v>, Misread>
     ensures { Parses head_form result (head_in (view value.now)) }
 {
-    test_members(value, &["sizes", "ranges", "total", "root"])?;
+    test_members(value, &["sizes", "ranges", "total", "derive", "root"])?;
     let sizes = read_list_or_empty::<NameReader>(alloc, value, "sizes")?;
     let ranges = read_list_or_empty::<RangeReader>(alloc, value, "ranges")?;
-    let total = read_total(value)?;
+    let total = read_flag(value, "total")?;
+    let derives = read_flag(value, "derive")?;
     let root = get_member(value, "root")?;
     Ok(Header {
         sizes,
         ranges,
         total,
+        derives,
         root,
     })
 }
@@ -161,8 +166,14 @@ pub fn read_document(alloc: Global, value: &Json) -> Result<Plan, PlanFault>
             return Err(PlanFault::BadNode { path });
         }
     };
-    let (root, _) = read_node(alloc, MAX_LEVELS, 0, "root", header.root)?;
-    Ok(Plan::new(header.sizes, header.ranges, header.total, root))
+    let (root, _) = read_node(alloc, header.derives, MAX_LEVELS, 0, "root", header.root)?;
+    Ok(Plan::new(
+        header.sizes,
+        header.ranges,
+        header.total,
+        header.derives,
+        root,
+    ))
 }
 
 /// The plan of a JSON text.

@@ -20,4 +20,5 @@ scope_of s = record { catalog = s.catalog; ranges = map (λ r. r.bounds) s.range
 pub record TypedPlanView : Type 0 where
   pub names : Names
   pub total : Bool
+  pub derives : Bool
   pub root : Outline

@@ -19,4 +19,4 @@ abbrev pub plan : TypedPlan → Plan
 plan p = plan_of p.root
 
 abbrev pub resolved_of : TypedPlan → TypedPlanView
-resolved_of p = record { names = names_in p; total = p.total; root = outline_of p.root }
+resolved_of p = record { names = names_in p; total = p.total; derives = p.derives; root = outline_of p.root }

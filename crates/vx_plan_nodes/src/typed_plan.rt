@@ -24,6 +24,7 @@ pub struct TypedPlan {
     sizes: Vec<String>,
     ranges: Vec<NamedRange>,
     total: bool,
+    derives: bool,
     root: TypedNode,
     ghost ranges_are: { list_all is_range (map (λ r. r.bounds) (map range_form ranges.items)) ≡ true },
     ghost few_sizes: { nat_le (length (map string_bytes sizes.items)) max_size_names ≡ true },
@@ -42,6 +43,7 @@ impl Drop for TypedPlan {
             sizes: _,
             ranges: _,
             total: _,
+            derives: _,
             root: _,
         } = self;
     }
@@ -56,6 +58,7 @@ impl TypedPlan {
         sizes: Vec<String>,
         ranges: Vec<NamedRange>,
         total: bool,
+        derives: bool,
         root: TypedNode,
     ) -> TypedPlan
         requires typed { IsTyped (scope_of (record { catalog = catalog; ranges = map range_form ranges.items; sizes = map string_bytes sizes.items })) (plan_of root) }
@@ -63,6 +66,7 @@ impl TypedPlan {
         requires few { nodes (plan_of root) ≤ max_nodes }
         ensures names { names_in result ≡ record { catalog = catalog; ranges = map range_form ranges.items; sizes = map string_bytes sizes.items } }
         ensures total { (resolved_of result).total ≡ total }
+        ensures derives { (resolved_of result).derives ≡ derives }
         ensures root { (resolved_of result).root ≡ outline_of root }
     {
         TypedPlan {
@@ -70,6 +74,7 @@ impl TypedPlan {
             sizes,
             ranges,
             total,
+            derives,
             root,
         }
     }
@@ -101,6 +106,13 @@ impl TypedPlan {
         ensures { result ≡ (resolved_of self.now).total }
     {
         self.total
+    }
+
+    /// Whether the checker may use what is known of columns: equal ones, fixed ones and what keys determine.
+    pub fn derives(&self) -> bool
+        ensures { result ≡ (resolved_of self.now).derives }
+    {
+        self.derives
     }
 
     /// The node at the top.

@@ -15,4 +15,4 @@ returns-in_err-rows-clause-refused g c =
     let p = err_from_is_err_and c.from_residual-in_err-rows.result c.from_residual-in_err-rows.ensures.1 in
     rw (p.1, p.2)
     (refuses (resolved_of c.args.plan.now) (resolved_of c.in-Ok.erased) (g.B.Tables.holds c.args.tables.now) (g.B.Tables.lacks c.args.tables.now) c.in_ok-database.database c.in_err-rows.field-0.0
-    built.names built.total built.outline (record { same = c.in_ok-database.ensures.catalog; filled = c.in_ok-database.ensures.filled }) c.in_err-rows.ensures.refused)
+    built.names built.total built.derives built.outline (record { same = c.in_ok-database.ensures.catalog; filled = c.in_ok-database.ensures.filled }) c.in_err-rows.ensures.refused)

@@ -1,62 +1,39 @@
-use Rattle.std.proofs.Common.{◌≡◌, ◌∙◌, ap, sym, option_map, map}
-use Rattle.vx_catalog_relations.specs.Catalog.{relation_at, IsCatalog}
-use Rattle.vx_plan_nodes.specs.TypedView.{resolved_of, scope}
-use Rattle.vx_plan_nodes.specs.Plan.{Plan}
-use Rattle.vx_plan_nodes.specs.Outline.{outline_of, plan_of, claim_of}
+use Rattle.std.proofs.Common.{◌∙◌, sym, true≢false}
+use Rattle.std.proofs.lemmas.Result.{IfOk-weaker}
+use Rattle.vx_rows_values.proofs.Booleans.{and-left, and-right}
 use Rattle.vx_plan_json.specs.PlanView.{document_of}
-use Rattle.vx_check_rules.specs.Rules.{is_total_order}
-use Rattle.vx_check_options.specs.Options.{parts_at, places_at}
-use Rattle.vx_check_options.specs.Placed.{first_columns, first_part}
-use Rattle.vx_check_options.specs.Claimed.{IsClaimed, reversed_claims}
-use Rattle.vx_check_annotate.specs.Claimed.{claims_of, forms_in, named_forms}
-use Rattle.vx_check_rules.specs.RuleView.{refusal_of}
-use Rattle.vx_check_annotate.proofs.FoundDocument.{hinted-named}
-use Rattle.vx_check_annotate.proofs.Answering.{refused-found, typed-names, answered, Answered}
-use Rattle.vx_check_annotate.proofs.ClaimedFacts.{with-same}
-use Rattle.vx_check_annotate.proofs.Reversed.{reversed}
+use Rattle.vx_check_annotate.specs.Verdict.{is_accepted}
+use Rattle.vx_check_annotate.proofs.TellingFacts.{tells_self}
+use Rattle.vx_check_annotate.proofs.VerdictFacts.{claims-more, answers-alike, not-both}
 use Rattle.vx_check_annotate.proofs.annotating.annotate.Goals as goal
-use Rattle.vx_check_annotate.proofs.annotating.annotate.Goals.{After-drop-typed-2}
 
-pub found_claims-requires-clause-keys : goal.found_claims-requires-clause-keys
-found_claims-requires-clause-keys c = rw c.catalog.ensures (typed-names (scope c.in_ok-typed.typed) (plan_of c.root.result.now) c.root.ensures.typed.nodes)
+-- ---- a plan that stays as it is
 
-pub returns-in-Some-clause-refused : goal.returns-in-Some-clause-refused
-returns-in-Some-clause-refused c =
+pub returns-then-stays-clause-accepted : goal.returns-then-stays-clause-accepted
+returns-then-stays-clause-accepted c =
+    let d = document_of c.args.plan in and-right d.derives (is_accepted c.args.catalog.now d) (sym c.in_ok-stays.ensures ∙ c.if-stays.true)
+
+pub returns-then-stays-clause-telling : goal.returns-then-stays-clause-telling
+returns-then-stays-clause-telling c = λ accepted. tells_self (document_of c.args.plan)
+
+pub returns-then-stays-clause-strongest : goal.returns-then-stays-clause-strongest
+returns-then-stays-clause-strongest c = λ plain.
     let d = document_of c.args.plan in
-    let p = resolved_of c.in_ok-typed.typed in
-    let cat : IsCatalog c.args.catalog.now = c.len-relations.ensures.fine in
-    let h = c.in_ok-typed.ensures.hinted in
-    let over = (hinted-named c.args.catalog.now d p cat c.args.plan.formed h).0 in
-    let unfit = rw over at c.in_ok-node.ensures in
-    refused-found c.args.catalog.now d p _ _ cat c.args.plan.formed c.args.plan.declared h
-    (sym unfit ∙ ap (option_map refusal_of) c.in-Some.is)
+    let asks = and-left d.derives (is_accepted c.args.catalog.now d) (sym c.in_ok-stays.ensures ∙ c.if-stays.true) in absurd (true≢false (sym asks ∙ plain))
 
--- what is found of the typed plan
-found : (c : After-drop-typed-2) → (x : Plan) × IsClaimed (relation_at c.args.catalog.now) (plan_of c.in_ok-typed.typed.root) (first_part (parts_at (relation_at c.args.catalog.now) (plan_of c.in_ok-typed.typed.root))) (first_columns (places_at (relation_at c.args.catalog.now) (plan_of c.in_ok-typed.typed.root))) x
-    × (map claim_of c.in_ok-claims.claims.items ≡ reversed_claims x) × (c.in_ok-claims.is_total ≡ is_total_order (relation_at c.args.catalog.now) x)
-found c =
-    let over = (hinted-named c.args.catalog.now (document_of c.args.plan) (resolved_of c.in_ok-typed.typed) c.len-relations.ensures.fine c.args.plan.formed c.in_ok-typed.ensures.hinted).0 in
-    rw over at (rw c.catalog.ensures at (rw c.root.ensures.plan at c.in_ok-claims.ensures))
+-- ---- others
 
-answers : (c : After-drop-typed-2) → Answered c.args.catalog.now (document_of c.args.plan) (document_of c.claimed_plan.result)
-answers c =
-    let d = document_of c.args.plan in
-    let e = document_of c.claimed_plan.result in
-    let p = resolved_of c.in_ok-typed.typed in
-    let cat : IsCatalog c.args.catalog.now = c.len-relations.ensures.fine in
-    let h = c.in_ok-typed.ensures.hinted in
-    let over = (hinted-named c.args.catalog.now d p cat c.args.plan.formed h).0 in
-    let unfit = rw over at c.in_ok-node.ensures in
-    let x = found c in
-    answered c.args.catalog.now d e p x.0 c.in_ok-claims.is_total (forms_in c.in_ok-named.named.items) cat c.args.plan.formed c.args.plan.declared c.claimed_plan.result.formed h
-    (sym unfit ∙ ap (option_map refusal_of) c.in_default.is) x.1 x.3 (c.in_ok-named.ensures p.names (sym c.ranges-2.ensures)
-    ∙ (ap (λ l. named_forms p.names l (outline_of c.root-2.result.now)) (reversed c.in_ok-claims.claims.items x.0 x.2) ∙ ap (named_forms p.names (claims_of x.0)) c.root-2.ensures.root)) (c.claimed_plan.ensures.placed ∙ with-same (forms_in c.in_ok-named.named.items) c.in_ok-claims.is_total (document_of c.in_ok-typed.kept) d c.in_ok-typed.ensures.same)
+pub annotated_by_claims-requires : goal.annotated_by_claims-requires
+annotated_by_claims-requires c = let d = document_of c.args.plan in not-both d.derives (is_accepted c.args.catalog.now d) (sym c.in_ok-stays.ensures ∙ c.if-stays.false)
 
 pub returns-clause-accepted : goal.returns-clause-accepted
-returns-clause-accepted c = (answers c).accepted
+returns-clause-accepted c = IfOk-weaker c.annotated_by_claims.result _ _ (λ p h. claims-more c.args.catalog.now (document_of p) h) c.annotated_by_claims.ensures.accepted
 
 pub returns-clause-telling : goal.returns-clause-telling
-returns-clause-telling c = (answers c).telling
+returns-clause-telling c = λ accepted.
+    let d = document_of c.args.plan in
+    let refused = not-both d.derives (is_accepted c.args.catalog.now d) (sym c.in_ok-stays.ensures ∙ c.if-stays.false) in
+    c.annotated_by_claims.ensures.telling (sym (answers-alike c.args.catalog.now d c.len-relations.ensures.fine c.args.plan.formed refused) ∙ accepted)
 
 pub returns-clause-strongest : goal.returns-clause-strongest
-returns-clause-strongest c = (answers c).strongest
+returns-clause-strongest c = λ plain. c.annotated_by_claims.ensures.strongest

@@ -4,6 +4,7 @@ use Rattle.vx_check_annotate.specs.Unclaimed.{without_claims, unclaimed}
 use Rattle.vx_check_annotate.specs.Claimed.{with_forms, forms_in}
 use Rattle.vx_check_annotate.proofs.TreeFacts.{same_nodes, same_levels, same_form}
 use Rattle.vx_check_annotate.proofs.ClaimedFacts.{without-with, unclaimed-with, unclaimed-none}
+use Rattle.vx_check_annotate.proofs.FewKeys.{tree-few}
 use Rattle.vx_check_annotate.proofs.rewriting.claimed_plan.Goals as goal
 
 pub new-requires-clause-few : goal.new-requires-clause-few
@@ -24,3 +25,6 @@ pub returns-clause-bare : goal.returns-clause-bare
 returns-clause-bare c none partial =
     let placed : document_of c.new.result ≡ with_forms (forms_in c.args.claims.items) c.args.total (document_of c.args.plan) = search rules in
     placed ∙ ((λ i. with_forms (forms_in (none i)) (partial i) (document_of c.args.plan)) ∙ unclaimed-none (document_of c.args.plan))
+
+pub new-requires-clause-few_keys : goal.new-requires-clause-few_keys
+new-requires-clause-few_keys c = rw (c.derives-derives.ensures, c.put_claims.ensures.placed) (tree-few (document_of c.args.plan).derives (forms_in c.args.claims.items) _ c.requires)

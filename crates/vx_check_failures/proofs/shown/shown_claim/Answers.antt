@@ -10,4 +10,4 @@ returns-then-is_of_claim-clause-shown c =
     let catalog = relation_at c.args.catalog.now in
     let p = plan_of c.args.node.now in
     let fits = sym c.is_of_claim.ensures ∙ c.if-is_of_claim.true in
-    IfOk-weaker c.claim_at.result _ _ (λ o h. shown-some catalog p o (rw c.failure_at.ensures at fits) h) c.claim_at.ensures
+    IfOk-weaker c.claim_at.result _ _ (λ o h. shown-some catalog p o (rw c.failure_at.ensures.failure at fits) h) c.claim_at.ensures

@@ -14,7 +14,7 @@ returns c =
     let p = c.args.plan.now in
     let d : Data = view c.in_ok-plan_json.field-0 in
     let json : d ≡ plan_json p = c.in_ok-plan_json.ensures in
-    let plain : IsPlain 5 d = rw (← json) at (outline-plain (resolved_of p).names (resolved_of p).total (resolved_of p).root) in
+    let plain : IsPlain 5 d = rw (← json) at (outline-plain (resolved_of p).names (resolved_of p).total (resolved_of p).derives (resolved_of p).root) in
     let low : depth d ≤ max_depth = let l = plain.low in omega (arith, l) in
     record {
       text = IfOk-weaker c.to_string.result (λ s. has_float d ≡ false → string_bytes s ≡ compact_text d) (λ s. string_bytes s ≡ compact_text (plan_json p))

@@ -20,4 +20,4 @@ returns-in_err-rows-clause-refused c =
     let p = err_from_is_err_and c.from_residual-in_err-rows.result c.from_residual-in_err-rows.ensures.1 in
     rw (p.1, p.2)
     (refuses c.args.self.now c.args.text.now (resolved_of c.in_ok-plan.plan) (resolved_of c.in-Ok.erased) c.in_ok-database.database c.in_err-rows.field-0.0 c.in_ok-plan.ensures.plan
-    built.names built.total built.outline (record { same = c.in_ok-database.ensures.catalog; filled = c.in_ok-database.ensures.filled }) c.in_err-rows.ensures.refused)
+    built.names built.total built.derives built.outline (record { same = c.in_ok-database.ensures.catalog; filled = c.in_ok-database.ensures.filled }) c.in_err-rows.ensures.refused)

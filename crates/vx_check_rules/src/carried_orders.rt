@@ -1,0 +1,122 @@
+//! The orders that a node shows by what is known of columns.
+
+ghost use Rattle.std.specs.Prelude.{◌≡◌, ℕ, ◌<◌, ◌≤◌, true, length, Some};
+ghost use Rattle.vx_rows_values.specs.Limits.{max_columns};
+ghost use Rattle.vx_catalog_relations.specs.Relation.{Relation};
+ghost use Rattle.vx_catalog_relations.specs.Catalog.{relation_at, all_below};
+ghost use Rattle.vx_plan_nodes.specs.DescribeView.{copying_of, order_after_of};
+ghost use Rattle.vx_plan_nodes.specs.Outline.{plan_of};
+ghost use Rattle.vx_plan_nodes.specs.Plan.{claim};
+ghost use Rattle.vx_plan_nodes.specs.Types.{width};
+ghost use Rattle.vx_plan_facts.specs.ColumnSetView.{set_of_columns};
+ghost use Rattle.vx_plan_facts.specs.Determined.{column_in, determined};
+ghost use Rattle.vx_plan_facts.specs.Equal.{equal_at};
+ghost use Rattle.vx_plan_facts.specs.Following.{short};
+ghost use Rattle.vx_plan_facts.specs.KnownView.{IsKnownOf};
+ghost use Rattle.vx_check_rules.specs.Derived.{copy_of, front_copies};
+ghost use Rattle.vx_check_rules.specs.KnownNode.{AreOrdersOf, AreCopiesOf, StaysKnown};
+
+use crate::column_list::ColumnList;
+use crate::derived_orders::are_equal;
+use crate::nodes::claimed_order;
+use vx_plan_facts::{ColumnSet, KnownColumns};
+use vx_plan_nodes::{Copying, TypedNode};
+
+// The columns of an order that those before them do not determine.
+fn short(node: &TypedNode, known: &mut KnownColumns<'_>, order: &[usize]) -> ColumnList
+    requires { (catalog : ℕ → Relation) × AreOrdersOf catalog known.old (plan_of node.now) order.now order.now }
+    ensures short { (catalog : ℕ → Relation) → AreOrdersOf catalog known.old (plan_of node.now) order.now order.now → result ≡ short (determined catalog (plan_of node.now)) order.now }
+    ensures kept { StaysKnown known.old known.new (plan_of node.now) }
+{
+    let mut short = ColumnList::new();
+    let mut passed = ColumnSet::new();
+    let mut found = known.determined(node, &passed);
+    for column in order {
+        if found.contains(*column) {
+            continue;
+        }
+        short.push(*column);
+        passed.put(*column);
+        found = known.determined(node, &passed);
+    }
+    short
+}
+
+// Whether the source of a copy is there and is equal to this column.
+fn is_equal_source(
+    input: &TypedNode,
+    known: &KnownColumns<'_>,
+    source: Option<usize>,
+    column: usize,
+) -> bool
+    requires { (catalog : ℕ → Relation) × IsKnownOf catalog known.now (plan_of input.now) × (column < width catalog (plan_of input.now))
+        × ((x : ℕ) → source ≡ Some x → x < width catalog (plan_of input.now)) }
+    ensures { (catalog : ℕ → Relation) → IsKnownOf catalog known.now (plan_of input.now) → column < width catalog (plan_of input.now)
+        → ((x : ℕ) → source ≡ Some x → x < width catalog (plan_of input.now)) → result ≡ column_in (λ y. equal_at catalog (plan_of input.now) y column) source }
+{
+    match source {
+        Some(source) => are_equal(input, known, source, column),
+        None => false,
+    }
+}
+
+// Of so many output columns the first one that is a copy of a column that is equal to this input column.
+fn copy_of(
+    copying: Copying<'_>,
+    outputs: usize,
+    input: &TypedNode,
+    known: &KnownColumns<'_>,
+    column: usize,
+) -> Option<usize>
+    requires { (catalog : ℕ → Relation) × AreCopiesOf catalog known.now (plan_of input.now) outputs (copying_of copying) × (column < width catalog (plan_of input.now)) }
+    ensures { (catalog : ℕ → Relation) → AreCopiesOf catalog known.now (plan_of input.now) outputs (copying_of copying.entry) → column < width catalog (plan_of input.now)
+        → result ≡ copy_of outputs (copying_of copying.entry) (equal_at catalog (plan_of input.now)) column }
+{
+    for copy in 0..outputs {
+        if is_equal_source(input, known, copying.source(copy), column) {
+            return Some(copy);
+        }
+    }
+    None
+}
+
+// Where such copies of the columns of an input's order stand, up to the first that has none.
+fn front_copies(
+    copying: Copying<'_>,
+    outputs: usize,
+    input: &TypedNode,
+    known: &KnownColumns<'_>,
+    order: &[usize],
+) -> ColumnList
+    requires copies { (catalog : ℕ → Relation) × AreCopiesOf catalog known.now (plan_of input.now) outputs (copying_of copying)
+        × (all_below (width catalog (plan_of input.now)) order.now ≡ true) }
+    requires few { length order.now ≤ max_columns }
+    ensures { (catalog : ℕ → Relation) → AreCopiesOf catalog known.now (plan_of input.now) outputs (copying_of copying.entry) → all_below (width catalog (plan_of input.now)) order.now ≡ true
+        → result ≡ front_copies outputs (copying_of copying.entry) (equal_at catalog (plan_of input.now)) order.now }
+{
+    let mut copies = ColumnList::new();
+    for column in order {
+        match copy_of(copying, outputs, input, known, *column) {
+            Some(copy) => copies.push(copy),
+            None => return copies,
+        }
+    }
+    copies
+}
+
+/// The claimed order of an input, without what earlier columns determine, where copies of it stand in an output of so many
+/// columns.
+pub(crate) fn carried_order(
+    copying: Copying<'_>,
+    outputs: usize,
+    input: &TypedNode,
+    known: &mut KnownColumns<'_>,
+) -> ColumnList
+    requires { (catalog : ℕ → Relation) × AreCopiesOf catalog known.old (plan_of input.now) outputs (copying_of copying) }
+    ensures carried { (catalog : ℕ → Relation) → AreCopiesOf catalog known.old (plan_of input.now) outputs (copying_of copying.entry)
+        → result ≡ front_copies outputs (copying_of copying.entry) (equal_at catalog (plan_of input.now)) (short (determined catalog (plan_of input.now)) (claim (plan_of input.now)).order) }
+    ensures kept { StaysKnown known.old known.new (plan_of input.now) }
+{
+    let below = short(input, known, claimed_order(input));
+    front_copies(copying, outputs, input, known, below.as_slice())
+}
