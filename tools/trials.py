@@ -78,8 +78,8 @@ def examples(transcript):
     for line in read(f"{DATA}/{transcript}").decode().split("\n"):
         if not line.startswith("$ volcano"):
             continue
-        command, _, path = line.removeprefix("$ volcano").partition("<")
-        text = read(f"{DATA}/{path.strip()}") if path else b""
+        command, _, source = line.removeprefix("$ volcano").partition("<")
+        text = source.removeprefix("<").strip().encode() if source.startswith("<") else read(f"{DATA}/{source.strip()}") if source else b""
         found[line] = Example(line.removeprefix("$ "), tuple(command.split()), text)
     return list(found.values())
 

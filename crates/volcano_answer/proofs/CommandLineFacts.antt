@@ -23,7 +23,7 @@ use Rattle.volcano_tables.specs.Folder.{holds_at, LacksAt}
 use Rattle.vx_catalog_relations.specs.Relation.{Relation}
 use Rattle.vx_plan_json.specs.Document.{Document}
 use Rattle.volcano_answer.specs.Files.{known_at, AreRead, IsFilesPlan}
-use Rattle.volcano_answer.specs.Annotated.{AnnotationRefuses}
+use Rattle.volcano_answer.specs.Annotated.{asking_if, AnnotationRefuses}
 use Rattle.volcano_answer.specs.Forms.{FormRefuses}
 use Rattle.volcano_answer.specs.CommandLine.{FileCommand, FormIsRefused, for_form, AnnotationIsRefused, for_annotation, TaskRefuses, for_plan_of, with_program_name, AsksFor, for_help, for_what_is_asked, for_kind, for_no_task, for_other_stats, for_asked_drawing, drawing_memory, arguments_memory, for_ask, ask_memory, IsNoTask, for_stopped, ArgumentsRefuse, AsksForStopped}
 use Rattle.vx_exec_runs.specs.Promise.{Counting}
@@ -44,10 +44,10 @@ form_refused files reliable input failed paths p (Ok x) planned h = tt
 form_refused files reliable input failed paths p (Err e) planned h = for_form p planned h
 
 -- a document that gets no claims is refused for that
-pub annotation_refused : {T : Type 0} (files : List ℕ → Stored) (reliable : List ℕ → Bool) (input : Option (List ℕ)) (failed : Bool) (paths : Paths) (relations : List Relation) (d : Document) (r : Result T Refusal)
-    → AreRead files input paths relations d → IfErr r (AnnotationRefuses relations d) → IfErr r (AnnotationIsRefused files reliable input failed paths)
-annotation_refused files reliable input failed paths relations d (Ok x) read h = tt
-annotation_refused files reliable input failed paths relations d (Err e) read h = for_annotation relations d read h
+pub annotation_refused : {T : Type 0} (files : List ℕ → Stored) (reliable : List ℕ → Bool) (input : Option (List ℕ)) (failed : Bool) (paths : Paths) (derive : Bool) (relations : List Relation) (d : Document) (r : Result T Refusal)
+    → AreRead files input paths relations d → IfErr r (AnnotationRefuses relations (asking_if derive d)) → IfErr r (AnnotationIsRefused files reliable input failed paths derive)
+annotation_refused files reliable input failed paths derive relations d (Ok x) read h = tt
+annotation_refused files reliable input failed paths derive relations d (Err e) read h = for_annotation relations d read h
 
 -- what asks for what there is not has no answer, for the part that the message names
 pub usage_fault_asked : (files : List ℕ → Stored) (reliable : List ℕ → Bool) (input : Option (List ℕ)) (failed : Bool) (ask : Ask) (before argument after : List ℕ) (e : ArgumentFault)

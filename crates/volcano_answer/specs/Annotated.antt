@@ -1,13 +1,14 @@
 -- A plan with the claims that the rule table shows, as the program prints it, and why there is none.
-use Rattle.std.specs.Prelude.{◌≡◌, ℕ, ◌++◌, List, true, Ok, codes}
+use Rattle.std.specs.Prelude.{◌≡◌, ℕ, ◌++◌, List, Bool, true, false, Ok, codes, if◌then◌else◌}
 use Rattle.serde_json.specs.Written.{compact_text}
 use Rattle.vx_catalog_relations.specs.Relation.{Relation}
 use Rattle.vx_plan_json.specs.Document.{Document}
 use Rattle.vx_plan_json.specs.Reading.{document_of_text}
 use Rattle.vx_plan_json.specs.Written.{document_json}
 use Rattle.vx_check_annotate.specs.Unclaimed.{unclaimed}
+use Rattle.vx_check_annotate.specs.Asking.{asking}
 use Rattle.vx_check_annotate.specs.Verdict.{is_accepted}
-use Rattle.vx_check_annotate.specs.Telling.{tells}
+use Rattle.vx_check_annotate.specs.Telling.{tells, TellsDerived}
 use Rattle.vx_check_annotate.specs.Fault.{IsReason}
 use Rattle.vx_check_annotate.specs.declared.fault.AnnotateFault.{AnnotateFault}
 use Rattle.vx_check_annotate.specs.declared.fault.AnnotateFault.TheVariants as fault
@@ -19,13 +20,18 @@ abbrev pub refusal_of : AnnotateFault → Refusal
 refusal_of (fault.Plan f) = refusal.Plan f
 refusal_of (fault.Rule node rule) = refusal.Check rule node
 
+-- the document, which asks for what is known of its columns where that is said
+abbrev pub asking_if : (derive : Bool) → Document → Document
+asking_if derive d = if derive then asking d else d
+
 -- the text is a line of JSON with the same document but for its claims. The checker accepts it, and its claims tell at least as much as the document's own
--- where the checker accepts that; and it reads as that document
+-- where the checker accepts that, by the rule table that the document asks for; and it reads as that document
 pub record IsAnnotated (catalog : List Relation) (d : Document) (text : List ℕ) : Type 0 where
   pub shown : Document
   pub same : unclaimed shown ≡ unclaimed d
   pub accepted : is_accepted catalog shown ≡ true
-  pub telling : is_accepted catalog d ≡ true → tells shown d ≡ true
+  pub telling : d.derives ≡ false → is_accepted catalog d ≡ true → tells shown d ≡ true
+  pub telling_derived : d.derives ≡ true → is_accepted catalog d ≡ true → TellsDerived catalog shown d
   pub written : text ≡ compact_text (document_json shown) ++ codes "\n"
   pub reads_back : document_of_text (compact_text (document_json shown)) ≡ Ok shown
 

@@ -31,7 +31,7 @@ use Rattle.volcano_answer.specs.Files.{known_at, AreRead, AreNotRead, IsReadRefu
 use Rattle.volcano_answer.specs.Forms.{form_named, IsInForm, FormRefuses}
 use Rattle.volcano_answer.specs.Statements.{dialect_named, IsStatement}
 use Rattle.vx_check_sql.specs.declared.dialect.Dialect.{Dialect}
-use Rattle.volcano_answer.specs.Annotated.{IsAnnotated, AnnotationRefuses}
+use Rattle.volcano_answer.specs.Annotated.{asking_if, IsAnnotated, AnnotationRefuses}
 use Rattle.volcano_stats.specs.declared.text.StatsForm.{StatsForm}
 use Rattle.volcano_answer.specs.StatsNames.{stats_named}
 use Rattle.volcano_answer.specs.Verdict.{IsAllShown, AreFailures}
@@ -59,7 +59,7 @@ IsTask (check paths) t = t ≡ record { command = command.Check; paths = paths; 
 IsTask (check_all paths) t = ⊥
 IsTask (explain paths format) t = (bytes_eq format (codes "text") ≡ true) × (t ≡ record { command = command.Explain; paths = paths; folder = []; setting = default_setting })
 IsTask (draw paths stats) t = ⊥
-IsTask (annotate paths) t = ⊥
+IsTask (annotate paths derive) t = ⊥
 IsTask (sql paths dialect) t = ⊥
 IsTask (why code) t = ⊥
 IsTask (serial paths folder) t = t ≡ record { command = command.Serial; paths = paths; folder = folder; setting = default_setting }
@@ -74,7 +74,7 @@ IsNoTask (check paths) = ⊥
 IsNoTask (check_all paths) = ⊥
 IsNoTask (explain paths format) = (bytes_eq format (codes "text") ≡ false) × (form_named format ≡ None)
 IsNoTask (draw paths stats) = ⊥
-IsNoTask (annotate paths) = ⊥
+IsNoTask (annotate paths derive) = ⊥
 IsNoTask (sql paths dialect) = dialect_named dialect ≡ None
 IsNoTask (why code) = code_of code ≡ None
 IsNoTask (serial paths folder) = ⊥
@@ -133,14 +133,15 @@ pub data StatementIsRefused (files : List ℕ → Stored) (reliable : List ℕ �
   statement_memory : e ≡ refusal.NoMemory → StatementIsRefused files reliable input failed paths e
   for_statement_planning : IsFilesRefusal files reliable input failed paths e → StatementIsRefused files reliable input failed paths e
 
--- the text is that of the plan of these paths with the claims that the rule table shows
-abbrev pub AnswersAnnotation : (List ℕ → Stored) → Option (List ℕ) → Paths → List ℕ → Type 0
-AnswersAnnotation files input paths text = (relations : List Relation) × (d : Document) × AreRead files input paths relations d × IsAnnotated relations d text
+-- the text is that of the plan of these paths, which asks for what is known of its columns where that is said, with the claims that the rule table shows
+abbrev pub AnswersAnnotation : (List ℕ → Stored) → Option (List ℕ) → Paths → (derive : Bool) → List ℕ → Type 0
+AnswersAnnotation files input paths derive text = (relations : List Relation) × (d : Document) × AreRead files input paths relations d × IsAnnotated relations (asking_if derive d) text
 
 -- the first reason why there is none: the catalog or the plan was not read, or the plan gets no claims; out of memory may come anywhere
-pub data AnnotationIsRefused (files : List ℕ → Stored) (reliable : List ℕ → Bool) (input : Option (List ℕ)) (failed : Bool) (paths : Paths) (e : Refusal) : Type 0 where
-  for_annotation_reading : AreNotRead files reliable input failed paths e → AnnotationIsRefused files reliable input failed paths e
-  for_annotation : (relations : List Relation) (d : Document) → AreRead files input paths relations d → AnnotationRefuses relations d e → AnnotationIsRefused files reliable input failed paths e
+pub data AnnotationIsRefused (files : List ℕ → Stored) (reliable : List ℕ → Bool) (input : Option (List ℕ)) (failed : Bool) (paths : Paths) (derive : Bool) (e : Refusal) : Type 0 where
+  for_annotation_reading : AreNotRead files reliable input failed paths e → AnnotationIsRefused files reliable input failed paths derive e
+  for_annotation : (relations : List Relation) (d : Document) → AreRead files input paths relations d → AnnotationRefuses relations (asking_if derive d) e
+      → AnnotationIsRefused files reliable input failed paths derive e
 
 -- the text is what a check of all nodes says of the plan of these paths, where each note is shown
 abbrev pub AnswersAll : (List ℕ → Stored) → Option (List ℕ) → Paths → List ℕ → Type 0
@@ -189,7 +190,7 @@ pub data AnswersAsk (files : List ℕ → Stored) (input : Option (List ℕ)) (a
   for_drawing : (paths : Paths) (stats : List ℕ) → ask ≡ draw paths stats → AnswersDrawing files input paths stats text → AnswersAsk files input ask text
   for_sql : (d : Dialect) (paths : Paths) (name : List ℕ) → ask ≡ sql paths name → dialect_named name ≡ Some d → AnswersStatement files input d paths text → AnswersAsk files input ask text
   for_all_nodes : (paths : Paths) → ask ≡ check_all paths → AnswersAll files input paths text → AnswersAsk files input ask text
-  for_claims : (paths : Paths) → ask ≡ annotate paths → AnswersAnnotation files input paths text → AnswersAsk files input ask text
+  for_claims : (paths : Paths) (derive : Bool) → ask ≡ annotate paths derive → AnswersAnnotation files input paths derive text → AnswersAsk files input ask text
   for_code : (code : List ℕ) → ask ≡ why code → IsEntry code text → AnswersAsk files input ask text
   for_runs : (paths : ManyPaths) (folder : List ℕ) (given : Given) (s : Setting) → ask ≡ run_plans paths folder given → IsSetting given s → AnswersPlans files input paths folder s text
       → AnswersAsk files input ask text
@@ -209,7 +210,7 @@ pub data AskRefuses (files : List ℕ → Stored) (reliable : List ℕ → Bool)
   for_asked_drawing : (paths : Paths) (stats : List ℕ) → ask ≡ draw paths stats → DrawingIsRefused files reliable input failed paths stats e → AskRefuses files reliable input failed ask e
   for_asked_sql : (d : Dialect) (paths : Paths) (name : List ℕ) → ask ≡ sql paths name → dialect_named name ≡ Some d → StatementIsRefused files reliable input failed paths e → AskRefuses files reliable input failed ask e
   for_asked_all : (paths : Paths) → ask ≡ check_all paths → IsFilesRefusal files reliable input failed paths e → AskRefuses files reliable input failed ask e
-  for_asked_claims : (paths : Paths) → ask ≡ annotate paths → AnnotationIsRefused files reliable input failed paths e → AskRefuses files reliable input failed ask e
+  for_asked_claims : (paths : Paths) (derive : Bool) → ask ≡ annotate paths derive → AnnotationIsRefused files reliable input failed paths derive e → AskRefuses files reliable input failed ask e
   for_asked_runs : (paths : ManyPaths) (folder : List ℕ) (given : Given) (s : Setting) → ask ≡ run_plans paths folder given → IsSetting given s
       → PlansRefuse files reliable input failed paths folder e → AskRefuses files reliable input failed ask e
   for_stopped : (text : List ℕ) → AskStops files input ask text e → AskRefuses files reliable input failed ask e

@@ -29,7 +29,7 @@ task_is t = record { command = t.command; paths = paths_are t.sources; folder = 
 abbrev pub IsJob : Ask → AskedJob → Type 0
 IsJob ask (asked_job.Command t) = IsTask ask (task_is t)
 IsJob ask (asked_job.Verdict sources) = ask ≡ check_all (paths_are sources)
-IsJob ask (asked_job.Annotation sources) = ask ≡ annotate (paths_are sources)
+IsJob ask (asked_job.Annotation sources derive) = ask ≡ annotate (paths_are sources) derive
 IsJob ask (asked_job.Form f sources) = (format : List ℕ) × (ask ≡ explain (paths_are sources) format) × (form_named format ≡ Some f)
 IsJob ask (asked_job.Drawing sources stats) = ask ≡ draw (paths_are sources) stats.now
 IsJob ask (asked_job.Statement d sources) = (name : List ℕ) × (ask ≡ sql (paths_are sources) name) × (dialect_named name ≡ Some d)

@@ -11,7 +11,7 @@ ghost use Rattle.volcano_answer.specs.StatsView.{IsCountedAs, IsUncounted, IsSta
 ghost use Rattle.volcano_answer.specs.UsageView.{IsUnmet};
 ghost use Rattle.volcano_answer.specs.CommandLineView.{task_is, IsJob, IsAskAnswer, IsArgumentAnswer, IsHelp, HasUsageText, IsUsageFault, IsClapFault, IsAskFault, IsArgumentFault};
 
-use crate::annotating::annotated_plan;
+use crate::annotating::{annotated_plan, asking_if};
 use crate::asked::answer_asked;
 use crate::command::{accepted, execute};
 use crate::drawing_faults::no_drawing;
@@ -59,8 +59,8 @@ enum AskedJob<'a> {
     Command(FileCommand<'a>),
     /// A check of all nodes of the plan that arguments name, over the catalog that they name.
     Verdict(Sources<'a>),
-    /// That plan with the claims that the rule table shows.
-    Annotation(Sources<'a>),
+    /// That plan with the claims that the rule table shows, and whether they are found by what is known of columns too.
+    Annotation(Sources<'a>, bool),
     /// A plan in a form, over the catalog and the plan that arguments name.
     Form(PlanForm, Sources<'a>),
     /// A plan's picture with the statistics of the file at a path, over the catalog and the plan that arguments name.
@@ -211,7 +211,7 @@ fn job_in<'a>(alloc: Global, asked: &Asked<'a>) -> Result<AskedJob<'a>, WrongPar
             Ok(AskedJob::Command(task))
         }
         Asked::CheckAll(sources) => Ok(AskedJob::Verdict(*sources)),
-        Asked::Annotate(sources) => Ok(AskedJob::Annotation(*sources)),
+        Asked::Annotate(sources, derive) => Ok(AskedJob::Annotation(*sources, *derive)),
         Asked::Explain(sources, format) => explain_job(alloc, *sources, *format),
         Asked::Draw(sources, stats) => Ok(AskedJob::Drawing(*sources, *stats)),
         Asked::Sql(sources, dialect) => sql_job(*sources, *dialect),
@@ -300,18 +300,21 @@ fn answer_drawing<T: Threads + Wait + Sync, R: Runs, C: Clock, F: Store, I: Byte
     }
 }
 
-// The plan at one path over the catalog at the other, with the claims that the rule table shows.
+// The plan at one path over the catalog at the other, with the claims that the rule table shows. It asks for what is known of
+// its columns where that is said.
 fn answer_annotation<F: Store, I: ByteIn>(
     alloc: Global,
     files: &F,
     input: &mut I,
     sources: Sources<'_>,
+    derive: bool,
 ) -> Result<Vec<u8>, Refusal>
-    ensures text { IfOk result (λ text. AnswersAnnotation (F.holds files.now) (I.remaining input.old) (paths_are sources.entry) text.items) }
-    ensures refused { IfErr result (AnnotationIsRefused (F.holds files.now) (F.is_reliable files.now) (I.remaining input.old) (I.has_failed input.new) (paths_are sources.entry)) }
+    ensures text { IfOk result (λ text. AnswersAnnotation (F.holds files.now) (I.remaining input.old) (paths_are sources.entry) derive text.items) }
+    ensures refused { IfErr result (AnnotationIsRefused (F.holds files.now) (F.is_reliable files.now) (I.remaining input.old) (I.has_failed input.new) (paths_are sources.entry) derive) }
 {
     let (catalog, plan) = document_from_files(alloc, files, input, sources)?;
-    annotated_plan(alloc, &catalog, plan)
+    let asking = asking_if(alloc, derive, plan);
+    annotated_plan(alloc, &catalog, asking)
 }
 
 // What the checker says of all nodes of the plan at one path, over the catalog at the other.
@@ -372,8 +375,8 @@ pub fn answer_plain<T: Threads + Wait + Sync, R: Runs, C: Clock, F: Store, I: By
             Ok(ArgumentAnswer::Text(text))
         }
         Ok(AskedJob::Verdict(sources)) => answer_verdict(services, files, input, sources),
-        Ok(AskedJob::Annotation(sources)) => {
-            let text = answer_annotation(alloc, files, input, sources)?;
+        Ok(AskedJob::Annotation(sources, derive)) => {
+            let text = answer_annotation(alloc, files, input, sources, derive)?;
             Ok(ArgumentAnswer::Text(text))
         }
         Ok(AskedJob::Form(form, sources)) => {

@@ -45,7 +45,7 @@ fn with_one_plan<'a>(
 
 fn named_by<'a>(alloc: Global, asked: &Asked<'a>) -> Result<Option<Named<'a>>, AllocError> {
     match asked {
-        Asked::Check(sources) | Asked::CheckAll(sources) | Asked::Annotate(sources) => {
+        Asked::Check(sources) | Asked::CheckAll(sources) | Asked::Annotate(sources, _) => {
             with_one_plan(alloc, *sources, "", false)
         }
         Asked::Explain(sources, _) | Asked::Draw(sources, _) => {

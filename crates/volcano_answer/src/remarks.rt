@@ -21,10 +21,10 @@ fn remark_on<F: Store>(
 ) -> Result<Option<String>, PlaceFault>
     ensures { annotates_ask (asked_is asked.now) ≡ false → IfOk result (λ o. o ≡ None) }
 {
-    let Asked::Annotate(sources) = asked else {
+    let Asked::Annotate(sources, derive) = asked else {
         return Ok(None);
     };
-    match dropped_total(alloc, files, input, sources.catalog, sources.plan)? {
+    match dropped_total(alloc, files, input, sources.catalog, sources.plan, *derive)? {
         Some(why) => {
             let line = format!(in alloc;
                 "volcano: \"total\" is left out, since the order of the root is not total: {why}\n"

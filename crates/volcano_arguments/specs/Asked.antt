@@ -1,5 +1,5 @@
 -- What the command-line arguments ask for: the commands and options that the program has, and what each comes to.
-use Rattle.std.specs.Prelude.{ℕ, pos, List, [], ◌∷◌, Option, Some, None, map, option_map, option_and_then, bytes_eq, codes, true, false, if◌then◌else◌}
+use Rattle.std.specs.Prelude.{ℕ, pos, Bool, List, [], ◌∷◌, Option, Some, None, map, option_map, option_and_then, bytes_eq, codes, true, false, if◌then◌else◌}
 use Rattle.std.specs.Option.{option_map_or, is_some}
 use Rattle.std.specs.Str.Parse.{digits_value, without_leading_plus}
 use Rattle.clap.specs.Lexer.{usize_max}
@@ -100,7 +100,7 @@ abbrev pub explain_app : App
 explain_app = with_reports (with_rule (with_rule (judging_app (codes "explain")) (word_rule (codes "format") (codes "text"))) drawn_rule)
 
 abbrev pub annotate_app : App
-annotate_app = with_reports (judging_app (codes "annotate"))
+annotate_app = with_reports (with_rule (judging_app (codes "annotate")) (flag_rule (codes "derive")))
 
 abbrev pub sql_app : App
 sql_app = with_reports (with_rule (judging_app (codes "sql")) (word_rule (codes "dialect") (codes "sqlite")))
@@ -145,7 +145,7 @@ pub data Ask : Type 0 where
   check_all : Paths → Ask
   explain : Paths → (format : Text) → Ask
   draw : Paths → (stats : Text) → Ask
-  annotate : Paths → Ask
+  annotate : Paths → (derive : Bool) → Ask
   sql : Paths → (dialect : Text) → Ask
   why : (code : Text) → Ask
   serial : Paths → Text → Ask
@@ -189,6 +189,10 @@ explain_in paths format (Some stats) = if bytes_eq format (codes "dot") then Som
 abbrev pub explain_of : List Row → Option Ask
 explain_of rows = option_and_then (λ p. option_and_then (λ f. explain_in p f (first_of (codes "drawn") rows)) (first_of (codes "format") rows)) (paths_of rows)
 
+-- a plan with the claims that follow, also by what is known of columns if the flag is given
+abbrev pub annotate_of : List Row → Option Ask
+annotate_of rows = option_and_then (λ p. option_map (λ derive. annotate p (bytes_eq derive (codes "true"))) (first_of (codes "derive") rows)) (paths_of rows)
+
 abbrev pub sql_of : List Row → Option Ask
 sql_of rows = option_and_then (λ p. option_map (sql p) (first_of (codes "dialect") rows)) (paths_of rows)
 
@@ -207,7 +211,7 @@ ask_of (Some p) =
     else if bytes_eq p.0 (codes "serial") then serial_of p.1
     else if bytes_eq p.0 (codes "check") then check_of p.1
     else if bytes_eq p.0 (codes "explain") then explain_of p.1
-    else if bytes_eq p.0 (codes "annotate") then option_map annotate (paths_of p.1)
+    else if bytes_eq p.0 (codes "annotate") then annotate_of p.1
     else if bytes_eq p.0 (codes "sql") then sql_of p.1
     else if bytes_eq p.0 (codes "why") then option_map why (first_of (codes "code") p.1)
     else if bytes_eq p.0 (codes "gen") then generate_of p.1
@@ -285,7 +289,7 @@ asked_is (asked.Check sources) = check (paths_are sources)
 asked_is (asked.CheckAll sources) = check_all (paths_are sources)
 asked_is (asked.Explain sources format) = explain (paths_are sources) format.now
 asked_is (asked.Draw sources stats) = draw (paths_are sources) stats.now
-asked_is (asked.Annotate sources) = annotate (paths_are sources)
+asked_is (asked.Annotate sources derive) = annotate (paths_are sources) derive
 asked_is (asked.Sql sources dialect) = sql (paths_are sources) dialect.now
 asked_is (asked.Why code) = why code.now
 asked_is (asked.Serial sources folder) = serial (paths_are sources) folder.now

@@ -2,7 +2,7 @@
 
 ghost use Rattle.std.specs.Prelude.{◌≡◌, IfOk, IfSome, map, option_map, option_and_then, codes};
 ghost use Rattle.clap.specs.Words.{FailsBy, fault_of, rows_of, found_of, first_of, all_of, subcommand_of, subcommand_rows_of};
-ghost use Rattle.volcano_arguments.specs.Asked.{volcano_app, paths_of, given_of, sizes_of, serial_of, check_of, explain_of, sql_of, run_for, run_of, number_of, generate_of, ask_of, asked_by, error_form_named, verbose_form, errors_of, errors_by, unless_named, unknown_errors_of, unknown_errors_by, threads_of, threads_by, stats_of, stats_by, faults_of, paths_are, given_is, asked_is};
+ghost use Rattle.volcano_arguments.specs.Asked.{volcano_app, paths_of, given_of, sizes_of, serial_of, check_of, explain_of, annotate_of, sql_of, run_for, run_of, number_of, generate_of, ask_of, asked_by, error_form_named, verbose_form, errors_of, errors_by, unless_named, unknown_errors_of, unknown_errors_by, threads_of, threads_by, stats_of, stats_by, faults_of, paths_are, given_is, asked_is};
 
 use crate::command_line::command;
 use clap::{ArgMatches, Error};
@@ -44,8 +44,8 @@ pub enum Asked<'a> {
     Explain(Sources<'a>, &'a str),
     /// The plan's picture, with the file of a run's statistics.
     Draw(Sources<'a>, &'a str),
-    /// The plan with the claims that the rule table shows.
-    Annotate(Sources<'a>),
+    /// The plan with the claims that the rule table shows, and whether they are found by what is known of columns too.
+    Annotate(Sources<'a>, bool),
     /// The plan as a statement of SQL, with the name of the dialect.
     Sql(Sources<'a>, &'a str),
     /// With the code of a refusal.
@@ -168,6 +168,14 @@ fn explain_asked<'a>(found: &ArgMatches<'a>) -> Option<Asked<'a>>
     }
 }
 
+fn annotate_asked<'a>(found: &ArgMatches<'a>) -> Option<Asked<'a>>
+    ensures { option_map asked_is result ≡ annotate_of (rows_of (found_of found.now)) }
+{
+    let sources = sources_in(found)?;
+    let derive = value(found, "derive")?;
+    Some(Asked::Annotate(sources, derive == "true"))
+}
+
 fn sql_asked<'a>(found: &ArgMatches<'a>) -> Option<Asked<'a>>
     ensures { option_map asked_is result ≡ sql_of (rows_of (found_of found.now)) }
 {
@@ -259,7 +267,7 @@ fn asked_in<'a>(alloc: Global, matches: &ArgMatches<'a>) -> Result<Option<Asked<
         "serial" => Ok(serial_asked(found)),
         "check" => Ok(check_asked(found)),
         "explain" => Ok(explain_asked(found)),
-        "annotate" => Ok(sources_in(found).map(Asked::Annotate)),
+        "annotate" => Ok(annotate_asked(found)),
         "sql" => Ok(sql_asked(found)),
         "why" => Ok(value(found, "code").map(Asked::Why)),
         "gen" => Ok(generate_asked(found)),

@@ -124,6 +124,17 @@ fn all_option<'a>(alloc: Global) -> Arg<'a>
     )
 }
 
+fn derive_option<'a>(alloc: Global) -> Arg<'a>
+    ensures rule { rule_of result ≡ flag_rule (codes "derive") }
+    ensures own { result.global ≡ false }
+{
+    flag_option(
+        alloc,
+        "derive",
+        "Finds claims by what is known of columns too, and puts `\"derive\": true` into the plan",
+    )
+}
+
 fn errors_option<'a>(alloc: Global) -> Arg<'a>
     ensures rule { rule_of result ≡ errors_rule }
     ensures own { result.global ≡ false }
@@ -424,6 +435,7 @@ fn annotate<'a>(alloc: Global) -> Result<Command<'a>, AllocError>
         "Prints the plan, as JSON, with the claims that follow at each node in place of its own",
         "Example: volcano annotate --catalog catalog.json --plan plan.json",
     );
+    let command = with_option(command, derive_option(alloc));
     with_reports(alloc, command)
 }
 

@@ -7,10 +7,18 @@ use crate::with_input::WithInput;
 use std::alloc::Global;
 use vx_catalog_bytes::Store;
 use vx_catalog_relations::Catalog;
-use vx_check_annotate::{AnnotateFault, annotate};
+use vx_check_annotate::{AnnotateFault, annotate, asking};
 use vx_check_rules::Rule;
 use vx_check_sentences::explanation;
 use vx_plan_json::{Plan, PlanFault};
+
+// The plan, which asks for what is known of its columns where that is said.
+fn asking_if(alloc: Global, derive: bool, plan: Plan) -> Plan {
+    if derive {
+        return asking(alloc, plan);
+    }
+    plan
+}
 
 // The plan with the claims that follow, if there is one.
 fn annotated(alloc: Global, catalog: &Catalog, plan: Plan) -> Result<Option<Plan>, PlaceFault> {
@@ -37,13 +45,14 @@ fn why_not_total(
 }
 
 /// Why the plan at one path over the catalog at the other has no total order, if it says that it has one and none follows with the
-/// claims that do.
+/// claims that do, also by what is known of columns where that is said.
 pub fn dropped_total<F: Store>(
     alloc: Global,
     files: &F,
     input: Option<&[u8]>,
     catalog: &str,
     plan: &str,
+    derive: bool,
 ) -> Result<Option<String>, PlaceFault> {
     let files = WithInput { files, input };
     let Some(catalog) = catalog_at(alloc, &files, catalog)? else {
@@ -55,7 +64,8 @@ pub fn dropped_total<F: Store>(
     if !plan.is_total() {
         return Ok(None);
     }
-    match annotated(alloc, &catalog, plan)? {
+    let asking = asking_if(alloc, derive, plan);
+    match annotated(alloc, &catalog, asking)? {
         Some(plan) if !plan.is_total() => why_not_total(alloc, &catalog, &plan),
         _ => Ok(None),
     }

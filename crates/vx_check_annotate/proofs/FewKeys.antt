@@ -26,7 +26,7 @@ use Rattle.vx_check_annotate.proofs.TreeFacts.{form_without}
 
 -- ---- so many keys
 
-abbrev few : Bool → ℕ → Bool
+abbrev pub few : Bool → ℕ → Bool
 few derives n = not derives || nat_le n 16
 
 few-step : (derives : Bool) (n m : ℕ) → (n ≤ 16 → m ≤ 16) → few derives n ≡ true → few derives m ≡ true
@@ -80,10 +80,10 @@ few-without derives (form.exchange c k m t) = and-both (has_few_keys derives no_
 
 -- ---- plans
 
-abbrev has_few : Bool → Claim → Bool
+abbrev pub has_few : Bool → Claim → Bool
 has_few derives c = few derives (length c.keys)
 
-abbrev have_few : Bool → List Claim → Bool
+abbrev pub have_few : Bool → List Claim → Bool
 have_few derives claims = list_all (has_few derives) claims
 
 named-alike : (derives : Bool) (names : List Name) (keys : List (List ℕ)) → few derives (length (map (names_at names) keys)) ≡ few derives (length keys)
@@ -148,7 +148,7 @@ later-few : (derives : Bool) (claims : List Claim) → have_few derives claims �
 later-few derives [] h = refl
 later-few derives (c ∷ claims) h = and-right (has_few derives c) (have_few derives claims) h
 
-forms-few : (derives : Bool) (s : Names) (claims : List Claim) (o : Outline) → have_few derives claims ≡ true → list_all (has_few_keys derives) (named_forms s claims o) ≡ true
+pub forms-few : (derives : Bool) (s : Names) (claims : List Claim) (o : Outline) → have_few derives claims ≡ true → list_all (has_few_keys derives) (named_forms s claims o) ≡ true
 forms-few derives s claims (scan h r shared z prefix) k = and-both (has_few_keys derives (first_named s h.columns.names claims)) true (first-few derives s h.columns.names claims k) refl
 forms-few derives s claims (unary h op renamed t) k =
     and-both (has_few_keys derives (first_named s h.columns.names claims)) (list_all (has_few_keys derives) (named_forms s (later_claims claims) t)) (first-few derives s h.columns.names claims k)

@@ -89,7 +89,7 @@ unclaimed-once : (d : Document) → unclaimed (unclaimed d) ≡ unclaimed d
 unclaimed-once d = ap unclaimed (sym (unclaimed-none d)) ∙ unclaimed-with [] false d
 
 -- what resolves without claims has none
-resolved-bare : (catalog : List Relation) (d : Document) (p : TypedPlanView) → IsCatalog catalog → is_tree_form d.root ≡ true → resolved (unclaimed d) catalog ≡ Ok p → bare (plan_in p.root) ≡ plan_in p.root
+pub resolved-bare : (catalog : List Relation) (d : Document) (p : TypedPlanView) → IsCatalog catalog → is_tree_form d.root ≡ true → resolved (unclaimed d) catalog ≡ Ok p → bare (plan_in p.root) ≡ plan_in p.root
 resolved-bare catalog d p cat formed h =
     let is = alike-resolve catalog d (unclaimed d) p p cat (form_without d.root formed) (unclaimed-once d) h h in
     sym (ap (λ (p : TypedPlanView). plan_in p.root) is ∙ plan-claimed (bare (plan_in p.root)) p.root (bare-once (plan_in p.root)))

@@ -14,3 +14,6 @@ pub mod SavedFacts
 pub mod FoundRefused
 pub mod Reversed
 pub mod Answering
+pub mod DerivedPlans
+pub mod OwnClaims
+pub mod Reasons

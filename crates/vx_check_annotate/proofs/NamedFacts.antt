@@ -17,7 +17,7 @@ use Rattle.vx_check_annotate.specs.Unclaimed.{no_claim, are_claims_formed}
 use Rattle.vx_check_annotate.specs.declared.formed.FormedClaim.{FormedClaim}
 use Rattle.vx_check_annotate.specs.Claimed.{claims_of, with_claims, forms_of, form_of, kept_form, claims_in, named_forms}
 
-kept-formed : (f : ClaimForm) → is_claim_form f ≡ true → kept_form f ≡ f
+pub kept-formed : (f : ClaimForm) → is_claim_form f ≡ true → kept_form f ≡ f
 kept-formed f h = ap (λ b. if b then f else no_claim) h
 
 -- as many claims as nodes of an outline with the same nodes

@@ -97,3 +97,10 @@ named_forms s claims (outline.unary h op renamed t) = first_named s h.columns.na
 named_forms s claims (outline.binary h op t u) =
     first_named s h.columns.names claims ∷ named_forms s (later_claims claims) t ++ named_forms s (drop (nodes (plan_in t)) (later_claims claims)) u
 named_forms s claims (outline.exchange h kind merge t) = first_named s h.columns.names claims ∷ named_forms s (later_claims claims) t
+
+-- the claims that nodes have, by the names of their columns, in preorder; one that no document can say says nothing
+abbrev pub own_forms : Names → Outline → List ClaimForm
+own_forms s (outline.scan h relation shared size prefix) = kept_form (top_by_name s h) ∷ []
+own_forms s (outline.unary h op renamed t) = kept_form (top_by_name s h) ∷ own_forms s t
+own_forms s (outline.binary h op t u) = kept_form (top_by_name s h) ∷ own_forms s t ++ own_forms s u
+own_forms s (outline.exchange h kind merge t) = kept_form (top_by_name s h) ∷ own_forms s t

@@ -6,3 +6,5 @@ pub mod Fault
 pub mod Strongest
 pub mod Saved
 pub mod Hinted
+pub mod Deriving
+pub mod Asking

@@ -1,8 +1,14 @@
 -- When claims tell at least as much as others.
-use Rattle.std.specs.Prelude.{List, [], ◌∷◌, Bool, true, false, not, ◌&&◌, ◌||◌, bytes_eq}
+use Rattle.std.specs.Prelude.{◌≡◌, List, [], ◌∷◌, Bool, true, false, not, ◌&&◌, ◌||◌, bytes_eq, Ok}
 use Rattle.std.specs.List.{list_all, list_any}
 use Rattle.vx_rows_values.specs.Values.{Name}
+use Rattle.vx_catalog_relations.specs.Relation.{Relation}
+use Rattle.vx_catalog_relations.specs.Catalog.{relation_at}
+use Rattle.vx_plan_nodes.specs.Outline.{plan_in}
+use Rattle.vx_plan_nodes.specs.Names.{TypedPlanView}
 use Rattle.vx_plan_json.specs.Document.{PartForm, one, any, all, hash_part, range_part, ClaimForm, Tree, scan, unary, binary, exchange, Document}
+use Rattle.vx_plan.specs.Resolve.{resolved}
+use Rattle.vx_check_keeping.specs.Telling.{tells_derived}
 
 -- the second list begins with the first
 abbrev pub begins : List Name → List Name → Bool
@@ -43,3 +49,9 @@ tree_tells _ _ = false
 -- and the first document is total where the second is
 abbrev pub tells : Document → Document → Bool
 tells d e = (d.total || not e.total) && tree_tells d.root e.root
+
+-- by what is known of columns: at every node of the typed plans the first document's part tells the second's, its order is one from which the other follows, and
+-- each key of the second determines one of the first's; and the first document is total where the second is
+abbrev pub TellsDerived : List Relation → Document → Document → Type 0
+TellsDerived catalog d e = (p q : TypedPlanView) × (resolved d catalog ≡ Ok p) × (resolved e catalog ≡ Ok q)
+    × (tells_derived (relation_at catalog) (plan_in p.root) (plan_in q.root) ≡ true) × (q.total ≡ true → p.total ≡ true)

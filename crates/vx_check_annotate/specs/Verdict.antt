@@ -22,6 +22,14 @@ accepts (Err e) = false
 abbrev pub is_accepted : List Relation → Document → Bool
 is_accepted catalog d = accepts (resolved d catalog)
 
+abbrev pub refuses : Result TypedPlanView Refusal → Option (ℕ × Rule)
+refuses (Ok p) = refusal_in p
+refuses (Err e) = None
+
+-- of a document that fits the catalog the first node that its table refuses, and what is not shown there
+abbrev pub refused : List Relation → Document → Option (ℕ × Rule)
+refused catalog d = refuses (resolved d catalog)
+
 -- ---- by the table of claims alone
 
 abbrev pub refusal_by_claims : TypedPlanView → Option (ℕ × Rule)

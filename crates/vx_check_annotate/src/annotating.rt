@@ -1,6 +1,6 @@
 //! A plan with the claims that the rule table shows.
 
-ghost use Rattle.std.specs.Prelude.{◌≡◌, ◌&&◌, true, false, option_map, Ok, IfOk, IfErr};
+ghost use Rattle.std.specs.Prelude.{◌≡◌, ◌⊎◌, true, false, option_map, IfOk, IfErr};
 ghost use Rattle.vx_catalog_relations.specs.Catalog.{relation_at};
 ghost use Rattle.vx_plan_nodes.specs.Outline.{plan_of};
 ghost use Rattle.vx_plan_nodes.specs.TypedView.{resolved_of, plan, scope};
@@ -12,12 +12,14 @@ ghost use Rattle.vx_check_options.specs.Options.{first_unfit};
 ghost use Rattle.vx_plan.specs.Resolve.{resolved};
 ghost use Rattle.vx_check_annotate.specs.Unclaimed.{unclaimed};
 ghost use Rattle.vx_check_annotate.specs.Verdict.{is_accepted, is_accepted_by_claims};
-ghost use Rattle.vx_check_annotate.specs.Telling.{tells};
+ghost use Rattle.vx_check_annotate.specs.Telling.{tells, TellsDerived};
 ghost use Rattle.vx_check_annotate.specs.Hinted.{IsHinted, unfit_root};
-ghost use Rattle.vx_check_annotate.specs.Strongest.{TellsTheMost};
+ghost use Rattle.vx_check_annotate.specs.Strongest.{TellsTheMost, TellsTheMostDerived};
 ghost use Rattle.vx_check_annotate.specs.Fault.{IsReason};
 
 use crate::fault::AnnotateFault;
+use crate::found_plan::{Judged, derived};
+use crate::keeping::{accepted_plan, claims_as_much, restored};
 use crate::naming::Naming;
 use crate::rewriting::claimed_plan;
 use crate::verdict::{is_accepted, is_accepted_by_claims};
@@ -29,17 +31,6 @@ use vx_plan::resolve;
 use vx_plan_json::{Plan, PlanFault};
 use vx_plan_nodes::{TypedNode, TypedPlan};
 
-// The typed plan of a plan that is accepted by claims alone.
-fn resolved_again(alloc: Global, catalog: &Catalog, plan: &Plan) -> Result<TypedPlan, AllocError>
-    requires { is_accepted_by_claims catalog.now (document_of plan.now) ≡ true }
-    ensures { IfOk result (λ t. resolved (document_of plan.now) catalog.now ≡ Ok (resolved_of t)) }
-{
-    match resolve(alloc, plan, catalog) {
-        Ok(typed) => Ok(typed),
-        Err(_) => Err(AllocError),
-    }
-}
-
 // The plan whose claims are kept, and its typed plan: the plan as it is, if it is accepted by claims alone, else without
 // its claims.
 fn hinted(alloc: Global, catalog: &Catalog, plan: Plan) -> Result<(TypedPlan, Plan), PlanFault>
@@ -49,7 +40,7 @@ fn hinted(alloc: Global, catalog: &Catalog, plan: Plan) -> Result<(TypedPlan, Pl
     ensures fault { IfErr result (λ e. Fails e (resolved (unclaimed (document_of plan)) catalog.now)) }
 {
     if is_accepted_by_claims(alloc, catalog, &plan)? {
-        let typed = resolved_again(alloc, catalog, &plan)?;
+        let typed = accepted_plan(alloc, catalog, &plan)?;
         return Ok((typed, plan));
     }
     let bare = claimed_plan(alloc, Vec::new(alloc), false, plan);
@@ -86,7 +77,7 @@ fn annotated_by_claims(alloc: Global, catalog: &Catalog, plan: Plan) -> Result<P
     ensures accepted { IfOk result (λ p. is_accepted_by_claims catalog.now (document_of p) ≡ true) }
     ensures telling { is_accepted_by_claims catalog.now (document_of plan) ≡ true → IfOk result (λ p. tells (document_of p) (document_of plan) ≡ true) }
     ensures strongest { IfOk result (λ p. TellsTheMost catalog.now (document_of p)) }
-    ensures refused { IfErr result (λ e. IsReason catalog.now (document_of plan) e) }
+    ensures refused { (document_of plan).derives ≡ false → IfErr result (λ e. IsReason catalog.now (document_of plan) e) }
 {
     let _relations = catalog.len();
     let (typed, kept) = hinted(alloc, catalog, plan)?;
@@ -101,32 +92,79 @@ fn annotated_by_claims(alloc: Global, catalog: &Catalog, plan: Plan) -> Result<P
     Ok(claimed_plan(alloc, named, is_total, kept))
 }
 
-// Whether a plan stays as it is: it asks for what is known of its columns, and is accepted.
-fn stays(alloc: Global, catalog: &Catalog, plan: &Plan) -> Result<bool, AllocError>
-    ensures { IfOk result (λ b. b ≡ ((document_of plan.now).derives && is_accepted catalog.now (document_of plan.now))) }
+// The plan with the claims that the second table shows, where it is not accepted with its own.
+fn annotated_anew(alloc: Global, catalog: &Catalog, plan: Plan) -> Result<Plan, AnnotateFault>
+    requires derives { (document_of plan).derives ≡ true }
+    requires refused { is_accepted catalog.now (document_of plan) ≡ false }
+    ensures same { IfOk result (λ p. unclaimed (document_of p) ≡ unclaimed (document_of plan)) }
+    ensures accepted { IfOk result (λ p. is_accepted catalog.now (document_of p) ≡ true) }
+    ensures derived { IfOk result (λ p. TellsTheMostDerived catalog.now (document_of p)) }
+    ensures refused { IfErr result (λ e. IsReason catalog.now (document_of plan) e) }
 {
-    if !plan.derives() {
-        return Ok(false);
+    let Judged { plan, refusal } = derived(alloc, catalog, plan)?;
+    match refusal {
+        None => Ok(plan),
+        Some((node, rule)) => Err(AnnotateFault::Rule { node, rule }),
     }
-    is_accepted(alloc, catalog, plan)
 }
 
-/// The plan with its claims, and whether it is total, replaced by what the rule table of claims alone shows: at each node a
-/// part that tells the most of those with which the operators above it fit, the longest order, and the minimal keys, the
-/// first 16; and total where the root's order is. What an accepted plan claims is kept: each of its claims is told by the
-/// new one. A plan that asks for what is known of its columns, and is accepted, stays as it is. The refusal is the first
-/// one of the plan without claims, or else the first node that no claims can save.
+// The same of an accepted plan, which stays as it is where those claims are not accepted, or do not tell all that it claims.
+fn annotated_again(alloc: Global, catalog: &Catalog, plan: Plan) -> Result<Plan, PlanFault>
+    requires { is_accepted catalog.now (document_of plan) ≡ true }
+    ensures same { IfOk result (λ p. unclaimed (document_of p) ≡ unclaimed (document_of plan)) }
+    ensures accepted { IfOk result (λ p. is_accepted catalog.now (document_of p) ≡ true) }
+    ensures telling { IfOk result (λ p. TellsDerived catalog.now (document_of p) (document_of plan)) }
+    ensures derived { IfOk result (λ p. TellsTheMostDerived catalog.now (document_of p) ⊎ (document_of p ≡ document_of plan)) }
+    ensures fault { IfErr result (λ e. Fails e (resolved (unclaimed (document_of plan)) catalog.now)) }
+{
+    let given = accepted_plan(alloc, catalog, &plan)?;
+    let Judged { plan, refusal } = derived(alloc, catalog, plan)?;
+    if refusal.is_none() && claims_as_much(alloc, catalog, &plan, &given)? {
+        return Ok(plan);
+    }
+    Ok(restored(alloc, catalog, plan, &given)?)
+}
+
+// The claims of a plan that asks for what is known of its columns.
+fn annotated_by_facts(alloc: Global, catalog: &Catalog, plan: Plan) -> Result<Plan, AnnotateFault>
+    requires { (document_of plan).derives ≡ true }
+    ensures same { IfOk result (λ p. unclaimed (document_of p) ≡ unclaimed (document_of plan)) }
+    ensures accepted { IfOk result (λ p. is_accepted catalog.now (document_of p) ≡ true) }
+    ensures telling { is_accepted catalog.now (document_of plan) ≡ true → IfOk result (λ p. TellsDerived catalog.now (document_of p) (document_of plan)) }
+    ensures derived { IfOk result (λ p. TellsTheMostDerived catalog.now (document_of p) ⊎ ((document_of p ≡ document_of plan) × (is_accepted catalog.now (document_of plan) ≡ true))) }
+    ensures refused { IfErr result (λ e. IsReason catalog.now (document_of plan) e) }
+{
+    let is_accepted = is_accepted(alloc, catalog, &plan)?;
+    if is_accepted {
+        return Ok(annotated_again(alloc, catalog, plan)?);
+    }
+    annotated_anew(alloc, catalog, plan)
+}
+
+/// The plan with its claims, and whether it is total, replaced by what a rule table shows: at each node a part that tells the
+/// most, the longest order, and the minimal keys, 16 at most; and total where the root's order is. The refusal is the first one
+/// of the plan without claims, or else a node that keeps it from being accepted.
+///
+/// A plan that is judged by claims alone gets what the table of claims shows: parts with which the operators above them fit, and
+/// the first 16 keys. What it claims is kept, if it is accepted: each of its claims is told by the new one. It is refused at the
+/// first node that no claims can save.
+///
+/// A plan that asks for what is known of its columns gets what the table of columns shows, over the inputs' claims, also by
+/// equal columns and by what is determined. If it is accepted, and those claims are not or do not tell all that it claims, it
+/// stays as it is. It is refused where it is not accepted and that table refuses those claims.
 pub fn annotate(alloc: Global, catalog: &Catalog, plan: Plan) -> Result<Plan, AnnotateFault>
     ensures same { IfOk result (λ p. unclaimed (document_of p) ≡ unclaimed (document_of plan)) }
     ensures accepted { IfOk result (λ p. is_accepted catalog.now (document_of p) ≡ true) }
-    ensures telling { is_accepted catalog.now (document_of plan) ≡ true → IfOk result (λ p. tells (document_of p) (document_of plan) ≡ true) }
+    ensures telling { (document_of plan).derives ≡ false → is_accepted catalog.now (document_of plan) ≡ true → IfOk result (λ p. tells (document_of p) (document_of plan) ≡ true) }
+    ensures telling_derived { (document_of plan).derives ≡ true → is_accepted catalog.now (document_of plan) ≡ true → IfOk result (λ p. TellsDerived catalog.now (document_of p) (document_of plan)) }
     ensures strongest { (document_of plan).derives ≡ false → IfOk result (λ p. TellsTheMost catalog.now (document_of p)) }
+    ensures derived { (document_of plan).derives ≡ true
+        → IfOk result (λ p. TellsTheMostDerived catalog.now (document_of p) ⊎ ((document_of p ≡ document_of plan) × (is_accepted catalog.now (document_of plan) ≡ true))) }
     ensures refused { IfErr result (λ e. IsReason catalog.now (document_of plan) e) }
 {
     let _relations = catalog.len();
-    let stays = stays(alloc, catalog, &plan)?;
-    if stays {
-        return Ok(plan);
+    if plan.derives() {
+        return annotated_by_facts(alloc, catalog, plan);
     }
     annotated_by_claims(alloc, catalog, plan)
 }

@@ -2,11 +2,16 @@
 #![tactic(auto)]
 
 mod annotating;
+mod asked;
 mod fault;
 mod formed;
+mod found_plan;
+mod keeping;
 mod naming;
 mod rewriting;
+mod staying;
 mod verdict;
 
 pub use annotating::annotate;
+pub use asked::asking;
 pub use fault::AnnotateFault;

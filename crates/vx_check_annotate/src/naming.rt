@@ -6,7 +6,7 @@ ghost use Rattle.vx_plan_nodes.specs.Names.{Names};
 ghost use Rattle.vx_plan_nodes.specs.Numbering.{nodes};
 ghost use Rattle.vx_plan_nodes.specs.Outline.{claim_of, columns_of, outline_of, plan_of};
 ghost use Rattle.vx_plan.specs.ByName.{claim_by_name};
-ghost use Rattle.vx_check_annotate.specs.Claimed.{form_of, forms_in, kept_form, claims_in, first_named, later_claims, named_forms};
+ghost use Rattle.vx_check_annotate.specs.Claimed.{form_of, forms_in, kept_form, claims_in, first_named, later_claims, named_forms, own_forms};
 
 use crate::formed::{FormedClaim, no_claim};
 use std::alloc::{AllocError, Global};
@@ -87,6 +87,43 @@ impl Naming<'_> {
         let mut claims = claims;
         let mut found = Vec::new(alloc);
         self.put_named(alloc, &mut claims, root, &mut found)?;
+        found.reverse();
+        Ok(found)
+    }
+
+    // Puts the claims that a node and those below it have behind the others, in preorder.
+    fn put_own(
+        &self,
+        alloc: Global,
+        node: &TypedNode,
+        found: &mut Vec<FormedClaim>,
+    ) -> Result<(), AllocError>
+        ensures { (s : Names) → s.ranges ≡ map range_form self.now.ranges.now → IfOk result (λ u. map form_of found.new.items ≡ map form_of found.old.items ++ own_forms s (outline_of node.now)) }
+    {
+        let head = node.head();
+        let claim = self.named(alloc, &head.columns, &head.claim)?;
+        found.push(claim)?;
+        match node {
+            TypedNode::Scan(_, _) => Ok(()),
+            TypedNode::Unary(_, _, input) => self.put_own(alloc, input, found),
+            TypedNode::Binary(_, _, left, right) => {
+                self.put_own(alloc, left, found)?;
+                self.put_own(alloc, right, found)
+            }
+            TypedNode::Exchange(_, _, input) => self.put_own(alloc, input, found),
+        }
+    }
+
+    /// The claims that these nodes have, by the names of their columns, in preorder from the last one on.
+    pub fn own_claims(
+        &self,
+        alloc: Global,
+        root: &TypedNode,
+    ) -> Result<Vec<FormedClaim>, AllocError>
+        ensures { (s : Names) → s.ranges ≡ map range_form self.now.ranges.now → IfOk result (λ v. forms_in v.items ≡ own_forms s (outline_of root.now)) }
+    {
+        let mut found = Vec::new(alloc);
+        self.put_own(alloc, root, &mut found)?;
         found.reverse();
         Ok(found)
     }

@@ -1,6 +1,5 @@
 -- What is found is a cause below, and of every failure something is found.
-use Rattle.std.proofs.Common.{◌≡◌, ◌∙◌, ◌⊎◌, inl, ℕ, suc, ◌==◌, Bool, true, false, cond, ◌||◌, List, [], ◌∷◌, ◌++◌, map, length, Option, Some, None, ap, refl, sym, subst, eq-eqb}
-use Rattle.std.specs.Prelude.{MatchOption}
+use Rattle.std.proofs.Common.{◌≡◌, ◌∙◌, ℕ, suc, ◌==◌, Bool, true, false, cond, ◌||◌, List, [], ◌∷◌, ◌++◌, map, length, Option, Some, None, ap, refl, sym, subst, eq-eqb}
 use Rattle.std.proofs.lemmas.List.{length-map}
 use Rattle.vx_plan_nodes.specs.Plan.{Plan}
 use Rattle.vx_plan_nodes.specs.Numbering.{is_numbered}
@@ -77,8 +76,3 @@ are-none fs causes h = h ∙ none-each fs
 -- as many as there are failures
 pub named-count : (root : Outline) (fs : List Failure) (causes : List (Option ℕ)) → NamesCauses root [] (map failure_is fs) causes → length causes ≡ length fs
 named-count root fs causes h = named-length root [] (map failure_is fs) causes h ∙ length-map fs failure_is
-
--- where there is nothing for one reason, it is so for one of two
-pub none-or : {X : Type 0} (o : Option X) (P Q : Type 0) (R : X → Type 0) → MatchOption o P R → MatchOption o (P ⊎ Q) R
-none-or None P Q R h = inl h
-none-or (Some x) P Q R h = h

@@ -14,7 +14,7 @@ use Rattle.vx_check_annotate.specs.declared.fault.AnnotateFault.{AnnotateFault}
 use Rattle.vx_check_annotate.specs.declared.fault.AnnotateFault.TheVariants as fault
 use Rattle.vx_check_annotate.specs.Unclaimed.{unclaimed}
 use Rattle.vx_check_annotate.specs.Verdict.{is_accepted}
-use Rattle.vx_check_annotate.specs.Strongest.{TellsTheMost}
+use Rattle.vx_check_annotate.specs.Strongest.{TellsTheMost, TellsTheMostDerived}
 use Rattle.vx_check_annotate.specs.Fault.{IsReason}
 use Rattle.vx_check_failures.specs.Lines.{node_numbered}
 use Rattle.vx_check_failures.specs.Grouped.{no_causes}
@@ -28,10 +28,16 @@ is_memory (fault.Plan NoMemory) = true
 is_memory (fault.Plan _) = false
 is_memory (fault.Rule node rule) = false
 
+-- the claims of e tell the most that follows at each node by the rule table that the document d asks for; where it asks for what is known of columns, this is not said
+-- if it is accepted itself
+abbrev pub ClaimsTheMost : (derives : Bool) → List Relation → (d e : Document) → Type 0
+ClaimsTheMost false catalog d e = TellsTheMost catalog e
+ClaimsTheMost true catalog d e = TellsTheMostDerived catalog e ⊎ (is_accepted catalog d ≡ true)
+
 -- the plan of the same document but for its claims, where these are accepted and tell the most that follows at each node
 abbrev pub IsAnnotated : List Relation → Document → TypedPlanView → Type 0
 IsAnnotated catalog d a =
-    (e : Document) × (unclaimed e ≡ unclaimed d) × (is_accepted catalog e ≡ true) × TellsTheMost catalog e × (resolved e catalog ≡ Ok a)
+    (e : Document) × (unclaimed e ≡ unclaimed d) × (is_accepted catalog e ≡ true) × ClaimsTheMost d.derives catalog d e × (resolved e catalog ≡ Ok a)
 
 -- the document gets no claims, for a reason that is not want of memory
 abbrev pub HasNoClaims : List Relation → Document → Type 0
@@ -81,11 +87,10 @@ causes_from p a ms (f ∷ fs) = cause_of p a ms f ∷ causes_from p a (with_caus
 abbrev pub causes_of : (p a : TypedPlanView) → List (ℕ × Rule) → List (Option ℕ)
 causes_of p a fs = causes_from p a [] fs
 
--- the causes of failures of a document's plan p: none where the document gets no claims, or is judged also by what is known of its columns, since claims are
--- found by the table of claims alone
+-- the causes of failures of a document's plan p: none where the document gets no claims
 abbrev pub AreCauses : List Relation → Document → TypedPlanView → List (ℕ × Rule) → List (Option ℕ) → Type 0
 AreCauses catalog d p fs causes =
-    ((HasNoClaims catalog d ⊎ (d.derives ≡ true)) × (causes ≡ no_causes fs)) ⊎ ((a : TypedPlanView) × IsAnnotated catalog d a × (causes ≡ causes_of p a fs))
+    (HasNoClaims catalog d × (causes ≡ no_causes fs)) ⊎ ((a : TypedPlanView) × IsAnnotated catalog d a × (causes ≡ causes_of p a fs))
 
 -- ---- what that is
 

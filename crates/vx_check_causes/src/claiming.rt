@@ -1,6 +1,6 @@
 //! The plan with the claims that follow at each node.
 
-ghost use Rattle.std.specs.Prelude.{◌≡◌, ◌⊎◌, true, false, Ok, IfOk, MatchOption};
+ghost use Rattle.std.specs.Prelude.{◌≡◌, true, Ok, IfOk, MatchOption};
 ghost use Rattle.vx_plan_nodes.specs.TypedView.{resolved_of};
 ghost use Rattle.vx_plan_json.specs.PlanView.{document_of};
 ghost use Rattle.vx_plan.specs.Resolve.{resolved};
@@ -38,9 +38,12 @@ fn resolved_again(alloc: Global, catalog: &Catalog, plan: &Plan) -> Result<Typed
     }
 }
 
-// The plan with the claims that follow at each node, if it gets any, of a plan that is judged by claims alone.
-fn annotated(alloc: Global, catalog: &Catalog, plan: Plan) -> Result<Option<TypedPlan>, AllocError>
-    requires { (document_of plan).derives ≡ false }
+/// The plan with the claims that follow at each node, by the rule table that it asks for, if it gets any.
+pub fn annotated(
+    alloc: Global,
+    catalog: &Catalog,
+    plan: Plan,
+) -> Result<Option<TypedPlan>, AllocError>
     ensures { IfOk result (λ o. MatchOption o (HasNoClaims catalog.now (document_of plan)) (λ t. IsAnnotated catalog.now (document_of plan) (resolved_of t))) }
 {
     match annotate(alloc, catalog, plan) {
@@ -55,18 +58,4 @@ fn annotated(alloc: Global, catalog: &Catalog, plan: Plan) -> Result<Option<Type
             Ok(None)
         }
     }
-}
-
-/// The plan with the claims that follow at each node, if it is judged by claims alone and gets any.
-pub fn annotated_by_claims(
-    alloc: Global,
-    catalog: &Catalog,
-    plan: Plan,
-) -> Result<Option<TypedPlan>, AllocError>
-    ensures { IfOk result (λ o. MatchOption o (HasNoClaims catalog.now (document_of plan) ⊎ ((document_of plan).derives ≡ true)) (λ t. IsAnnotated catalog.now (document_of plan) (resolved_of t))) }
-{
-    if plan.derives() {
-        return Ok(None);
-    }
-    annotated(alloc, catalog, plan)
 }

@@ -9,7 +9,7 @@ ghost use Rattle.vx_check_rules.specs.RuleView.{rule_of};
 ghost use Rattle.vx_check_causes.specs.Causes.{cause_at, cause_of, with_cause, causes_of, AreCauses, NamesCauses};
 
 use crate::below::first_below;
-use crate::claiming::annotated_by_claims;
+use crate::claiming::annotated;
 use crate::given::goes_away;
 use std::alloc::{AllocError, Global};
 use vx_catalog_relations::Catalog;
@@ -85,7 +85,7 @@ fn no_causes(alloc: Global, failures: &[Failure]) -> Result<Vec<Option<u32>>, Al
 
 /// Of each failure of a plan, in their order, the node of the failure that it comes of, if it comes of one: the first one
 /// below it that comes of no other, if the failure goes away over the claims that follow below. Where the plan gets no
-/// claims, or asks for what is known of its columns, no failure has a cause.
+/// claims, no failure has a cause.
 pub fn causes(
     alloc: Global,
     catalog: &Catalog,
@@ -97,7 +97,7 @@ pub fn causes(
     ensures causes { IfOk result (λ v. AreCauses catalog.now (document_of plan) (resolved_of typed.now) (map failure_is failures.now) v.items) }
     ensures named { IfOk result (λ v. NamesCauses (resolved_of typed.now).root [] (map failure_is failures.now) v.items) }
 {
-    match annotated_by_claims(alloc, catalog, plan)? {
+    match annotated(alloc, catalog, plan)? {
         Some(claimed) => causes_by(alloc, typed, &claimed, failures),
         None => no_causes(alloc, failures),
     }

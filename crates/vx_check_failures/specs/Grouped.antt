@@ -13,7 +13,7 @@ cause_text (Some m) = codes " cause=" ++ decimal m
 -- the line of a failure: the rule, the node, that of the failure that it comes of, and the claim that is shown
 abbrev pub caused_line : TypedPlanView → ℕ × Rule → Option ℕ → List ℕ
 caused_line p f cause =
-    codes "volcano: " ++ (rule_text f.1 ++ (codes " node=" ++ (decimal f.0 ++ (cause_text cause ++ (shown_text p.names (node_numbered f.0 p.root) ++ codes "\n")))))
+    codes "volcano: " ++ (rule_text f.1 ++ (codes " node=" ++ (decimal f.0 ++ (cause_text cause ++ (shown_text p.derives p.names (node_numbered f.0 p.root) ++ codes "\n")))))
 
 -- a failure with this cause comes of the one at this node
 abbrev pub comes_of : ℕ → Option ℕ → Bool

@@ -1,11 +1,13 @@
 //! All nodes of a plan at which a claim does not follow, where the checker says the first one, and what follows there.
 #![tactic(auto)]
 
+mod derived;
 mod failing;
 mod failure;
 mod finding;
 mod grouping;
 mod lines;
+mod named;
 mod shown;
 
 pub use failing::failures;

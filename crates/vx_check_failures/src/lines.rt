@@ -1,20 +1,18 @@
 //! The line of a failure.
 
 ghost use Rattle.std.specs.Prelude.{◌≡◌, ◌++◌, option_map, string_bytes, OnOk, IfSome};
-ghost use Rattle.vx_catalog_relations.specs.Catalog.{relation_at};
-ghost use Rattle.vx_plan_nodes.specs.Outline.{columns, claim_of, outline_of, plan_of};
-ghost use Rattle.vx_plan_nodes.specs.Outputs.{HasOutputs};
+ghost use Rattle.vx_plan_nodes.specs.Outline.{columns, claim_of, outline_of};
 ghost use Rattle.vx_plan_nodes.specs.TypedView.{names_in, resolved_of};
-ghost use Rattle.vx_check_rules.specs.Exactly.{KeysNameColumns};
 ghost use Rattle.vx_check_failures.specs.Lines.{claim_text, shown_text};
 ghost use Rattle.vx_check_failures.specs.Grouped.{cause_text, caused_line};
-ghost use Rattle.vx_check_failures.specs.FailureView.{failure_is};
+ghost use Rattle.vx_check_failures.specs.FailureView.{failure_is, IsTableOf, IsNodeOf};
 
 use crate::failure::Failure;
 use crate::finding::node_numbered;
 use crate::shown::shown_claim;
 use itoa::Buffer;
 use std::alloc::{AllocError, Global};
+use vx_check_rules::Table;
 use vx_plan::named_claim;
 use vx_plan_json::claim_text;
 use vx_plan_nodes::{Claim, Name, TypedNode, TypedPlan};
@@ -49,15 +47,18 @@ fn push_shown(
     alloc: Global,
     text: &mut String,
     plan: &TypedPlan,
+    table: &mut Table<'_>,
     node: Option<&TypedNode>,
 ) -> Result<(), AllocError>
-    requires { IfSome node (λ n. HasOutputs (relation_at (names_in plan.now).catalog) (outline_of n.now) × KeysNameColumns (relation_at (names_in plan.now).catalog) (plan_of n.now)) }
-    ensures { OnOk result (string_bytes text.new ≡ string_bytes text.old ++ shown_text (names_in plan.now) (option_map (λ n. outline_of n.now) node.entry)) }
+    requires node { IfSome node (λ n. IsNodeOf plan.now n.now) }
+    requires table { IsTableOf table.old plan.now }
+    ensures text { OnOk result (string_bytes text.new ≡ string_bytes text.old ++ shown_text (resolved_of plan.now).derives (names_in plan.now) (option_map (λ n. outline_of n.now) node.entry)) }
+    ensures table { OnOk result (IsTableOf table.new plan.now) }
 {
     let Some(node) = node else {
         return Ok(());
     };
-    let claim = shown_claim(alloc, plan.catalog(), node)?;
+    let claim = shown_claim(alloc, plan.catalog(), table, node)?;
     push_claim(alloc, text, plan, column_names(node), claim)
 }
 
@@ -78,10 +79,13 @@ pub fn push_line(
     alloc: Global,
     text: &mut String,
     plan: &TypedPlan,
+    table: &mut Table<'_>,
     failure: Failure,
     cause: Option<u32>,
 ) -> Result<(), AllocError>
-    ensures { OnOk result (string_bytes text.new ≡ string_bytes text.old ++ caused_line (resolved_of plan.now) (failure_is failure) cause) }
+    requires { IsTableOf table.old plan.now }
+    ensures text { OnOk result (string_bytes text.new ≡ string_bytes text.old ++ caused_line (resolved_of plan.now) (failure_is failure) cause) }
+    ensures table { OnOk result (IsTableOf table.new plan.now) }
 {
     let mut digits = Buffer::new();
     text.push_str("volcano: ")?;
@@ -89,6 +93,7 @@ pub fn push_line(
     text.push_str(" node=")?;
     text.push_str(digits.format(failure.node))?;
     push_cause(text, cause)?;
-    push_shown(alloc, text, plan, node_numbered(plan.root(), failure.node))?;
+    let node = node_numbered(plan.root(), failure.node);
+    push_shown(alloc, text, plan, table, node)?;
     text.push_str("\n")
 }

@@ -121,8 +121,8 @@ fn add_all(
     Ok(())
 }
 
-// The other columns.
-fn without(alloc: Global, columns: &[usize], column: usize) -> Result<Vec<usize>, AllocError>
+/// The other columns.
+pub fn without(alloc: Global, columns: &[usize], column: usize) -> Result<Vec<usize>, AllocError>
     ensures { IfOk result (λ v. v.items ≡ filter (λ c. not (c == column)) columns.now) }
 {
     let mut others = Vec::new(alloc);

@@ -13,7 +13,10 @@ mod placing;
 ghost use Rattle.vx_check_options.specs.Claimed.{ClaimedIsFit, ClaimedIsTyped, ClaimedKeeps, ClaimedIsStrongest};
 ghost use Rattle.vx_check_options.specs.Laws.{OnlyOptions};
 
+pub use choices::{MAX_KEYS, add_key, put_choices};
 pub use claiming::found_claims;
+pub use copies::Lists;
+pub use keys::without;
 pub use options::first_unfit;
 
 /// Where claims are accepted, each node can claim what they do.

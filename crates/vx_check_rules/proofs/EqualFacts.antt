@@ -1,5 +1,5 @@
 -- Lists of columns that are equal one by one, and pairs of equal columns.
-use Rattle.std.proofs.Common.{◌≡◌, ◌∙◌, ℕ, suc, ◌+◌, ◌<◌, ◌==◌, nat_lt, Bool, true, false, ◌&&◌, ◌||◌, Option, Some, None, slice_get, List, [], ◌∷◌, length, drop, drop-cons, add-one, get_or, slice_index, refl, ap, sym}
+use Rattle.std.proofs.Common.{◌≡◌, ◌∙◌, ℕ, suc, ◌+◌, ◌<◌, nat_lt, Bool, true, false, ◌&&◌, ◌||◌, slice_get, List, [], ◌∷◌, length, drop, drop-cons, add-one, slice_index, refl, ap}
 use Rattle.std.specs.List.{list_any}
 use Rattle.std.proofs.Math.Bool.{and-false}
 use Rattle.vx_plan_nodes.specs.Describe.{Copying}

@@ -1,5 +1,5 @@
 -- Keys within what columns determine, as the program finds them.
-use Rattle.std.proofs.Common.{◌≡◌, ℕ, zero, suc, ◌+◌, ◌<◌, ◌≤◌, ◌==◌, nat_lt, Bool, true, false, cond, ◌&&◌, ◌||◌, List, [], ◌∷◌, Vec, Global, map, length, get_or, refl, sym, ap, ◌∙◌, subst, arith, true≢false, ltb-true, eqb-true, ⊎_elim}
+use Rattle.std.proofs.Common.{◌≡◌, ℕ, zero, suc, ◌+◌, ◌<◌, ◌≤◌, ◌==◌, nat_lt, Bool, true, false, cond, ◌&&◌, ◌||◌, List, [], ◌∷◌, Vec, Global, map, length, get_or, refl, sym, ap, ap₂, ◌∙◌, subst, arith, true≢false, ltb-true, eqb-true, ⊎_elim}
 use Rattle.std.specs.List.{list_all, list_any, filter}
 use Rattle.std.proofs.lemmas.Bool.{cases_lt}
 use Rattle.std.proofs.lemmas.Bool.Decides.{nat_tests}
@@ -23,7 +23,7 @@ use Rattle.vx_plan_facts.proofs.ColumnSets.{any-at}
 use Rattle.vx_plan_facts.proofs.Searching.{wide-enough, known-aside, aside-same, width-same}
 use Rattle.vx_plan_facts.proofs.Tests.{or-left, or-right, any-first}
 use Rattle.vx_plan_facts.proofs.KnownFacts.{known-under}
-use Rattle.vx_check_rules.specs.Derived.{members, key_below}
+use Rattle.vx_check_rules.specs.Derived.{members, key_below, key_derived, key_derived_by}
 use Rattle.vx_check_rules.specs.KnownNode.{IsKeyOf, IsKeyOver, projected_below}
 use Rattle.vx_check_rules.specs.Rules.{keys_of}
 use Rattle.vx_check_rules.specs.Behaviour.{behaviour, shown_key}
@@ -189,6 +189,12 @@ shown-is catalog p key l = keys-exactly catalog p key (sym (within-below (width 
 
 pub shown-members : (catalog : ℕ → Relation) (p : Plan) (s : Columns) → keys_of catalog p (members (width catalog p) s) ≡ shown_key (behaviour catalog p) (members (width catalog p) s)
 shown-members catalog p s = shown-is catalog p (members (width catalog p) s) (filter-below (width catalog p) s (first_columns (width catalog p)) (first-below (width catalog p)))
+
+-- where the keys that are there are those of the behaviour
+pub derived-by : (catalog : ℕ → Relation) (p : Plan) (key : List ℕ) → all_below (width catalog p) key ≡ true
+    → key_derived_by catalog p (behaviour catalog p).keyed key ≡ key_derived catalog p key
+derived-by catalog p key l =
+    sym (ap₂ (λ a b. a || (b || key_below catalog p key)) (shown-is catalog p key l) (shown-members catalog p (determined_aside catalog p (set_of key))))
 
 -- a key of a list of keys of these columns
 pub key-at : (w : ℕ) (ks : List (Vec ℕ Global)) (keys : List (List ℕ)) (i : ℕ) (k : Vec ℕ Global) → map (λ v. v.items) ks ≡ keys → list_all (all_below w) keys ≡ true → i < length ks

@@ -1,6 +1,5 @@
 -- The second table's tests of parts, by what is known of the columns of a node and of its inputs, are those of the table.
-use Rattle.std.proofs.Common.{◌≡◌, ◌∙◌, ℕ, ◌+◌, ◌<◌, ◌==◌, nat_lt, Bool, true, ◌&&◌, ◌||◌, List, [], ◌∷◌, length, refl, ap, ap₂, sym, subst, arith}
-use Rattle.std.specs.List.{list_all}
+use Rattle.std.proofs.Common.{◌≡◌, ◌∙◌, ℕ, ◌<◌, nat_lt, Bool, true, ◌&&◌, ◌||◌, List, [], ◌∷◌, length, refl, ap, ap₂, sym, subst, arith}
 use Rattle.std.proofs.lemmas.Bool.{eqb-true}
 use Rattle.std.proofs.lemmas.Bool.Decides.{nat_tests}
 use Rattle.vx_rows_values.specs.declared.value.ColType.{ColType}
@@ -8,18 +7,18 @@ use Rattle.vx_rows_values.specs.Lists.{is_some_list}
 use Rattle.vx_rows_values.proofs.Booleans.{and-left, and-right}
 use Rattle.vx_catalog_relations.specs.Relation.{Relation}
 use Rattle.vx_catalog_relations.specs.Catalog.{relation_at, all_below, are_distinct}
-use Rattle.vx_plan_nodes.specs.Plan.{Route, by_hash, by_range, Part, routed, Claim, Unary, Binary, union, join, ExchangeKind, route_to, round, broadcast, gather, concat, Plan, scan, unary, binary, exchange, claim}
+use Rattle.vx_plan_nodes.specs.Plan.{Route, by_hash, by_range, Claim, Unary, Binary, union, join, ExchangeKind, route_to, round, broadcast, gather, concat, Plan, scan, unary, binary, exchange, claim}
 use Rattle.vx_plan_nodes.specs.declared.typed.TypedNode.{TypedNode}
 use Rattle.vx_plan_nodes.specs.Outline.{plan_of}
 use Rattle.vx_plan_nodes.specs.Parts.{kind_part}
 use Rattle.vx_plan_nodes.specs.Types.{types_of, width, part_columns}
-use Rattle.vx_plan_nodes.specs.Typed.{Scope, typed, type_eq, is_size, is_kind, is_routed, are_columns}
+use Rattle.vx_plan_nodes.specs.Typed.{Scope, typed, is_size, is_kind, is_routed, are_columns}
 use Rattle.vx_plan_nodes.specs.Describe.{described, described_both, left_of, right_of}
 use Rattle.vx_plan_facts.specs.declared.facts.ColumnFacts.{ColumnFacts}
 use Rattle.vx_plan_facts.specs.declared.known.KnownColumns.{KnownColumns}
 use Rattle.vx_plan_facts.specs.FactsView.{facts_of, width_of}
 use Rattle.vx_plan_facts.specs.Facts.{AreFactsOf}
-use Rattle.vx_plan_facts.specs.Equal.{Equality, equal_at}
+use Rattle.vx_plan_facts.specs.Equal.{equal_at}
 use Rattle.vx_plan_facts.specs.Naming.{IsTypedOver}
 use Rattle.vx_plan_facts.specs.KnownView.{IsKnownOf}
 use Rattle.vx_plan_facts.proofs.KnownFacts.{known-under, known-passed, known-both}
@@ -27,7 +26,7 @@ use Rattle.vx_plan_facts.proofs.NamedColumns.{types-width, typed-unary, typed-bo
 use Rattle.vx_plan_facts.proofs.Searching.{known-left, known-right}
 use Rattle.vx_check_rules.specs.Rules.{inputs_match}
 use Rattle.vx_check_rules.specs.Behaviour.{own}
-use Rattle.vx_check_rules.specs.Derived.{part_matches, unary_meets_equally, binary_meets_equally, routed_as, inputs_match_derived, part_derived}
+use Rattle.vx_check_rules.specs.Derived.{part_matches, routed_as, inputs_match_derived, part_derived}
 use Rattle.vx_check_rules.specs.DerivedView.{equality_of, meet_equally, meet_both_equally, meets_derived, join_part, both_part}
 use Rattle.vx_check_rules.specs.KnownNode.{IsKnownTyped}
 use Rattle.vx_check_rules.proofs.NamedNodes.{part-below}

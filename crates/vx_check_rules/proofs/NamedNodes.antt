@@ -5,7 +5,7 @@ use Rattle.std.specs.List.{list_all}
 use Rattle.vx_rows_values.proofs.Booleans.{and-left, and-right, and-both}
 use Rattle.vx_catalog_relations.specs.Relation.{Relation}
 use Rattle.vx_catalog_relations.specs.Catalog.{relation_at, all_below, are_distinct}
-use Rattle.vx_plan_nodes.specs.Plan.{Claim, claim, Binary, union, join, ExchangeKind, Plan, scan, unary, binary, exchange}
+use Rattle.vx_plan_nodes.specs.Plan.{Part, Claim, claim, Binary, union, join, ExchangeKind, Plan, scan, unary, binary, exchange}
 use Rattle.vx_plan_nodes.specs.Phases.{phase_fits, both_closed}
 use Rattle.vx_plan_nodes.specs.Typed.{is_kind, are_columns, typed}
 use Rattle.vx_plan_nodes.specs.Types.{types_of, width, part_columns, names_columns, well_formed}
@@ -14,7 +14,7 @@ use Rattle.vx_plan_facts.specs.KnownView.{IsKnownOf}
 use Rattle.vx_plan_facts.specs.declared.known.KnownColumns as rust_known
 use Rattle.vx_plan_facts.proofs.NamedColumns.{types-width, typed-both}
 use Rattle.vx_plan_facts.proofs.KnownFacts.{known-passed, known-both}
-use Rattle.vx_check_rules.specs.KnownNode.{AreOrdersOf, AreJoined, pairs_follow, IsKnownTyped, StaysKnown}
+use Rattle.vx_check_rules.specs.KnownNode.{AreOrdersOf, AreGivenOf, AreJoined, pairs_follow, IsKnownTyped, StaysKnown}
 use Rattle.vx_check_rules.specs.Derived.{needed_follows}
 
 claim-named : (catalog : ℕ → Relation) (p : Plan) → well_formed catalog p ≡ true → names_columns (width catalog p) (claim p) ≡ true
@@ -122,5 +122,17 @@ pub still-typed : (catalog : List Relation) (k l : rust_known.KnownColumns) (p x
     → IsKnownTyped catalog l x
 still-typed catalog k l p x kept under h = record { known = kept (relation_at catalog) under x h.known; typed = h.typed }
 
-pub own-orders : (catalog : ℕ → Relation) (k : rust_known.KnownColumns) (p : Plan) → IsKnownOf catalog k p → AreOrdersOf catalog k p (claim p).order (claim p).order
-own-orders catalog k p h = record { known = h; given_below = order-below catalog k p h; order_below = order-below catalog k p h }
+-- one order of its columns twice, and the part and the order that it claims
+pub same-orders : (catalog : ℕ → Relation) (k : rust_known.KnownColumns) (p : Plan) → IsKnownOf catalog k p → (order : List ℕ) → all_below (width catalog p) order ≡ true
+    → AreOrdersOf catalog k p order order
+same-orders catalog k p h order below = record { known = h; given_below = below; order_below = below }
+
+pub given-own : (catalog : ℕ → Relation) (k : rust_known.KnownColumns) (p : Plan) → IsKnownOf catalog k p → (q : Part) (order : List ℕ) → q ≡ (claim p).part → order ≡ (claim p).order
+    → AreGivenOf catalog k p q order
+given-own catalog k p h q order part same =
+    let w : ℕ = width catalog p in
+    record {
+      known = h;
+      part_below = ap (λ x. all_below w (part_columns x)) part ∙ part-below catalog k p h;
+      order_below = ap (all_below w) same ∙ order-below catalog k p h;
+    }

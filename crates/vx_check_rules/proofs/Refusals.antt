@@ -3,8 +3,8 @@ use Rattle.std.proofs.Common.{ap, ap₂, sym, ◌∙◌, ◌≡◌, ℕ, Bool, t
 use Rattle.vx_catalog_relations.specs.Relation.{Relation}
 use Rattle.vx_plan_nodes.specs.Plan.{Plan, scan, unary, binary, exchange, number}
 use Rattle.vx_check_rules.specs.Rules.{allowed, root_allowed}
-use Rattle.vx_check_rules.specs.Derived.{allowed_derived, root_allowed_derived}
-use Rattle.vx_check_rules.specs.Refusal.{Rule, first_failure, or_else, refused_at, first_failing, refusal_of_tests, node_tests, refusal}
+use Rattle.vx_check_rules.specs.Derived.{allowed_derived}
+use Rattle.vx_check_rules.specs.Refusal.{Rule, first_failure, or_else, refused_at, first_failing, refusal}
 use Rattle.vx_check_rules.specs.Tables.{tests_by, root_tests_by, refusal_by, allowed_by, root_allowed_by, TablesDecide}
 use Rattle.vx_rows_values.proofs.Booleans.{and-both, and-left, and-right}
 

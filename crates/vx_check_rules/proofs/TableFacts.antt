@@ -1,17 +1,16 @@
 -- Judging by a table: tests in their order, and a node's inputs.
-use Rattle.std.proofs.Common.{◌≡◌, ◌∙◌, ℕ, Bool, true, false, List, [], ◌∷◌, Option, Some, None, refl, sym, ap}
+use Rattle.std.proofs.Common.{◌≡◌, ◌∙◌, ℕ, Bool, true, false, List, [], ◌∷◌, Some, None, refl}
 use Rattle.vx_catalog_relations.specs.Relation.{Relation}
 use Rattle.vx_catalog_relations.specs.Catalog.{relation_at}
 use Rattle.vx_plan_nodes.specs.Plan.{Claim, Unary, Binary, ExchangeKind, Plan, unary, binary, exchange}
 use Rattle.vx_plan_facts.specs.declared.known.KnownColumns.{KnownColumns}
-use Rattle.vx_plan_facts.specs.KnownView.{IsKnownOf}
 use Rattle.vx_plan_facts.proofs.KnownFacts.{known-under, known-passed, known-both}
 use Rattle.vx_plan_facts.proofs.NamedColumns.{typed-unary, typed-both, typed-sent}
 use Rattle.vx_check_rules.specs.declared.table.Table.{Table}
 use Rattle.vx_check_rules.specs.declared.table.Table.TheVariants.{First, Second}
-use Rattle.vx_check_rules.specs.KnownNode.{IsKnownTyped, StaysKnown}
+use Rattle.vx_check_rules.specs.KnownNode.{StaysKnown}
 use Rattle.vx_check_rules.specs.Refusal.{Rule, size_mismatch, part_not_shown, inputs_not_matched, replicated_input, order_not_shown, order_needed, key_not_shown, first_failure}
-use Rattle.vx_check_rules.specs.TableView.{derives, Judges, StaysTable}
+use Rattle.vx_check_rules.specs.TableView.{Judges, StaysTable}
 
 -- ---- tests in their order
 

@@ -11,6 +11,7 @@ use Rattle.vx_plan_nodes.specs.Describe.{Copying, source, left_of, right_of, des
 use Rattle.vx_plan_facts.specs.Equal.{Equality, equal_at}
 use Rattle.vx_plan_facts.specs.Determined.{Columns, column_in, sources_in, determined, determined_aside}
 use Rattle.vx_plan_facts.specs.Following.{set_of, equal_lists, short, order_follows, total_follows}
+use Rattle.vx_check_rules.specs.Behaviour.{Keyed, keys_give}
 use Rattle.vx_check_rules.specs.Rules.{route_eq, has, sizes_match, not_replicated, inputs_match, order_given, part_shown, order_shown, keys_of, is_total_order}
 
 -- ---- parts
@@ -136,9 +137,13 @@ abbrev pub rises_equally : Equality → (Columns → Columns) → Part → List 
 rises_equally e det (routed (by_range k) (c ∷ [])) order = order_follows e det order (c ∷ [])
 rises_equally e det q order = false
 
+-- the order of an exchange's input goes on, where the input has this part and this order; and where it has those that it claims
+abbrev pub goes_on_with : (ℕ → Relation) → ExchangeKind → Plan → Part → List ℕ → Bool
+goes_on_with catalog concat p q order = rises_equally (equal_at catalog p) (determined catalog p) q order
+goes_on_with catalog k p q order = false
+
 abbrev pub goes_on_derived : (ℕ → Relation) → ExchangeKind → Plan → Bool
-goes_on_derived catalog concat p = rises_equally (equal_at catalog p) (determined catalog p) (claim p).part (claim p).order
-goes_on_derived catalog k p = false
+goes_on_derived catalog k p = goes_on_with catalog k p (claim p).part (claim p).order
 
 -- the orders that a node has by the table
 abbrev pub unary_order : ℕ → Unary → Equality → (Columns → Columns) → List ℕ → List ℕ
@@ -184,6 +189,12 @@ key_below catalog p key = false
 -- K8: what a key determines holds one that the table shows
 abbrev pub key_derived : (ℕ → Relation) → Plan → List ℕ → Bool
 key_derived catalog p key = keys_of catalog p key || (keys_of catalog p (members (width catalog p) (determined_aside catalog p (set_of key))) || key_below catalog p key)
+
+-- K8, where these keys are there
+abbrev pub key_derived_by : (ℕ → Relation) → Plan → List Keyed → List ℕ → Bool
+key_derived_by catalog p keyed key =
+    list_any (λ k. keys_give k key) keyed
+    || (list_any (λ k. keys_give k (members (width catalog p) (determined_aside catalog p (set_of key)))) keyed || key_below catalog p key)
 
 abbrev pub keys_shown_derived : (ℕ → Relation) → Plan → Bool
 keys_shown_derived catalog p = list_all (key_derived catalog p) (claim p).keys

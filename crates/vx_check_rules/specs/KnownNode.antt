@@ -3,8 +3,8 @@ use Rattle.std.specs.Prelude.{◌≡◌, ◌&&◌, ℕ, Bool, true, false, List,
 use Rattle.std.specs.List.{list_all, list_any}
 use Rattle.vx_catalog_relations.specs.Relation.{Relation}
 use Rattle.vx_catalog_relations.specs.Catalog.{relation_at, all_below}
-use Rattle.vx_plan_nodes.specs.Plan.{Unary, project, Binary, join, Plan, claim}
-use Rattle.vx_plan_nodes.specs.Types.{width, unary_width}
+use Rattle.vx_plan_nodes.specs.Plan.{Part, Unary, project, Binary, join, Plan, claim}
+use Rattle.vx_plan_nodes.specs.Types.{width, unary_width, part_columns}
 use Rattle.vx_plan_facts.specs.declared.known.KnownColumns as rust_known
 use Rattle.vx_plan_facts.specs.KnownView.{IsKnownOf}
 use Rattle.vx_plan_facts.specs.Naming.{both_within, IsTypedOver}
@@ -25,6 +25,12 @@ pub record IsKnownTyped (catalog : List Relation) (k : rust_known.KnownColumns) 
 pub record AreOrdersOf (catalog : ℕ → Relation) (k : rust_known.KnownColumns) (p : Plan) (given order : List ℕ) : Type 0 where
   pub known : IsKnownOf catalog k p
   pub given_below : all_below (width catalog p) given ≡ true
+  pub order_below : all_below (width catalog p) order ≡ true
+
+-- a part and an order of columns of the node
+pub record AreGivenOf (catalog : ℕ → Relation) (k : rust_known.KnownColumns) (p : Plan) (q : Part) (order : List ℕ) : Type 0 where
+  pub known : IsKnownOf catalog k p
+  pub part_below : all_below (width catalog p) (part_columns q) ≡ true
   pub order_below : all_below (width catalog p) order ≡ true
 
 -- where this node is known, whatever is known of others stays so

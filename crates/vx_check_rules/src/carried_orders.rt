@@ -6,7 +6,6 @@ ghost use Rattle.vx_catalog_relations.specs.Relation.{Relation};
 ghost use Rattle.vx_catalog_relations.specs.Catalog.{relation_at, all_below};
 ghost use Rattle.vx_plan_nodes.specs.DescribeView.{copying_of, order_after_of};
 ghost use Rattle.vx_plan_nodes.specs.Outline.{plan_of};
-ghost use Rattle.vx_plan_nodes.specs.Plan.{claim};
 ghost use Rattle.vx_plan_nodes.specs.Types.{width};
 ghost use Rattle.vx_plan_facts.specs.ColumnSetView.{set_of_columns};
 ghost use Rattle.vx_plan_facts.specs.Determined.{column_in, determined};
@@ -16,19 +15,23 @@ ghost use Rattle.vx_plan_facts.specs.KnownView.{IsKnownOf};
 ghost use Rattle.vx_check_rules.specs.Derived.{copy_of, front_copies};
 ghost use Rattle.vx_check_rules.specs.KnownNode.{AreOrdersOf, AreCopiesOf, StaysKnown};
 
-use crate::column_list::ColumnList;
 use crate::derived_orders::are_equal;
-use crate::nodes::claimed_order;
+use arrayvec::ArrayVec;
 use vx_plan_facts::{ColumnSet, KnownColumns};
 use vx_plan_nodes::{Copying, TypedNode};
+use vx_rows_values::limits::MAX_COLUMNS;
 
-// The columns of an order that those before them do not determine.
-fn short(node: &TypedNode, known: &mut KnownColumns<'_>, order: &[usize]) -> ColumnList
+/// The columns of an order that those before them do not determine.
+pub fn short(
+    node: &TypedNode,
+    known: &mut KnownColumns<'_>,
+    order: &[usize],
+) -> ArrayVec<usize, MAX_COLUMNS>
     requires { (catalog : ℕ → Relation) × AreOrdersOf catalog known.old (plan_of node.now) order.now order.now }
-    ensures short { (catalog : ℕ → Relation) → AreOrdersOf catalog known.old (plan_of node.now) order.now order.now → result ≡ short (determined catalog (plan_of node.now)) order.now }
+    ensures short { (catalog : ℕ → Relation) → AreOrdersOf catalog known.old (plan_of node.now) order.now order.now → result.items ≡ short (determined catalog (plan_of node.now)) order.now }
     ensures kept { StaysKnown known.old known.new (plan_of node.now) }
 {
-    let mut short = ColumnList::new();
+    let mut short = ArrayVec::new();
     let mut passed = ColumnSet::new();
     let mut found = known.determined(node, &passed);
     for column in order {
@@ -60,8 +63,8 @@ fn is_equal_source(
     }
 }
 
-// Of so many output columns the first one that is a copy of a column that is equal to this input column.
-fn copy_of(
+/// Of so many output columns the first one that is a copy of a column that is equal to this input column.
+pub fn copy_of(
     copying: Copying<'_>,
     outputs: usize,
     input: &TypedNode,
@@ -87,14 +90,14 @@ fn front_copies(
     input: &TypedNode,
     known: &KnownColumns<'_>,
     order: &[usize],
-) -> ColumnList
+) -> ArrayVec<usize, MAX_COLUMNS>
     requires copies { (catalog : ℕ → Relation) × AreCopiesOf catalog known.now (plan_of input.now) outputs (copying_of copying)
         × (all_below (width catalog (plan_of input.now)) order.now ≡ true) }
     requires few { length order.now ≤ max_columns }
     ensures { (catalog : ℕ → Relation) → AreCopiesOf catalog known.now (plan_of input.now) outputs (copying_of copying.entry) → all_below (width catalog (plan_of input.now)) order.now ≡ true
-        → result ≡ front_copies outputs (copying_of copying.entry) (equal_at catalog (plan_of input.now)) order.now }
+        → result.items ≡ front_copies outputs (copying_of copying.entry) (equal_at catalog (plan_of input.now)) order.now }
 {
-    let mut copies = ColumnList::new();
+    let mut copies = ArrayVec::new();
     for column in order {
         match copy_of(copying, outputs, input, known, *column) {
             Some(copy) => copies.push(copy),
@@ -104,19 +107,21 @@ fn front_copies(
     copies
 }
 
-/// The claimed order of an input, without what earlier columns determine, where copies of it stand in an output of so many
-/// columns.
-pub(crate) fn carried_order(
+/// This order of an input, without what earlier columns determine, where copies of it stand in an output of so many columns.
+pub fn carried_order(
     copying: Copying<'_>,
     outputs: usize,
     input: &TypedNode,
     known: &mut KnownColumns<'_>,
-) -> ColumnList
-    requires { (catalog : ℕ → Relation) × AreCopiesOf catalog known.old (plan_of input.now) outputs (copying_of copying) }
+    order: &[usize],
+) -> ArrayVec<usize, MAX_COLUMNS>
+    requires { (catalog : ℕ → Relation) × AreCopiesOf catalog known.old (plan_of input.now) outputs (copying_of copying)
+        × (all_below (width catalog (plan_of input.now)) order.now ≡ true) }
     ensures carried { (catalog : ℕ → Relation) → AreCopiesOf catalog known.old (plan_of input.now) outputs (copying_of copying.entry)
-        → result ≡ front_copies outputs (copying_of copying.entry) (equal_at catalog (plan_of input.now)) (short (determined catalog (plan_of input.now)) (claim (plan_of input.now)).order) }
+        → all_below (width catalog (plan_of input.now)) order.now ≡ true
+        → result.items ≡ front_copies outputs (copying_of copying.entry) (equal_at catalog (plan_of input.now)) (short (determined catalog (plan_of input.now)) order.now) }
     ensures kept { StaysKnown known.old known.new (plan_of input.now) }
 {
-    let below = short(input, known, claimed_order(input));
+    let below = short(input, known, order);
     front_copies(copying, outputs, input, known, below.as_slice())
 }

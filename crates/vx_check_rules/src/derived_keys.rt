@@ -15,8 +15,8 @@ ghost use Rattle.vx_plan_facts.specs.ColumnSetView.{set_of_columns};
 ghost use Rattle.vx_plan_facts.specs.Determined.{is_copy_of, determined, determined_aside};
 ghost use Rattle.vx_plan_facts.specs.Following.{set_of, total_follows};
 ghost use Rattle.vx_plan_facts.specs.KnownView.{IsKnownOf};
-ghost use Rattle.vx_check_rules.specs.Behaviour.{behaviour, keys_give};
-ghost use Rattle.vx_check_rules.specs.Derived.{members, key_below, key_derived, keys_shown_derived};
+ghost use Rattle.vx_check_rules.specs.Behaviour.{keys_give};
+ghost use Rattle.vx_check_rules.specs.Derived.{members, key_below, key_derived_by, keys_shown_derived};
 ghost use Rattle.vx_check_rules.specs.KeyedView.{all_keyed_in};
 ghost use Rattle.vx_check_rules.specs.KnownNode.{IsKeyOf, IsKeyOver, projected_below, StaysKnown};
 ghost use Rattle.vx_check_rules.specs.Rules.{is_total_order};
@@ -141,16 +141,16 @@ fn is_key_reached(
     show_key(keyed, members(width, &found).as_slice())
 }
 
-// Whether the key is shown, or follows from one that is.
-fn is_key_derived(
+/// Whether the key is shown by keys that are there, or follows from one that is.
+pub fn is_key_derived(
     keyed: &[Option<Keyed<'_>>],
     node: &TypedNode,
     known: &mut KnownColumns<'_>,
     key: &[usize],
 ) -> bool
     requires { (catalog : ℕ → Relation) × IsKeyOf catalog known.old (plan_of node.now) key.now }
-    ensures derived { (catalog : ℕ → Relation) → IsKeyOf catalog known.old (plan_of node.now) key.now → all_keyed_in keyed.now ≡ (behaviour catalog (plan_of node.now)).keyed
-        → result ≡ key_derived catalog (plan_of node.now) key.now }
+    ensures derived { (catalog : ℕ → Relation) → IsKeyOf catalog known.old (plan_of node.now) key.now
+        → result ≡ key_derived_by catalog (plan_of node.now) (all_keyed_in keyed.now) key.now }
     ensures kept { StaysKnown known.old known.new (plan_of node.now) }
 {
     if show_key(keyed, key) {

@@ -22,7 +22,6 @@ ghost use Rattle.vx_check_rules.specs.Passed.{past, first_passes};
 ghost use Rattle.vx_check_rules.specs.Rules.{is_total_order};
 ghost use Rattle.vx_check_rules.specs.Seen.{columns_seen};
 
-use crate::column_list::ColumnList;
 use crate::columns::ColumnsSeen;
 use crate::nodes::{claimed_keys, claimed_order, claimed_part, has_one_worker};
 use crate::orders::{is_order_given, is_order_shown, is_order_total};
@@ -72,7 +71,7 @@ fn goes_on(
 
 /// Whether rows in the order `given` are in the other one too: its columns, but for those that earlier ones determine, begin
 /// the given ones, up to equal columns. Equal columns determine the same, so that one set stands for those passed of either.
-pub(crate) fn order_follows(
+pub fn order_follows(
     node: &TypedNode,
     known: &mut KnownColumns<'_>,
     given: ColumnsSeen<'_>,
@@ -102,7 +101,7 @@ pub(crate) fn order_follows(
 }
 
 /// Whether an order follows from the one that a node claims.
-pub(crate) fn follows_claimed(
+pub fn follows_claimed(
     node: &TypedNode,
     known: &mut KnownColumns<'_>,
     order: ColumnsSeen<'_>,

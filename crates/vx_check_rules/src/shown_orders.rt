@@ -4,19 +4,19 @@ ghost use Rattle.std.specs.Prelude.{◌≡◌, ℕ, ◌&&◌, ◌||◌, true, Li
 ghost use Rattle.vx_catalog_relations.specs.Relation.{Relation};
 ghost use Rattle.vx_catalog_relations.specs.Catalog.{relation_at};
 ghost use Rattle.vx_plan_nodes.specs.DescribeView.{copying_of, order_after_of};
-ghost use Rattle.vx_plan_nodes.specs.Outline.{binary_of, kind_of, plan_of};
+ghost use Rattle.vx_plan_nodes.specs.Outline.{binary_of, kind_of, part_of, plan_of};
 ghost use Rattle.vx_plan_nodes.specs.Plan.{Plan, claim, size, is_one};
 ghost use Rattle.vx_plan_nodes.specs.Types.{width};
 ghost use Rattle.vx_plan_facts.specs.Determined.{determined};
 ghost use Rattle.vx_plan_facts.specs.Equal.{equal_at};
 ghost use Rattle.vx_plan_facts.specs.Following.{short};
 ghost use Rattle.vx_plan_facts.specs.KnownView.{IsKnownOf};
-ghost use Rattle.vx_check_rules.specs.Derived.{front_copies, rises_equally, goes_on_derived, binary_order, follows_at, order_derived, order_shown_derived};
-ghost use Rattle.vx_check_rules.specs.KnownNode.{IsKnownTyped, AreOrdersOf, HasCopies, HasInput, IsPassed, is_whole, order_by, StaysKnown};
+ghost use Rattle.vx_check_rules.specs.Derived.{front_copies, rises_equally, goes_on_with, goes_on_derived, binary_order, follows_at, order_derived, order_shown_derived};
+ghost use Rattle.vx_check_rules.specs.KnownNode.{IsKnownTyped, AreOrdersOf, AreGivenOf, HasCopies, HasInput, IsPassed, is_whole, order_by, StaysKnown};
 
 use crate::carried_orders::carried_order;
 use crate::columns::ColumnsSeen;
-use crate::derived_orders::{follows_claimed, order_follows};
+use crate::derived_orders::order_follows;
 use crate::nodes::{claimed_order, claimed_part, has_one_worker};
 use crate::orders::is_order_shown;
 use crate::sortings::order_after;
@@ -64,7 +64,7 @@ fn follows_carried(
         → (q : Plan) → IsKnownOf catalog known.old q → IsKnownOf catalog known.new q }
 {
     let outputs = known.facts_of(node).width();
-    let given = carried_order(copying, outputs, input, known);
+    let given = carried_order(copying, outputs, input, known, claimed_order(input));
     follows_from(node, known, given.as_slice())
 }
 
@@ -93,8 +93,8 @@ fn follows_after(
     follows_carried(node, known, described.copying, input)
 }
 
-// The order of an output over two inputs, of which the left one has this order.
-fn order_over<'p>(operator: &Binary, left: &'p [usize]) -> &'p [usize]
+/// The order of an output over two inputs, of which the left one has this order.
+pub fn order_over<'p>(operator: &Binary, left: &'p [usize]) -> &'p [usize]
     ensures { result.now ≡ binary_order (binary_of operator.now) left.now }
 {
     match operator {
@@ -104,33 +104,41 @@ fn order_over<'p>(operator: &Binary, left: &'p [usize]) -> &'p [usize]
     }
 }
 
-// Whether rows with the part that a node claims rise with the number of their worker, as each worker's rows do: a range on a
-// column put them there, from which their order begins, but for what is fixed.
-fn does_rise(node: &TypedNode, known: &mut KnownColumns<'_>) -> bool
-    requires { (catalog : ℕ → Relation) × IsKnownOf catalog known.old (plan_of node.now) }
-    ensures rises { (catalog : ℕ → Relation) → IsKnownOf catalog known.old (plan_of node.now)
-        → result ≡ rises_equally (equal_at catalog (plan_of node.now)) (determined catalog (plan_of node.now)) (claim (plan_of node.now)).part (claim (plan_of node.now)).order }
+// Whether rows of a node with this part rise with the number of their worker, as each worker's rows do in this order: a range
+// on a column put them there, from which their order begins, but for what is fixed.
+fn does_rise(node: &TypedNode, known: &mut KnownColumns<'_>, part: &Part, order: &[usize]) -> bool
+    requires { (catalog : ℕ → Relation) × AreGivenOf catalog known.old (plan_of node.now) (part_of part.now) order.now }
+    ensures rises { (catalog : ℕ → Relation) → AreGivenOf catalog known.old (plan_of node.now) (part_of part.now) order.now
+        → result ≡ rises_equally (equal_at catalog (plan_of node.now)) (determined catalog (plan_of node.now)) (part_of part.now) order.now }
     ensures kept { StaysKnown known.old known.new (plan_of node.now) }
 {
-    match claimed_part(node) {
+    match part {
         Part::Routed(Route::Range(_), columns) => {
             if columns.len() != 1 {
                 return false;
             }
-            follows_claimed(node, known, ColumnsSeen::Listed(columns.as_slice()))
+            let wanted = ColumnsSeen::Listed(columns.as_slice());
+            order_follows(node, known, ColumnsSeen::Listed(order), wanted)
         }
         Part::One | Part::Any | Part::All | Part::Routed(Route::Hash(_), _) => false,
     }
 }
 
 // Whether an exchange of this kind keeps the order of its producers' rows, since it takes one producer after the other.
-fn does_go_on(kind: &ExchangeKind, input: &TypedNode, known: &mut KnownColumns<'_>) -> bool
-    requires { (catalog : ℕ → Relation) × IsKnownOf catalog known.old (plan_of input.now) }
-    ensures on { (catalog : ℕ → Relation) → IsKnownOf catalog known.old (plan_of input.now) → result ≡ goes_on_derived catalog (kind_of kind.now) (plan_of input.now) }
+fn does_go_on(
+    kind: &ExchangeKind,
+    input: &TypedNode,
+    known: &mut KnownColumns<'_>,
+    part: &Part,
+    order: &[usize],
+) -> bool
+    requires { (catalog : ℕ → Relation) × AreGivenOf catalog known.old (plan_of input.now) (part_of part.now) order.now }
+    ensures on { (catalog : ℕ → Relation) → AreGivenOf catalog known.old (plan_of input.now) (part_of part.now) order.now
+        → result ≡ goes_on_with catalog (kind_of kind.now) (plan_of input.now) (part_of part.now) order.now }
     ensures kept { StaysKnown known.old known.new (plan_of input.now) }
 {
     match kind {
-        ExchangeKind::Concat => does_rise(input, known),
+        ExchangeKind::Concat => does_rise(input, known, part, order),
         ExchangeKind::Route(_, _, _)
         | ExchangeKind::Round(_)
         | ExchangeKind::Broadcast(_)
@@ -138,17 +146,23 @@ fn does_go_on(kind: &ExchangeKind, input: &TypedNode, known: &mut KnownColumns<'
     }
 }
 
-// Whether the input's rows keep their order in an exchange of this kind.
-fn keeps_order(kind: &ExchangeKind, input: &TypedNode, known: &mut KnownColumns<'_>) -> bool
-    requires { (catalog : ℕ → Relation) × IsKnownOf catalog known.old (plan_of input.now) }
-    ensures keeps { (catalog : ℕ → Relation) → IsKnownOf catalog known.old (plan_of input.now)
-        → result ≡ (is_one (size (plan_of input.now)) || goes_on_derived catalog (kind_of kind.now) (plan_of input.now)) }
+/// Whether rows of the input with this part and this order keep it in an exchange of this kind.
+pub fn keeps_order(
+    kind: &ExchangeKind,
+    input: &TypedNode,
+    known: &mut KnownColumns<'_>,
+    part: &Part,
+    order: &[usize],
+) -> bool
+    requires { (catalog : ℕ → Relation) × AreGivenOf catalog known.old (plan_of input.now) (part_of part.now) order.now }
+    ensures keeps { (catalog : ℕ → Relation) → AreGivenOf catalog known.old (plan_of input.now) (part_of part.now) order.now
+        → result ≡ (is_one (size (plan_of input.now)) || goes_on_with catalog (kind_of kind.now) (plan_of input.now) (part_of part.now) order.now) }
     ensures kept { StaysKnown known.old known.new (plan_of input.now) }
 {
     if has_one_worker(input) {
         return true;
     }
-    does_go_on(kind, input, known)
+    does_go_on(kind, input, known, part, order)
 }
 
 // Whether the input's rows keep their order in an exchange, and the claimed order follows from it.
@@ -164,10 +178,11 @@ fn follows_passed(
         && follows_at catalog (plan_of node.now) (claim (plan_of input.now)).order (claim (plan_of node.now)).order) }
     ensures kept { (catalog : ℕ → Relation) → IsPassed catalog known.old (plan_of node.now) (plan_of input.now) → (q : Plan) → IsKnownOf catalog known.old q → IsKnownOf catalog known.new q }
 {
-    if !keeps_order(kind, input, known) {
+    let order = claimed_order(input);
+    if !keeps_order(kind, input, known, claimed_part(input), order) {
         return false;
     }
-    follows_from(node, known, claimed_order(input))
+    follows_from(node, known, order)
 }
 
 // Whether the node's claimed order follows from one that the node has.

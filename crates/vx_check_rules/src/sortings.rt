@@ -61,7 +61,7 @@ fn only<'p>(sorted: Sorted<'p>) -> [Option<Sorted<'p>>; 2]
 }
 
 /// The order of the output's rows, over rows that are sorted on `below`.
-pub(crate) fn order_after<'p>(order: OrderAfter<'p>, below: &'p [usize]) -> &'p [usize]
+pub fn order_after<'p>(order: OrderAfter<'p>, below: &'p [usize]) -> &'p [usize]
     ensures { result.now ≡ order_after (order_after_of order.entry) below.now }
 {
     match order {

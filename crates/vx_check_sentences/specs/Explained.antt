@@ -12,4 +12,4 @@ claimed_of p node rule = option_map (claimed_text p.names rule) (node_numbered n
 
 -- what is there
 abbrev pub shown_of : TypedPlanView → ℕ → Rule → Option (List ℕ)
-shown_of p node rule = option_map (shown_at p.names rule) (node_numbered node p.root)
+shown_of p node rule = option_map (shown_at p.derives p.names rule) (node_numbered node p.root)

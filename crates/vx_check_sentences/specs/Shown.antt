@@ -1,5 +1,5 @@
 -- What is there in place of what a refused node claims or needs, as a sentence.
-use Rattle.std.specs.Prelude.{ℕ, ◌++◌, cond, List, [], ◌∷◌, length, Option, Some, None, codes}
+use Rattle.std.specs.Prelude.{ℕ, ◌++◌, Bool, cond, List, [], ◌∷◌, length, Option, Some, None, codes}
 use Rattle.serde_json.specs.Data.{object}
 use Rattle.serde_json.specs.Written.{compact_text}
 use Rattle.vx_rows_values.specs.Values.{Name}
@@ -13,7 +13,7 @@ use Rattle.vx_plan.specs.ByName.{claim_by_name}
 use Rattle.vx_check.specs.Explain.{list_text, size_text, description}
 use Rattle.vx_check_rules.specs.Rules.{contains}
 use Rattle.vx_check_rules.specs.Refusal.{Rule, size_mismatch, root_not_one, part_not_shown, inputs_not_matched, replicated_input, order_not_shown, order_needed, key_not_shown, total_not_shown}
-use Rattle.vx_check_failures.specs.Shown.{shown_claim}
+use Rattle.vx_check_failures.specs.Shown.{shown_claim_by}
 use Rattle.vx_check_sentences.specs.declared.told.Told.{Told}
 use Rattle.vx_check_sentences.specs.declared.told.Told.TheVariants.{Part, Order, Keys}
 use Rattle.vx_check_sentences.specs.Words.{node_text, told_text, inputs_text}
@@ -88,6 +88,6 @@ shown_text s order_needed o shown = inputs_text Order s o
 shown_text s key_not_shown o shown = followed_text Keys s o shown
 shown_text s total_not_shown o shown = all_lacks (columns o).names (top o).claim.order (top o).claim.keys
 
--- over the claim that is shown at the node
-abbrev pub shown_at : Names → Rule → Outline → List ℕ
-shown_at s rule o = shown_text s rule o (shown_claim (relation_at s.catalog) (plan_in o))
+-- over the claim that is shown at the node, by the table that a plan asks for
+abbrev pub shown_at : (derives : Bool) → Names → Rule → Outline → List ℕ
+shown_at derives s rule o = shown_text s rule o (shown_claim_by derives (relation_at s.catalog) (plan_in o))

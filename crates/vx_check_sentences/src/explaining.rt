@@ -1,12 +1,10 @@
 //! What is said of a node that the checker refuses.
 
 ghost use Rattle.std.specs.Prelude.{◌≡◌, option_map, string_bytes, IfOk};
-ghost use Rattle.vx_catalog_relations.specs.Catalog.{relation_at};
-ghost use Rattle.vx_plan_nodes.specs.Outline.{outline_of, plan_of};
-ghost use Rattle.vx_plan_nodes.specs.Outputs.{HasOutputs};
+ghost use Rattle.vx_plan_nodes.specs.Outline.{outline_of};
 ghost use Rattle.vx_plan_nodes.specs.TypedView.{names_in, resolved_of};
-ghost use Rattle.vx_check_rules.specs.Exactly.{KeysNameColumns};
 ghost use Rattle.vx_check_rules.specs.RuleView.{rule_of};
+ghost use Rattle.vx_check_failures.specs.FailureView.{IsTableOf, IsNodeOf};
 ghost use Rattle.vx_check_sentences.specs.Claimed.{claimed_text};
 ghost use Rattle.vx_check_sentences.specs.Shown.{shown_at};
 ghost use Rattle.vx_check_sentences.specs.Explained.{claimed_of, shown_of};
@@ -17,23 +15,24 @@ use crate::sentences::Explanation;
 use crate::shown::shown;
 use std::alloc::{AllocError, Global};
 use vx_check_failures::{node_numbered, shown_claim};
-use vx_check_rules::Rule;
+use vx_check_rules::{Rule, Table, table_of};
 use vx_plan_nodes::{TypedNode, TypedPlan};
 
 // What is said of a node that the rule refuses.
 fn explained(
     alloc: Global,
     plan: &TypedPlan,
+    table: &mut Table<'_>,
     node: &TypedNode,
     rule: Rule,
 ) -> Result<Explanation, AllocError>
-    requires outputs { HasOutputs (relation_at (names_in plan.now).catalog) (outline_of node.now) }
-    requires keys { KeysNameColumns (relation_at (names_in plan.now).catalog) (plan_of node.now) }
+    requires node { IsNodeOf plan.now node.now }
+    requires table { IsTableOf table.old plan.now }
     ensures claimed { IfOk result (λ e. string_bytes e.claimed ≡ claimed_text (names_in plan.now) (rule_of rule) (outline_of node.now)) }
-    ensures shown { IfOk result (λ e. string_bytes e.shown ≡ shown_at (names_in plan.now) (rule_of rule) (outline_of node.now)) }
+    ensures shown { IfOk result (λ e. string_bytes e.shown ≡ shown_at (resolved_of plan.now).derives (names_in plan.now) (rule_of rule) (outline_of node.now)) }
 {
-    let claim = shown_claim(alloc, plan.catalog(), node)?;
-    let help = help(alloc, plan, node, rule, &claim)?;
+    let claim = shown_claim(alloc, plan.catalog(), table, node)?;
+    let help = help(alloc, plan, table, node, rule, &claim)?;
     let shown = shown(alloc, plan, node, rule, &claim)?;
     let claimed = claimed(alloc, plan, node, rule)?;
     Ok(Explanation {
@@ -54,8 +53,9 @@ pub fn explanation(
     ensures claimed { IfOk result (λ o. option_map (λ e. string_bytes e.claimed) o ≡ claimed_of (resolved_of plan.now) node (rule_of rule)) }
     ensures shown { IfOk result (λ o. option_map (λ e. string_bytes e.shown) o ≡ shown_of (resolved_of plan.now) node (rule_of rule)) }
 {
+    let mut table = table_of(alloc, plan)?;
     match node_numbered(plan.root(), node) {
-        Some(node) => Ok(Some(explained(alloc, plan, node, rule)?)),
+        Some(node) => Ok(Some(explained(alloc, plan, &mut table, node, rule)?)),
         None => Ok(None),
     }
 }

@@ -1,20 +1,21 @@
 //! What would help where the checker refuses a node. These texts are for people alone, and no clause says them.
 
-ghost use Rattle.vx_catalog_relations.specs.Catalog.{relation_at};
-ghost use Rattle.vx_plan_nodes.specs.Outline.{outline_of, plan_of};
-ghost use Rattle.vx_plan_nodes.specs.Outputs.{HasOutputs};
-ghost use Rattle.vx_plan_nodes.specs.TypedView.{names_in};
-ghost use Rattle.vx_check_rules.specs.Exactly.{KeysNameColumns};
+ghost use Rattle.std.specs.Prelude.{List, OnOk};
+ghost use Rattle.vx_catalog_relations.specs.Relation.{Relation};
+ghost use Rattle.vx_plan_nodes.specs.Outline.{plan_of};
+ghost use Rattle.vx_check_rules.specs.TableView.{Judges};
+ghost use Rattle.vx_check_failures.specs.FailureView.{IsTableOf, IsNodeOf};
 
 use crate::followed::missing;
 use crate::help_claims::{push_key_help, push_order_help, push_part_help};
 use crate::help_words::{push_json_list, push_json_part};
 use crate::open::is_open;
+use crate::second_table::passes_second;
 use crate::words::{push_list, push_node};
 use std::alloc::{AllocError, Global};
 use vx_check::{column_names, push_between, push_name, push_size};
 use vx_check_failures::shown_claim;
-use vx_check_rules::{ColumnsSeen, Rule, gives};
+use vx_check_rules::{ColumnsSeen, Rule, Table, claimed_part, gives, is_same_equally, seen};
 use vx_plan::first_columns;
 use vx_plan_nodes::{Binary, Claim, Name, Part, Size, TypedNode, TypedPlan, Unary};
 
@@ -137,20 +138,36 @@ fn push_binary_meeting(
     }
 }
 
+// Whether the part that a node claims tells this one, by the second table also on equal columns.
+fn tells(table: &Table<'_>, node: &TypedNode, part: &Part) -> bool
+    requires { (catalog : List Relation) × Judges catalog table.now (plan_of node.now) }
+{
+    let claimed = claimed_part(node);
+    if gives(claimed, part) {
+        return true;
+    }
+    match table {
+        Table::First => false,
+        Table::Second(known) => is_same_equally(known.facts_of(node), seen(claimed), seen(part)),
+    }
+}
+
 // Adds that a part which follows at an input is to be claimed there, unless it is.
 fn push_unclaimed(
     alloc: Global,
     text: &mut String,
     plan: &TypedPlan,
+    table: &mut Table<'_>,
     input: &TypedNode,
 ) -> Result<(), AllocError>
-    requires outputs { HasOutputs (relation_at (names_in plan.now).catalog) (outline_of input.now) }
-    requires keys { KeysNameColumns (relation_at (names_in plan.now).catalog) (plan_of input.now) }
+    requires node { IsNodeOf plan.now input.now }
+    requires table { IsTableOf table.old plan.now }
+    ensures { OnOk result (IsTableOf table.new plan.now) }
 {
-    let Some(claim) = shown_claim(alloc, plan.catalog(), input)? else {
+    let Some(claim) = shown_claim(alloc, plan.catalog(), table, input)? else {
         return Ok(());
     };
-    if gives(&input.head().claim.part, &claim.part) {
+    if tells(table, input, &claim.part) {
         return Ok(());
     }
     text.push_str("claim \"part\": ")?;
@@ -165,19 +182,20 @@ fn push_match(
     alloc: Global,
     text: &mut String,
     plan: &TypedPlan,
+    table: &mut Table<'_>,
     node: &TypedNode,
 ) -> Result<(), AllocError>
-    requires outputs { HasOutputs (relation_at (names_in plan.now).catalog) (outline_of node.now) }
-    requires keys { KeysNameColumns (relation_at (names_in plan.now).catalog) (plan_of node.now) }
+    requires node { IsNodeOf plan.now node.now }
+    requires table { IsTableOf table.old plan.now }
 {
     match node {
         TypedNode::Unary(_, operator, input) => {
-            push_unclaimed(alloc, text, plan, input)?;
+            push_unclaimed(alloc, text, plan, table, input)?;
             push_unary_meeting(alloc, text, column_names(input), operator)
         }
         TypedNode::Binary(_, operator, left, right) => {
-            push_unclaimed(alloc, text, plan, left)?;
-            push_unclaimed(alloc, text, plan, right)?;
+            push_unclaimed(alloc, text, plan, table, left)?;
+            push_unclaimed(alloc, text, plan, table, right)?;
             push_binary_meeting(text, operator, left, right)
         }
         TypedNode::Scan(_, _) | TypedNode::Exchange(_, _, _) => Ok(()),
@@ -284,18 +302,19 @@ fn push_help(
     alloc: Global,
     text: &mut String,
     plan: &TypedPlan,
+    table: &mut Table<'_>,
     node: &TypedNode,
     rule: Rule,
     claim: &Option<Claim>,
 ) -> Result<(), AllocError>
-    requires outputs { HasOutputs (relation_at (names_in plan.now).catalog) (outline_of node.now) }
-    requires keys { KeysNameColumns (relation_at (names_in plan.now).catalog) (plan_of node.now) }
+    requires node { IsNodeOf plan.now node.now }
+    requires table { IsTableOf table.old plan.now }
 {
     match rule {
         Rule::SizeMismatch => push_same_size(text, plan, node),
         Rule::RootNotOne => push_gather(text, node),
         Rule::PartNotShown => push_part_help(alloc, text, plan, node, claim),
-        Rule::InputsNotMatched => push_match(alloc, text, plan, node),
+        Rule::InputsNotMatched => push_match(alloc, text, plan, table, node),
         Rule::ReplicatedInput => push_once(text, node),
         Rule::OrderNotShown => push_order_help(alloc, text, node, claim),
         Rule::OrderNeeded => push_orders(alloc, text, node),
@@ -304,18 +323,33 @@ fn push_help(
     }
 }
 
+// The cure that is to make the plan ask for what is known of columns, before the others.
+fn with_deriving(alloc: Global, others: String) -> Result<String, AllocError> {
+    let mut text = String::new(alloc);
+    text.push_str("it follows from what is known of columns: put \"derive\": true into the plan")?;
+    if !others.is_empty() {
+        text.push_str("; or ")?;
+        text.push_str(others.as_str())?;
+    }
+    Ok(text)
+}
+
 /// What would help where the rule refuses the node, and this claim is shown there.
 pub fn help(
     alloc: Global,
     plan: &TypedPlan,
+    table: &mut Table<'_>,
     node: &TypedNode,
     rule: Rule,
     claim: &Option<Claim>,
 ) -> Result<String, AllocError>
-    requires outputs { HasOutputs (relation_at (names_in plan.now).catalog) (outline_of node.now) }
-    requires keys { KeysNameColumns (relation_at (names_in plan.now).catalog) (plan_of node.now) }
+    requires node { IsNodeOf plan.now node.now }
+    requires table { IsTableOf table.old plan.now }
 {
     let mut text = String::new(alloc);
-    push_help(alloc, &mut text, plan, node, rule, claim)?;
+    push_help(alloc, &mut text, plan, table, node, rule, claim)?;
+    if passes_second(alloc, plan, node, rule)? {
+        return with_deriving(alloc, text);
+    }
     Ok(text)
 }

@@ -8,6 +8,7 @@ mod help;
 mod help_claims;
 mod help_words;
 mod open;
+mod second_table;
 mod sentences;
 mod shown;
 mod told;

@@ -1,15 +1,16 @@
 -- What is kept of nodes, where one more answer is kept, and where inputs are asked.
-use Rattle.std.proofs.Common.{◌≡◌, ◌∙◌, ℕ, zero, suc, ◌+◌, ◌<◌, inl, inr, ◌⊎◌, ⊎_elim, List, [], ◌∷◌, ◌++◌, length, length-append, take, drop, get_or, set, replicate, refl, sym, ap, subst, arith, Bool, true, false, true≢false, Option, Some, None, slice_get, option_map, map}
+use Rattle.std.proofs.Common.{◌≡◌, ◌∙◌, ℕ, zero, suc, ◌+◌, ◌<◌, inl, inr, ◌⊎◌, ⊎_elim, List, [], ◌∷◌, ◌++◌, length, length-append, take, drop, get_or, set, refl, sym, ap, subst, arith, Bool, true, false, true≢false, Option, Some, None, slice_get, option_map, map}
 use Rattle.vx_catalog_relations.specs.Relation.{Relation}
 use Rattle.vx_plan_nodes.specs.Plan.{Plan, number, claim, scan, unary, binary, exchange, union, join}
 use Rattle.vx_plan_nodes.specs.Types.{width}
 use Rattle.vx_plan_facts.specs.declared.answers.Answer as rust_answer
 use Rattle.vx_plan_facts.specs.declared.answers.Answers as rust_answers
 use Rattle.vx_plan_facts.specs.declared.facts.ColumnFacts as rust_facts
+use Rattle.vx_plan_facts.specs.ColumnSetView.{set_of_columns}
 use Rattle.vx_plan_facts.specs.FactsView.{facts_of}
 use Rattle.vx_plan_facts.specs.Facts.{Facts}
 use Rattle.vx_plan_facts.specs.Determined.{Columns}
-use Rattle.vx_plan_facts.specs.Asking.{Input, IsKnown, InputIsKnown, with_keys, left_input, right_input}
+use Rattle.vx_plan_facts.specs.Asking.{Input, IsAnswer, IsKnown, InputIsKnown, with_keys, left_input, right_input}
 use Rattle.vx_plan_facts.specs.Known.{IsAnswerOf, StandAmong, InputStandsAmong}
 use Rattle.vx_plan_facts.specs.AnswersView.{answer_of, AreAnswersOf, AreKept, IsKnownAmong, IsKnownWith, InputIsKnownAmong}
 use Rattle.vx_plan_facts.proofs.Searching.{Searching, top-stands, known-left, known-right}
@@ -77,11 +78,6 @@ set-at (z ∷ zs) (suc n) zero x y e = inr e
 set-at (z ∷ zs) (suc n) (suc m) x y e = ⊎_elim (λ h. inl (ap suc h.0, h.1)) (λ h. inr h) (set-at zs n m x y e)
 
 -- ---- answers
-
-pub none-there : {Y : Type 0} (none : Y) (n i : ℕ) → get_or (replicate n none) i none ≡ none
-none-there none zero i = refl
-none-there none (suc n) zero = refl
-none-there none (suc n) (suc i) = none-there none n i
 
 top-among : (all : List Plan) (p : Plan) → StandAmong all p → slice_get all (number p) ≡ Some p
 top-among all (scan n c r m z) h = h
@@ -197,5 +193,12 @@ pub input-known : (catalog : ℕ → Relation) (all : List Plan) (facts : List F
 input-known catalog all facts answers w i h = record { known = h.input.known; among = h.among; kept = h.kept }
 
 -- no answer that is not there is wrong
-pub none-are : (catalog : ℕ → Relation) (p : Plan) (a : rust_answers.Answers) → ((i : ℕ) → get_or a.kept i None ≡ None) → AreAnswersOf catalog p a
+pub none-are : (catalog : ℕ → Relation) (p : Plan) (a : rust_answers.Answers) → ((i : ℕ) → slice_get a.kept.items i ≡ None) → AreAnswersOf catalog p a
 none-are catalog p a none i = let P : Option rust_answer.Answer → Type 0 = λ o. IsAnswerOf catalog p (option_map answer_of o) in subst P (sym (none i)) tt
+
+-- each that is kept is an answer
+pub kept-is : (catalog : ℕ → Relation) (p : Plan) (a : rust_answers.Answers) (kept : List rust_answer.Answer) (n : ℕ) (d : rust_answer.Answer) → kept ≡ a.kept.items → n < length kept
+    → AreAnswersOf catalog p a → IsAnswer catalog p (set_of_columns (get_or kept n d).asked) (set_of_columns (get_or kept n d).found)
+kept-is catalog p a kept n d is l are =
+    let P : Option rust_answer.Answer → Type 0 = λ o. IsAnswerOf catalog p (option_map answer_of o) in
+    subst P (ap (λ xs. slice_get xs n) (sym is) ∙ stands-in kept n d l) (are n)

@@ -1,5 +1,5 @@
 -- The answers that are kept of nodes, as the program holds them.
-use Rattle.std.specs.Prelude.{◌≡◌, ℕ, List, Option, None, Some, option_map, slice_index_or, slice_get, length}
+use Rattle.std.specs.Prelude.{◌≡◌, ℕ, List, Option, Some, option_map, slice_get, length}
 use Rattle.vx_catalog_relations.specs.Relation.{Relation}
 use Rattle.vx_plan_nodes.specs.Plan.{Plan}
 use Rattle.vx_plan_facts.specs.declared.answers.Answer as rust_answer
@@ -14,7 +14,7 @@ answer_of a = (set_of_columns a.asked, set_of_columns a.found)
 
 -- each that is kept is an answer of the node at the top
 abbrev pub AreAnswersOf : (ℕ → Relation) → Plan → rust_answers.Answers → Type 0
-AreAnswersOf catalog p a = (i : ℕ) → IsAnswerOf catalog p (option_map answer_of (slice_index_or a.kept i None))
+AreAnswersOf catalog p a = (i : ℕ) → IsAnswerOf catalog p (option_map answer_of (slice_get a.kept.items i))
 
 -- for each node there is a place, and what is kept at the number of a node are answers of it
 pub record AreKept (catalog : ℕ → Relation) (all : List Plan) (count : ℕ) (answers : List rust_answers.Answers) : Type 0 where

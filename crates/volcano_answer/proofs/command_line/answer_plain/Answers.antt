@@ -60,14 +60,14 @@ returns-in-Ok-Verdict g c =
 
 pub returns-in_err-text-in-Ok-Annotation : goal.returns-in_err-text-in-Ok-Annotation
 returns-in_err-text-in-Ok-Annotation g c =
-    let is : IsJob (asked_is c.args.asked.now) (asked_job.Annotation c.in-Ok-Annotation.sources) = rw (c.in-Ok-Annotation.is, c.in-Ok-Annotation.field-0-is) at c.job_in.ensures in
+    let is : IsJob (asked_is c.args.asked.now) (asked_job.Annotation c.in-Ok-Annotation.sources c.in-Ok-Annotation.derive) = rw (c.in-Ok-Annotation.is, c.in-Ok-Annotation.field-0-is) at c.job_in.ensures in
     let p = err_from_is_err_and c.from_residual-in_err-text-in-Ok-Annotation.result c.from_residual-in_err-text-in-Ok-Annotation.ensures.1 in
-    rw (p.1, p.2) (record { answer = tt; no_stats = tt; refused = for_asked_claims (paths_are c.in-Ok-Annotation.sources) is c.in_err-text-in-Ok-Annotation.ensures.refused })
+    rw (p.1, p.2) (record { answer = tt; no_stats = tt; refused = for_asked_claims (paths_are c.in-Ok-Annotation.sources) c.in-Ok-Annotation.derive is c.in_err-text-in-Ok-Annotation.ensures.refused })
 
 pub returns-in_ok-text-in-Ok-Annotation : goal.returns-in_ok-text-in-Ok-Annotation
 returns-in_ok-text-in-Ok-Annotation g c =
-    let is : IsJob (asked_is c.args.asked.now) (asked_job.Annotation c.in-Ok-Annotation.sources) = rw (c.in-Ok-Annotation.is, c.in-Ok-Annotation.field-0-is) at c.job_in.ensures in
-    record { answer = for_claims (paths_are c.in-Ok-Annotation.sources) is c.in_ok-text-in-Ok-Annotation.ensures.text; no_stats = tt; refused = tt }
+    let is : IsJob (asked_is c.args.asked.now) (asked_job.Annotation c.in-Ok-Annotation.sources c.in-Ok-Annotation.derive) = rw (c.in-Ok-Annotation.is, c.in-Ok-Annotation.field-0-is) at c.job_in.ensures in
+    record { answer = for_claims (paths_are c.in-Ok-Annotation.sources) c.in-Ok-Annotation.derive is c.in_ok-text-in-Ok-Annotation.ensures.text; no_stats = tt; refused = tt }
 
 pub returns-in-Ok-Drawing : goal.returns-in-Ok-Drawing
 returns-in-Ok-Drawing g c =

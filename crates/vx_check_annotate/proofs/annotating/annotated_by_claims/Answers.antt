@@ -19,6 +19,7 @@ use Rattle.vx_check_annotate.proofs.ClaimedFacts.{with-same}
 use Rattle.vx_check_annotate.proofs.FewKeys.{found-few}
 use Rattle.vx_check_annotate.proofs.VerdictFacts.{answers-alike}
 use Rattle.vx_check_annotate.proofs.Reversed.{reversed}
+use Rattle.vx_check_annotate.proofs.Reasons.{plain-reason}
 use Rattle.vx_check_annotate.proofs.annotating.annotated_by_claims.Goals as goal
 use Rattle.vx_check_annotate.proofs.annotating.annotated_by_claims.Goals.{After-drop-typed-2}
 
@@ -26,7 +27,7 @@ pub found_claims-requires-clause-keys : goal.found_claims-requires-clause-keys
 found_claims-requires-clause-keys c = rw c.catalog.ensures (typed-names (scope c.in_ok-typed.typed) (plan_of c.root.result.now) c.root.ensures.typed.nodes)
 
 pub returns-in-Some-clause-refused : goal.returns-in-Some-clause-refused
-returns-in-Some-clause-refused c =
+returns-in-Some-clause-refused c = λ plain.
     let d = document_of c.args.plan in
     let p = resolved_of c.in_ok-typed.typed in
     let cat : IsCatalog c.args.catalog.now = c.len-relations.ensures.fine in
@@ -34,7 +35,7 @@ returns-in-Some-clause-refused c =
     let over = (hinted-named c.args.catalog.now d p cat c.args.plan.formed h).0 in
     let unfit = rw over at c.in_ok-node.ensures in
     let r = refused-found c.args.catalog.now d p _ _ cat c.args.plan.formed c.args.plan.declared h (sym unfit ∙ ap (option_map refusal_of) c.in-Some.is) in
-    (answers-alike c.args.catalog.now d cat c.args.plan.formed c.requires ∙ r.0, r.1, r.2)
+    plain-reason c.args.catalog.now d c.in-Some.node c.in-Some.rule plain (answers-alike c.args.catalog.now d cat c.args.plan.formed c.requires ∙ r.0, r.1, r.2)
 
 -- what is found of the typed plan
 found : (c : After-drop-typed-2) → (x : Plan) × IsClaimed (relation_at c.args.catalog.now) (plan_of c.in_ok-typed.typed.root) (first_part (parts_at (relation_at c.args.catalog.now) (plan_of c.in_ok-typed.typed.root))) (first_columns (places_at (relation_at c.args.catalog.now) (plan_of c.in_ok-typed.typed.root))) x

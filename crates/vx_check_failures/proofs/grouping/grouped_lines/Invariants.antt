@@ -1,10 +1,13 @@
 use Rattle.std.proofs.Common.{◌≡◌, ◌++◌, map, string_bytes, drop}
 use Rattle.vx_plan_nodes.specs.TypedView.{resolved_of}
 use Rattle.vx_check_failures.specs.Grouped.{groups_of}
-use Rattle.vx_check_failures.specs.FailureView.{failure_is}
+use Rattle.vx_check_failures.specs.FailureView.{failure_is, IsTableOf}
 use Rattle.vx_check_failures.proofs.grouping.grouped_lines.Given as goal
 
 abbrev pub invariant-loop-place : goal.invariant-loop-place
-invariant-loop-place l =
-    string_bytes l.text ++ groups_of (resolved_of l.plan) (map failure_is l.failures) l.causes (map failure_is (drop l.place l.failures)) (drop l.place l.causes)
-    ≡ string_bytes l.initial.text ++ groups_of (resolved_of l.plan) (map failure_is l.failures) l.causes (map failure_is l.failures) l.causes
+invariant-loop-place l = record {
+  table : IsTableOf l.table l.plan;
+  lines :
+      string_bytes l.text ++ groups_of (resolved_of l.plan) (map failure_is l.failures) l.causes (map failure_is (drop l.place l.failures)) (drop l.place l.causes)
+      ≡ string_bytes l.initial.text ++ groups_of (resolved_of l.plan) (map failure_is l.failures) l.causes (map failure_is l.failures) l.causes;
+}

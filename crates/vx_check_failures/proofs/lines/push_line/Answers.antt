@@ -1,10 +1,7 @@
-use Rattle.vx_catalog_relations.specs.Catalog.{relation_at}
-use Rattle.vx_plan_nodes.specs.Outline.{outline_of, plan_of}
-use Rattle.vx_plan_nodes.specs.TypedView.{names_in, scope}
-use Rattle.vx_check_rules.proofs.NamedKeys.{typed-keys}
+use Rattle.vx_plan_nodes.specs.TypedView.{scope, plan}
 use Rattle.vx_check_failures.proofs.FindingFacts.{found-node}
 use Rattle.vx_check_failures.proofs.lines.push_line.Goals as goal
 
-pub push_shown-requires : goal.push_shown-requires
-push_shown-requires c =
-    found-node (relation_at (names_in c.args.plan.now).catalog) c.args.failure.node (outline_of c.root.result.now) c.node_numbered.result (c.root.ensures.outputs, typed-keys (scope c.args.plan.now) (plan_of c.root.result.now) c.root.ensures.typed.nodes) c.node_numbered.ensures
+pub push_shown-requires-clause-node : goal.push_shown-requires-clause-node
+push_shown-requires-clause-node c =
+    found-node c.args.plan.now c.args.failure.node c.node_numbered-node.result (rw c.root.ensures.root at c.root.ensures.outputs) (rw c.root.ensures.plan at c.root.ensures.typed.nodes) (rw c.root.ensures.root at c.node_numbered-node.ensures)

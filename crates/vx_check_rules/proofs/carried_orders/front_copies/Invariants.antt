@@ -11,7 +11,7 @@ use Rattle.vx_check_rules.proofs.carried_orders.front_copies.Given as goal
 
 abbrev pub invariant-loop-column : goal.invariant-loop-column
 invariant-loop-column l = record {
-  few : length l.copies ≤ l.column-index;
+  few : length l.copies.items ≤ l.column-index;
   copied : (catalog : ℕ → Relation) → AreCopiesOf catalog l.known (plan_of l.input) l.outputs (copying_of l.copying) → all_below (width catalog (plan_of l.input)) l.order ≡ true
-      → Copied l.outputs (copying_of l.copying) (equal_at catalog (plan_of l.input)) l.order l.copies l.column-index;
+      → Copied l.outputs (copying_of l.copying) (equal_at catalog (plan_of l.input)) l.order l.copies.items l.column-index;
 }

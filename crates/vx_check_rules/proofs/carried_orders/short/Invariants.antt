@@ -8,8 +8,8 @@ use Rattle.vx_check_rules.proofs.carried_orders.short.Given as goal
 
 abbrev pub invariant-loop-column : goal.invariant-loop-column
 invariant-loop-column l = record {
-  few : Few l.short (set_of_columns l.passed);
+  few : Few l.short.items (set_of_columns l.passed);
   kept : StaysKnown l.fn.known l.known (plan_of l.node);
   keeping : (catalog : ℕ → Relation) → AreOrdersOf catalog l.fn.known (plan_of l.node) l.order l.order
-      → Keeping catalog (plan_of l.node) l.order l.short l.column-index (set_of_columns l.passed) (set_of_columns l.found);
+      → Keeping catalog (plan_of l.node) l.order l.short.items l.column-index (set_of_columns l.passed) (set_of_columns l.found);
 }

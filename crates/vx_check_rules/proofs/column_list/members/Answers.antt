@@ -1,4 +1,4 @@
-use Rattle.std.proofs.Common.{◌∙◌, sym}
+use Rattle.std.proofs.Common.{◌∙◌, ap, sym}
 use Rattle.vx_plan_facts.specs.ColumnSetView.{set_of_columns}
 use Rattle.vx_check_rules.proofs.OrderSteps.{members-in, members-out}
 use Rattle.vx_check_rules.proofs.column_list.members.Goals.{then-contains, else-contains}
@@ -10,8 +10,8 @@ loop-column-preserved c =
     let n = c.loop-column.column in
     elim c.if-contains.branch [
       | then-contains w ↦
-          members-in s n c.loop-column.list c.if-contains.list c.loop-column.invariant (sym c.contains.ensures ∙ w.if-contains.true)
-          (w.list-is ∙ w.push.ensures)
+          members-in s n c.loop-column.list.items c.if-contains.list.items c.loop-column.invariant (sym c.contains.ensures ∙ w.if-contains.true)
+          (ap (λ v. v.items) w.list-is ∙ w.push.ensures.items)
       | else-contains w ↦
-          members-out s n c.loop-column.list c.if-contains.list c.loop-column.invariant (sym c.contains.ensures ∙ w.if-contains.false) w.list-is
+          members-out s n c.loop-column.list.items c.if-contains.list.items c.loop-column.invariant (sym c.contains.ensures ∙ w.if-contains.false) (ap (λ v. v.items) w.list-is)
     ]

@@ -3,4 +3,4 @@ use Rattle.vx_check_rules.proofs.OrderSteps.{SoFar}
 use Rattle.vx_check_rules.proofs.column_list.members.Given as goal
 
 abbrev pub invariant-loop-column : goal.invariant-loop-column
-invariant-loop-column l = SoFar (set_of_columns l.set) l.column l.list
+invariant-loop-column l = SoFar (set_of_columns l.set) l.column l.list.items

@@ -5,9 +5,9 @@ use Rattle.vx_catalog_relations.specs.Catalog.{relation_at}
 use Rattle.vx_plan_nodes.specs.Plan.{claim}
 use Rattle.vx_plan_nodes.specs.Outline.{plan_of}
 use Rattle.vx_plan_nodes.specs.Types.{width}
-use Rattle.vx_check_rules.specs.Derived.{key_derived}
+use Rattle.vx_check_rules.specs.Derived.{key_derived, key_derived_by}
 use Rattle.vx_check_rules.proofs.ColumnFacts.{lists-here}
-use Rattle.vx_check_rules.proofs.KeySteps.{key-at}
+use Rattle.vx_check_rules.proofs.KeySteps.{key-at, derived-by}
 use Rattle.vx_check_rules.proofs.NamedNodes.{keys-below}
 use Rattle.vx_check_rules.proofs.derived_keys.are_keys_shown_derived.Goals as goal
 
@@ -28,7 +28,10 @@ returns-then-not-is_key_derived-clause-shown c =
     let known = c.loop-key.invariant.kept catalog c.requires.known p c.requires.known in
     let below = key-at (width catalog p) c.claimed_keys-keys.result.now (claim p).keys c.loop-key.key-index c.key-item.result c.claimed_keys-keys.ensures
     (keys-below catalog c.args.known.now p c.requires.known) c.loop-key-test.true c.key-item.is in
-    let told = (rw c.as_slice.ensures.value at c.is_key_derived.ensures.derived) catalog (record { known = known; key_below = below }) c.node_keyed-keyed.ensures in
+    let x : List ℕ = c.key-item.result.items in
+    let told =
+    (rw c.as_slice.ensures.value at c.is_key_derived.ensures.derived) catalog (record { known = known; key_below = below })
+    ∙ ap (λ ks. key_derived_by catalog p ks x) c.node_keyed-keyed.ensures ∙ derived-by catalog p x below in
     let rest : Bool = list_all shown (map (λ (v : Vec ℕ Global). v.items) (drop (c.loop-key.key-index + 1) c.claimed_keys-keys.result.now)) in
     sym (ap (list_all shown) (sym c.claimed_keys-keys.ensures) ∙ c.loop-key.invariant.rest
     ∙ lists-here shown c.claimed_keys-keys.result.now c.loop-key.key-index c.key-item.result c.loop-key-test.true c.key-item.is
@@ -50,7 +53,10 @@ loop-key-preserved c =
     let known = c.loop-key.invariant.kept catalog c.requires.known p c.requires.known in
     let below = key-at (width catalog p) c.claimed_keys-keys.result.now (claim p).keys c.loop-key.key-index c.key-item.result c.claimed_keys-keys.ensures
     (keys-below catalog c.args.known.now p c.requires.known) c.loop-key-test.true c.key-item.is in
-    let told = (rw c.as_slice.ensures.value at c.is_key_derived.ensures.derived) catalog (record { known = known; key_below = below }) c.node_keyed-keyed.ensures in
+    let x : List ℕ = c.key-item.result.items in
+    let told =
+    (rw c.as_slice.ensures.value at c.is_key_derived.ensures.derived) catalog (record { known = known; key_below = below })
+    ∙ ap (λ ks. key_derived_by catalog p ks x) c.node_keyed-keyed.ensures ∙ derived-by catalog p x below in
     let rest : Bool = list_all shown (map (λ (v : Vec ℕ Global). v.items) (drop (c.loop-key.key-index + 1) c.claimed_keys-keys.result.now)) in
     record {
       kept = λ cat here q h.

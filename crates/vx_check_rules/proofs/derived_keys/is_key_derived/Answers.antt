@@ -6,43 +6,38 @@ use Rattle.vx_plan_facts.specs.Determined.{determined_aside}
 use Rattle.vx_plan_facts.specs.Following.{set_of}
 use Rattle.vx_check_rules.specs.Behaviour.{keys_give}
 use Rattle.vx_check_rules.specs.Derived.{members, key_below}
-use Rattle.vx_check_rules.specs.Rules.{keys_of}
-use Rattle.vx_check_rules.proofs.KeySteps.{shown-is, shown-members}
+use Rattle.vx_check_rules.specs.KeyedView.{all_keyed_in}
 use Rattle.vx_check_rules.proofs.derived_keys.is_key_derived.Goals as goal
 
 pub returns-then-show_key-clause-derived : goal.returns-then-show_key-clause-derived
-returns-then-show_key-clause-derived c = λ catalog key keyed.
+returns-then-show_key-clause-derived c = λ catalog key.
     let p = plan_of c.args.node.now in
     let x = c.args.key.now in
-    let reached : Bool = keys_of catalog p (members (width catalog p) (determined_aside catalog p (set_of x))) in
+    let m : List ℕ = members (width catalog p) (determined_aside catalog p (set_of x)) in
+    let reached : Bool = list_any (λ k. keys_give k m) (all_keyed_in c.args.keyed.now) in
     let below : Bool = key_below catalog p x in
-    let shown = shown-is catalog p x key.key_below ∙ ap (list_any (λ k. keys_give k x)) (sym keyed) ∙ sym c.show_key.ensures ∙ c.if-show_key.true in
-    sym (ap (λ b. b || (reached || below)) shown)
+    sym (ap (λ b. b || (reached || below)) (sym c.show_key.ensures ∙ c.if-show_key.true))
 
 pub returns-then-is_key_reached-clause-derived : goal.returns-then-is_key_reached-clause-derived
-returns-then-is_key_reached-clause-derived c = λ catalog key keyed.
+returns-then-is_key_reached-clause-derived c = λ catalog key.
     let p = plan_of c.args.node.now in
     let x = c.args.key.now in
-    let s = determined_aside catalog p (set_of x) in
-    let m : List ℕ = members (width catalog p) s in
-    let reached : Bool = keys_of catalog p m in
+    let m : List ℕ = members (width catalog p) (determined_aside catalog p (set_of x)) in
+    let reached : Bool = list_any (λ k. keys_give k m) (all_keyed_in c.args.keyed.now) in
     let below : Bool = key_below catalog p x in
-    let shown = shown-is catalog p x key.key_below ∙ ap (list_any (λ k. keys_give k x)) (sym keyed) ∙ sym c.show_key.ensures ∙ c.if-show_key.false in
-    let there = shown-members catalog p s ∙ ap (list_any (λ k. keys_give k m)) (sym keyed) ∙ sym (c.is_key_reached.ensures.reached catalog key) ∙ c.if-is_key_reached.true in
-    sym (ap (λ b. b || (reached || below)) shown ∙ ap (λ b. b || below) there)
+    let there = sym (c.is_key_reached.ensures.reached catalog key) ∙ c.if-is_key_reached.true in
+    sym (ap (λ b. b || (reached || below)) (sym c.show_key.ensures ∙ c.if-show_key.false) ∙ ap (λ b. b || below) there)
 
 pub returns-clause-derived : goal.returns-clause-derived
-returns-clause-derived c = λ catalog key keyed.
+returns-clause-derived c = λ catalog key.
     let p = plan_of c.args.node.now in
     let x = c.args.key.now in
-    let s = determined_aside catalog p (set_of x) in
-    let m : List ℕ = members (width catalog p) s in
-    let reached : Bool = keys_of catalog p m in
+    let m : List ℕ = members (width catalog p) (determined_aside catalog p (set_of x)) in
+    let reached : Bool = list_any (λ k. keys_give k m) (all_keyed_in c.args.keyed.now) in
     let below : Bool = key_below catalog p x in
-    let shown = shown-is catalog p x key.key_below ∙ ap (list_any (λ k. keys_give k x)) (sym keyed) ∙ sym c.show_key.ensures ∙ c.if-show_key.false in
-    let there = shown-members catalog p s ∙ ap (list_any (λ k. keys_give k m)) (sym keyed) ∙ sym (c.is_key_reached.ensures.reached catalog key) ∙ c.if-is_key_reached.false in
+    let there = sym (c.is_key_reached.ensures.reached catalog key) ∙ c.if-is_key_reached.false in
     let last = c.is_key_below.ensures.below catalog (record { known = c.is_key_reached.ensures.kept catalog key.known p key.known; key_below = key.key_below }) in
-    last ∙ sym (ap (λ b. b || (reached || below)) shown ∙ ap (λ b. b || below) there)
+    last ∙ sym (ap (λ b. b || (reached || below)) (sym c.show_key.ensures ∙ c.if-show_key.false) ∙ ap (λ b. b || below) there)
 
 pub is_key_below-requires : goal.is_key_below-requires
 is_key_below-requires c =

@@ -1,4 +1,4 @@
-use Rattle.std.proofs.Common.{◌≡◌, ◌∙◌, sym, ap, subst, inl, inr}
+use Rattle.std.proofs.Common.{sym, subst, inl, inr}
 use Rattle.vx_plan_nodes.specs.declared.typed.TypedNode.{TypedNode}
 use Rattle.vx_plan_nodes.specs.Plan.{Plan, Binary}
 use Rattle.vx_plan_nodes.specs.Outline.{top_of, unary_of, binary_of, kind_of, plan_of}

@@ -1,15 +1,9 @@
-use Rattle.std.proofs.Common.{ap, subst, Option, option_map}
 use Rattle.vx_plan_facts.specs.ColumnSetView.{set_of_columns}
-use Rattle.vx_plan_facts.specs.Asking.{IsAnswer}
-use Rattle.vx_plan_facts.specs.Known.{Answer, IsAnswerOf}
-use Rattle.vx_plan_facts.specs.AnswersView.{answer_of}
 use Rattle.vx_plan_facts.proofs.AnswerFacts.{same-with}
 use Rattle.vx_plan_facts.proofs.answers.add_answer.Goals as goal
 
 pub returns-then-is_within : goal.returns-then-is_within
 returns-then-is_within c catalog p formed few is =
-    let asked = set_of_columns c.in-Some.answer.asked in
-    let found = set_of_columns c.in-Some.answer.found in
-    let P : Option Answer → Type 0 = λ o. IsAnswerOf catalog p o in
-    let told : IsAnswer catalog p asked found = subst P (ap (option_map answer_of) c.in-Some.is) is in
-    same-with catalog p formed asked found (set_of_columns c.args.set.now) (set_of_columns c.put_all.new.self) few told (c.is_within.ensures.all c.if-is_within.true) c.put_all.ensures
+    let asked = set_of_columns c.args.answer.now.asked in
+    let found = set_of_columns c.args.answer.now.found in
+    same-with catalog p formed asked found (set_of_columns c.args.set.now) (set_of_columns c.put_all.new.self) few is (c.is_within.ensures.all c.if-is_within.true) c.put_all.ensures

@@ -8,7 +8,7 @@ use Rattle.vx_plan_facts.specs.Known.{DetermineSame}
 use Rattle.vx_plan_facts.specs.AnswersView.{AreAnswersOf}
 use Rattle.vx_plan_facts.proofs.answers.Answers.added_to.Given as goal
 
-abbrev pub invariant-loop-place : goal.invariant-loop-place
-invariant-loop-place l =
+abbrev pub invariant-loop-answer : goal.invariant-loop-answer
+invariant-loop-answer l =
     (catalog : ℕ → Relation) (p : Plan) → well_formed catalog p ≡ true → width catalog p ≤ max_columns → AreAnswersOf catalog p l.self
     → DetermineSame catalog p (set_of_columns l.set) (set_of_columns l.larger)

@@ -1,0 +1,15 @@
+pub mod EqualLaws
+pub mod SameFacts
+pub mod NodeFacts
+pub mod MoreDetermined
+pub mod OrdersFollow
+pub mod MoreFollows
+pub mod PartsTold
+pub mod PartsKept
+pub mod FrontCopies
+pub mod NodeCarries
+pub mod OrdersKept
+pub mod NodesKept
+pub mod Keeps
+pub mod TellingNodes
+pub mod TellsItself

@@ -1,0 +1,150 @@
+-- The orders that are found name columns of their nodes, none twice.
+use Rattle.std.proofs.Common.{◌≡◌, ◌≤◌, ℕ, suc, ◌+◌, ◌<◌, ◌==◌, nat_lt, Bool, true, false, cond, not, ◌&&◌, ◌||◌, List, [], ◌∷◌, length, refl, sym, ap, ◌∙◌, subst, arith, true≢false, ltb-true, lt-ltb}
+use Rattle.std.specs.List.{list_all, list_any}
+use Rattle.std.proofs.lemmas.Bool.Decides.{nat_tests}
+use Rattle.vx_rows_values.specs.Lists.{is_some_list}
+use Rattle.vx_rows_values.proofs.Booleans.{and-left, and-right, and-both}
+use Rattle.vx_catalog_relations.specs.Relation.{Relation}
+use Rattle.vx_catalog_relations.specs.Catalog.{relation_at, all_below, are_distinct, IsCatalog}
+use Rattle.vx_plan_nodes.specs.Plan.{Part, select, project, distinct, sort, group, union, join, Plan, scan, unary, binary, exchange, claim, size, is_one}
+use Rattle.vx_plan_nodes.specs.Types.{types_of, width, part_columns}
+use Rattle.vx_plan_nodes.specs.Describe.{described}
+use Rattle.vx_plan_nodes.specs.Phases.{phase_fits}
+use Rattle.vx_plan_nodes.specs.Typed.{Scope, is_size, is_unary, is_kind, are_columns, typed}
+use Rattle.vx_plan_facts.specs.Equal.{equal_at}
+use Rattle.vx_plan_facts.specs.Determined.{Columns, determined}
+use Rattle.vx_plan_facts.specs.DeterminedFacts.{Within}
+use Rattle.vx_plan_facts.specs.Following.{set_of, short_after, short}
+use Rattle.vx_plan_facts.proofs.NamedColumns.{types-width}
+use Rattle.vx_check_rules.specs.Derived.{goes_on_with}
+use Rattle.vx_check_rules.specs.Rules.{contains}
+use Rattle.vx_check_rules.proofs.CopySteps.{copies-below}
+use Rattle.vx_check_options.proofs.TypedOrders.{declared-typed}
+use Rattle.vx_check_shown.specs.ShownOrder.{order_had, shown_order, are_of_input}
+use Rattle.vx_check_shown.proofs.Equivalent.{equal-equivalence}
+use Rattle.vx_check_shown.proofs.Standing.{named-below}
+
+-- ---- columns of the node
+
+below-more : (v w : ℕ) → v ≤ w → (cols : List ℕ) → all_below v cols ≡ true → all_below w cols ≡ true
+below-more v w l [] h = refl
+below-more v w l (c ∷ cols) h =
+    let less = ltb-true c v (and-left (nat_lt c v) (all_below v cols) h) in
+    and-both (nat_lt c w) (all_below w cols) (lt-ltb c w (omega (arith, l, less))) (below-more v w l cols (and-right (nat_lt c v) (all_below v cols) h))
+
+short-below : (w : ℕ) (det : Columns → Columns) (before cols : List ℕ) → all_below w cols ≡ true → all_below w (short_after det before cols) ≡ true
+short-below w det before [] h = refl
+short-below w det before (c ∷ cols) h =
+    go (det (set_of before) c) (and-left (nat_lt c w) (all_below w cols) h) (short-below w det (c ∷ before) cols (and-right (nat_lt c w) (all_below w cols) h))
+  where
+    go : (b : Bool) → nat_lt c w ≡ true → all_below w (short_after det (c ∷ before) cols) ≡ true
+        → all_below w (cond b (short_after det (c ∷ before) cols) (c ∷ short_after det (c ∷ before) cols)) ≡ true
+    go true l r = r
+    go false l r = and-both (nat_lt c w) (all_below w (short_after det (c ∷ before) cols)) l r
+
+module _ (s : Scope) (cat : IsCatalog s.catalog) where
+  had-below : (p : Plan) → typed s p ≡ true → (q : Part) (below : List ℕ) → are_of_input (relation_at s.catalog) p q below ≡ true
+      → all_below (width (relation_at s.catalog) p) (order_had (relation_at s.catalog) p q below) ≡ true
+  had-below (scan n c r m z) ok q below h =
+      let rel = relation_at s.catalog r in
+      and-left (all_below (length rel.types) rel.order) (are_distinct rel.order) (declared-typed s r cat (and-left (nat_lt r (length s.catalog)) _ ok))
+  had-below (unary n c (select cs) p) ok q below h = and-right _ (all_below (width (relation_at s.catalog) p) below) h
+  had-below (unary n c (project cols) p) ok q below h =
+      let C : ℕ → Relation = relation_at s.catalog in
+      copies-below (width C (unary n c (project cols) p)) (described (project cols)).copying (equal_at C p) (short (determined C p) below)
+  had-below (unary n c (distinct cols) p) ok q below h =
+      let C : ℕ → Relation = relation_at s.catalog in
+      copies-below (width C (unary n c (distinct cols) p)) (described (distinct cols)).copying (equal_at C p) (short (determined C p) below)
+  had-below (unary n c (sort of_parts cols) p) ok q below h =
+      let types = types_of (relation_at s.catalog) p in
+      let op = and-left (is_unary types (sort of_parts cols)) _ (and-right (phase_fits (sort of_parts cols) p) _ (and-right (typed s p) _ ok)) in
+      let P : ℕ → Type 0 = λ w. all_below w cols ≡ true in
+      subst P (types-width (relation_at s.catalog) p) (and-left (all_below (length types) cols) (are_distinct cols) (and-right (is_some_list cols) (are_columns (length types) cols) op))
+  had-below (unary n c (group phase by aggregates) p) ok q below h =
+      let C : ℕ → Relation = relation_at s.catalog in
+      copies-below (width C (unary n c (group phase by aggregates) p)) (described (group phase by aggregates)).copying (equal_at C p) (short (determined C p) below)
+  had-below (binary n c union p p2) ok q below h = refl
+  had-below (binary n c (join m on) p p2) ok q below h =
+      below-more (width (relation_at s.catalog) p) (width (relation_at s.catalog) p + width (relation_at s.catalog) p2) (omega arith) below
+      (and-right _ (all_below (width (relation_at s.catalog) p) below) h)
+  had-below (exchange n c k m p) ok q below h =
+      let types = types_of (relation_at s.catalog) p in
+      let cols = and-left (are_columns (length types) m) _ (and-right (is_kind s types k) _ (and-right (typed s p) _ ok)) in
+      let P : ℕ → Type 0 = λ w. all_below w m ≡ true in
+      go (is_one (size p) || goes_on_with (relation_at s.catalog) k p q below) (and-right _ (all_below (width (relation_at s.catalog) p) below) h)
+      (subst P (types-width (relation_at s.catalog) p) (and-left (all_below (length types) m) (are_distinct m) cols))
+    where
+      go : (b : Bool) → all_below (width (relation_at s.catalog) p) below ≡ true → all_below (width (relation_at s.catalog) p) m ≡ true
+          → all_below (width (relation_at s.catalog) p) (cond b below m) ≡ true
+      go true x y = x
+      go false x y = y
+
+  pub order-below : (p : Plan) → typed s p ≡ true → (q : Part) (below : List ℕ) → are_of_input (relation_at s.catalog) p q below ≡ true
+      → all_below (width (relation_at s.catalog) p) (shown_order (relation_at s.catalog) p q below) ≡ true
+  order-below p ok q below h =
+      let C : ℕ → Relation = relation_at s.catalog in
+      named-below (width C p) (equal_at C p) (equal-equivalence C p) (short (determined C p) (order_had C p q below))
+      (short-below (width C p) (determined C p) [] (order_had C p q below) (had-below p ok q below h))
+
+-- ---- none twice
+
+module _ (det : Columns → Columns) (itself : (s : Columns) → Within s (det s)) where
+  none-longer : (before cols : List ℕ) → length (short_after det before cols) ≤ length cols
+  none-longer before [] = omega arith
+  none-longer before (c ∷ cols) = go (det (set_of before) c) (none-longer (c ∷ before) cols)
+    where
+      go : (b : Bool) → length (short_after det (c ∷ before) cols) ≤ length cols
+          → length (cond b (short_after det (c ∷ before) cols) (c ∷ short_after det (c ∷ before) cols)) ≤ suc (length cols)
+      go true h = omega (arith, h)
+      go false h = omega (arith, h)
+
+  none-of : (before : List ℕ) → list_all (λ b. not (contains [] b)) before ≡ true
+  none-of [] = refl
+  none-of (b ∷ before) = none-of before
+
+  none-before : (c : ℕ) (cols before : List ℕ) → set_of before c ≡ false → list_all (λ b. not (contains cols b)) before ≡ true → list_all (λ b. not (contains (c ∷ cols) b)) before ≡ true
+  none-before c cols [] h k = refl
+  none-before c cols (b ∷ before) h k =
+      and-both (not (contains (c ∷ cols) b)) (list_all (λ b. not (contains (c ∷ cols) b)) before)
+      (other (c == b) (set_of before c) (b == c) (contains cols b) (turned c b) h (and-left (not (contains cols b)) (list_all (λ b. not (contains cols b)) before) k))
+      (none-before c cols before (rest (c == b) (set_of before c) h) (and-right (not (contains cols b)) (list_all (λ b. not (contains cols b)) before) k))
+    where
+      turned : (x y : ℕ) → (y == x) ≡ (x == y)
+      turned x y = grind (arith, nat_tests)
+
+      other : (x y z t : Bool) → z ≡ x → (x || y) ≡ false → not t ≡ true → not (z || t) ≡ true
+      other true y z t e h k = absurd (true≢false h)
+      other false y z t e h k = ap (λ v. not (v || t)) e ∙ k
+
+      rest : (x y : Bool) → (x || y) ≡ false → y ≡ false
+      rest true y h = absurd (true≢false h)
+      rest false y h = h
+
+  pub distinct-past : (before cols : List ℕ) → short_after det before cols ≡ cols → (are_distinct cols ≡ true) × (list_all (λ b. not (contains cols b)) before ≡ true)
+  distinct-past before [] h = (refl, none-of before)
+  distinct-past before (c ∷ cols) h = go (det (set_of before) c) refl h (distinct-past (c ∷ before) cols)
+    where
+      unmarked : det (set_of before) c ≡ false → set_of before c ≡ false
+      unmarked out = by (set_of before c) refl
+        where
+          by : (b : Bool) → set_of before c ≡ b → b ≡ false
+          by false e = refl
+          by true e = absurd (true≢false (sym (itself (set_of before) c e) ∙ out))
+
+      go : (b : Bool) → det (set_of before) c ≡ b → cond b (short_after det (c ∷ before) cols) (c ∷ short_after det (c ∷ before) cols) ≡ c ∷ cols
+          → (short_after det (c ∷ before) cols ≡ cols → (are_distinct cols ≡ true) × (list_all (λ b. not (contains cols b)) (c ∷ before) ≡ true))
+          → (are_distinct (c ∷ cols) ≡ true) × (list_all (λ b. not (contains (c ∷ cols) b)) before ≡ true)
+      go true e h more =
+          let less = none-longer (c ∷ before) cols in
+          let long = ap length h in absurd (omega (arith, less, long))
+      go false e h below =
+          let tail : short_after det (c ∷ before) cols ≡ cols = cc in
+          let more = below tail in
+          let rest = list_all (λ b. not (contains cols b)) before in (
+            and-both (not (contains cols c)) (are_distinct cols) (and-left (not (contains cols c)) rest more.1) more.0,
+            none-before c cols before (unmarked e) (and-right (not (contains cols c)) rest more.1),
+          )
+
+  -- an order that is short already has no column twice
+  pub short-distinct : (cols : List ℕ) → short det cols ≡ cols → are_distinct cols ≡ true
+  short-distinct cols h = (distinct-past [] cols h).0

@@ -1,0 +1,10 @@
+pub mod Standing
+pub mod ShownOrder
+pub mod OrderLaws
+pub mod ShownPart
+pub mod PartView
+pub mod PartLaws
+pub mod ShownKeys
+pub mod Found
+pub mod Strongest
+pub mod FoundLaws

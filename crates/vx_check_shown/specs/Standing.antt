@@ -1,0 +1,13 @@
+-- Columns that stand for others: the first of those that are equal, and copies in an output.
+use Rattle.std.specs.Prelude.{ℕ, List, filter, map, unwrap_or}
+use Rattle.vx_plan_nodes.specs.Phases.{first_columns}
+use Rattle.vx_plan_facts.specs.Equal.{Equality}
+use Rattle.vx_check_rules.specs.Derived.{first_of}
+
+-- the first of w columns that is equal to this one
+abbrev pub first_equal : ℕ → Equality → ℕ → ℕ
+first_equal w e c = unwrap_or (first_of (filter (λ d. e d c) (first_columns w))) c
+
+-- the columns by these first ones
+abbrev pub named_first : ℕ → Equality → List ℕ → List ℕ
+named_first w e cols = map (first_equal w e) cols
