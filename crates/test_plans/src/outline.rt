@@ -14,6 +14,7 @@ fn unary_name(unary: &Unary) -> &'static str {
         Unary::Group(Phase::Plain, _, _) => "group",
         Unary::Group(Phase::Partial, _, _) => "partial-group",
         Unary::Group(Phase::Final, _, _) => "final-group",
+        Unary::Limit(_) => "limit",
     }
 }
 
@@ -21,6 +22,8 @@ fn binary_name(binary: &Binary) -> &'static str {
     match binary {
         Binary::Union => "union",
         Binary::HashJoin(_) | Binary::MergeJoin(_) => "join",
+        Binary::SemiJoin(_, _) => "semi-join",
+        Binary::AntiJoin(_, _) => "anti-join",
     }
 }
 

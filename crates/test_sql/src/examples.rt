@@ -70,8 +70,8 @@ const PLANS: [&str; 11] = [
 // Texts of the column k, of which some are not in d.
 const TEXTS: [&str; 7] = ["a", "b", "B", "it's", "\u{e4}", "z", "\u{1f600}"];
 
-// So many rows of t.
-fn rows_of_t(alloc: Global, rows: u16) -> Result<String, AllocError> {
+/// So many rows of t.
+pub fn rows_of_t(alloc: Global, rows: u16) -> Result<String, AllocError> {
     let mut text = String::from_str(alloc, "id,k,v\n")?;
     for id in 0..rows {
         let k = TEXTS[usize::from(id % 7)];
@@ -81,7 +81,8 @@ fn rows_of_t(alloc: Global, rows: u16) -> Result<String, AllocError> {
     Ok(text)
 }
 
-const ROWS_OF_D: &str = "k,n\na,10\nB,20\nit's,20\n\u{e4},-4\n\u{1f600},0\n,7\n";
+/// Rows of d.
+pub const ROWS_OF_D: &str = "k,n\na,10\nB,20\nit's,20\n\u{e4},-4\n\u{1f600},0\n,7\n";
 
 #[test]
 fn examples_have_their_rows(rt: HostRuntime) -> Result<(), Fail> {

@@ -11,6 +11,8 @@ mod engine;
 #[cfg(test)]
 mod examples;
 #[cfg(test)]
+mod matches;
+#[cfg(test)]
 mod names;
 #[cfg(test)]
 mod odd;

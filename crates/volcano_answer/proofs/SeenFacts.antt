@@ -3,7 +3,7 @@ use Rattle.std.proofs.Common.{◌≡◌, ◌∙◌, ℕ, ◌+◌, ◌*◌, List,
 use Rattle.std.specs.Prelude.{◌==◌, ◌||◌}
 use Rattle.vx_rows_values.specs.Values.{Row}
 use Rattle.vx_exec_layout.specs.Needed.{most_rows, most_turns, worker_steps, steps_below, rounds_needed}
-use Rattle.vx_plan_nodes.specs.Plan.{Plan, scan, unary, binary, exchange, Unary, Binary, union, join, size, target}
+use Rattle.vx_plan_nodes.specs.Plan.{Plan, scan, unary, binary, exchange, Unary, Binary, union, join, semi_join, size, target}
 use Rattle.vx_plan_nodes.specs.Runs.{Runs}
 use Rattle.vx_plan_nodes.specs.Routes.{Routing}
 use Rattle.vx_plan_nodes.specs.Streams.{workers, Streams, Dealt}
@@ -95,6 +95,7 @@ rows_seen f g sizes (scan n c r m z) same = ap length (same r (same_number r))
 rows_seen f g sizes (unary n c op p) same = rows_seen f g sizes p same
 rows_seen f g sizes (binary n c union p q) same = rw (rows_seen f g sizes p (in_left f g p q same), rows_seen f g sizes q (in_right f g p q same))
 rows_seen f g sizes (binary n c (join merging on) p q) same = rw (rows_seen f g sizes p (in_left f g p q same), rows_seen f g sizes q (in_right f g p q same))
+rows_seen f g sizes (binary n c (semi_join matched on conditions) p q) same = rows_seen f g sizes p (in_left f g p q same)
 rows_seen f g sizes (exchange n c k m p) same = ap (λ x. workers sizes (size p) * x) (rows_seen f g sizes p same)
 
 turns_seen : (f g : ℕ → List Row) (sizes : ℕ → ℕ) (p : Plan) → SameSeen f g p → most_turns f sizes p ≡ most_turns g sizes p

@@ -195,7 +195,7 @@ fn why_job<'a>(code: &'a str) -> Result<AskedJob<'a>, WrongPart<'a>>
         None => Err(WrongPart {
             before: "volcano: why ",
             argument: code,
-            after: ": a code is C1 to C12, P1 to P13, K1 to K9, X1 to X14 or V1 to V6, or the name of one; see volcano why --help\n",
+            after: ": a code is C1 to C12, P1 to P13, K1 to K9, K11, X1 to X14 or V1 to V6, or the name of one; see volcano why --help\n",
         }),
     }
 }

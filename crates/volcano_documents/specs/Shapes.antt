@@ -1,7 +1,7 @@
 -- The words that shapes of values know: those of which a text has to be one, and the names of an object's members.
 use Rattle.std.specs.Prelude.{◌≡◌, ℕ, List, [], ◌∷◌, map, codes, Contains}
 use Rattle.volcano_documents.specs.declared.shapes.Shape.{Shape}
-use Rattle.volcano_documents.specs.declared.shapes.Shape.TheVariants.{Word, Bundle, Catalog, Relation, Column, Plan, Range, Claim, HashPart, RangePart, OtherPart, Condition, Renamed, CountedRows, ColumnAggregate, Scan, Select, Kept, Sort, Union, Join, PlainGroup, PartialGroup, FinalGroup, HashExchange, RangeExchange, SizedExchange, Gather, Concat}
+use Rattle.volcano_documents.specs.declared.shapes.Shape.TheVariants.{Word, Bundle, Catalog, Relation, Column, Plan, Range, Claim, HashPart, RangePart, OtherPart, Condition, Renamed, CountedRows, ColumnAggregate, Scan, Select, Kept, Sort, Limit, Union, InnerJoin, SemiJoin, PlainGroup, PartialGroup, FinalGroup, HashExchange, RangeExchange, SizedExchange, Gather, Concat}
 use Rattle.volcano_documents.specs.declared.shapes.Form.{Form}
 use Rattle.volcano_documents.specs.declared.shapes.Form.TheVariants.{Object}
 use Rattle.volcano_documents.specs.declared.shapes.Member.{Member}
@@ -31,8 +31,10 @@ known_words Scan = codes "op" ∷ codes "relation" ∷ codes "mode" ∷ codes "s
 known_words Select = codes "op" ∷ codes "where" ∷ codes "claim" ∷ codes "input" ∷ []
 known_words Kept = codes "op" ∷ codes "columns" ∷ codes "claim" ∷ codes "input" ∷ []
 known_words Sort = codes "op" ∷ codes "phase" ∷ codes "columns" ∷ codes "claim" ∷ codes "input" ∷ []
+known_words Limit = codes "op" ∷ codes "rows" ∷ codes "claim" ∷ codes "input" ∷ []
 known_words Union = codes "op" ∷ codes "claim" ∷ codes "left" ∷ codes "right" ∷ []
-known_words Join = codes "op" ∷ codes "method" ∷ codes "on" ∷ codes "claim" ∷ codes "left" ∷ codes "right" ∷ []
+known_words InnerJoin = codes "op" ∷ codes "method" ∷ codes "on" ∷ codes "kind" ∷ codes "claim" ∷ codes "left" ∷ codes "right" ∷ []
+known_words SemiJoin = codes "op" ∷ codes "method" ∷ codes "kind" ∷ codes "on" ∷ codes "where" ∷ codes "claim" ∷ codes "left" ∷ codes "right" ∷ []
 known_words PlainGroup = codes "op" ∷ codes "by" ∷ codes "aggregates" ∷ codes "phase" ∷ codes "claim" ∷ codes "input" ∷ []
 known_words PartialGroup = codes "op" ∷ codes "phase" ∷ codes "by" ∷ codes "aggregates" ∷ codes "claim" ∷ codes "input" ∷ []
 known_words FinalGroup = codes "op" ∷ codes "phase" ∷ codes "claim" ∷ codes "input" ∷ []

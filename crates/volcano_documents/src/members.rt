@@ -140,10 +140,29 @@ pub const UNION: &[Member] = &[
     member!("right", Shape::Node),
 ];
 
-pub const JOIN: &[Member] = &[
+pub const LIMIT: &[Member] = &[
+    member!("op", Shape::Word(Words::Operators)),
+    member!("rows", Shape::Count),
+    maybe!("claim", Shape::Claim),
+    member!("input", Shape::Node),
+];
+
+pub const INNER_JOIN: &[Member] = &[
     member!("op", Shape::Word(Words::Operators)),
     member!("method", Shape::Word(Words::Methods)),
     member!("on", Shape::Pairs),
+    maybe!("kind", Shape::Word(Words::JoinKinds)),
+    maybe!("claim", Shape::Claim),
+    member!("left", Shape::Node),
+    member!("right", Shape::Node),
+];
+
+pub const SEMI_JOIN: &[Member] = &[
+    member!("op", Shape::Word(Words::Operators)),
+    member!("method", Shape::Word(Words::SemiMethods)),
+    member!("kind", Shape::Word(Words::JoinKinds)),
+    member!("on", Shape::Pairs),
+    maybe!("where", Shape::Conditions),
     maybe!("claim", Shape::Claim),
     member!("left", Shape::Node),
     member!("right", Shape::Node),

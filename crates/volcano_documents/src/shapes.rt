@@ -59,8 +59,11 @@ pub enum Shape {
     Select,
     Kept,
     Sort,
+    Limit,
     Union,
-    Join,
+    InnerJoin,
+    /// Of a semi or an anti join.
+    SemiJoin,
     PlainGroup,
     PartialGroup,
     FinalGroup,
@@ -76,6 +79,7 @@ pub enum Shape {
     Output,
     Aggregate,
     Node,
+    Join,
     Group,
     Exchange,
 }
@@ -154,6 +158,7 @@ fn choice_form(shape: Shape) -> Form
     match shape {
         Shape::Aggregate => Form::Tagged("fn", Words::Functions, None),
         Shape::Node => Form::Tagged("op", Words::Operators, None),
+        Shape::Join => Form::Tagged("kind", Words::JoinKinds, Some(Shape::InnerJoin)),
         Shape::Group => Form::Tagged("phase", Words::Phases, Some(Shape::PlainGroup)),
         Shape::Exchange => Form::Tagged("kind", Words::Kinds, None),
         _ => object_form(shape),
@@ -192,8 +197,10 @@ fn node_form(shape: Shape) -> Form
         Shape::Select => Form::Object(members::SELECT, Rule::Free),
         Shape::Kept => Form::Object(members::KEPT, Rule::Free),
         Shape::Sort => Form::Object(members::SORT, Rule::Free),
+        Shape::Limit => Form::Object(members::LIMIT, Rule::Free),
         Shape::Union => Form::Object(members::UNION, Rule::Free),
-        Shape::Join => Form::Object(members::JOIN, Rule::Free),
+        Shape::InnerJoin => Form::Object(members::INNER_JOIN, Rule::Free),
+        Shape::SemiJoin => Form::Object(members::SEMI_JOIN, Rule::Free),
         Shape::PlainGroup => Form::Object(members::PLAIN_GROUP, members::LISTS),
         Shape::PartialGroup => Form::Object(members::PARTIAL_GROUP, members::LISTS),
         Shape::FinalGroup => Form::Object(members::FINAL_GROUP, Rule::Free),
@@ -210,6 +217,7 @@ fn node_form(shape: Shape) -> Form
 pub fn chosen_shape(shape: Shape, word: &str) -> Option<Shape> {
     match shape {
         Shape::Node => operator_shape(word),
+        Shape::Join => join_shape(word),
         Shape::Exchange => kind_shape(word),
         Shape::Group => phase_shape(word),
         Shape::Aggregate => function_shape(word),
@@ -224,10 +232,20 @@ fn operator_shape(word: &str) -> Option<Shape> {
         "project" => Some(Shape::Kept),
         "distinct" => Some(Shape::Kept),
         "sort" => Some(Shape::Sort),
+        "limit" => Some(Shape::Limit),
         "union" => Some(Shape::Union),
         "join" => Some(Shape::Join),
         "group" => Some(Shape::Group),
         "exchange" => Some(Shape::Exchange),
+        _ => None,
+    }
+}
+
+fn join_shape(word: &str) -> Option<Shape> {
+    match word {
+        "inner" => Some(Shape::InnerJoin),
+        "semi" => Some(Shape::SemiJoin),
+        "anti" => Some(Shape::SemiJoin),
         _ => None,
     }
 }

@@ -14,6 +14,8 @@ pub enum Words {
     ScanModes,
     Tests,
     Methods,
+    SemiMethods,
+    JoinKinds,
     SortPhases,
     Phases,
     Functions,
@@ -29,7 +31,7 @@ const TYPES: &[&str] = &["int", "text"];
 const PARTS: &[&str] = &["one", "any", "all"];
 
 const OPERATORS: &[&str] = &[
-    "scan", "select", "project", "distinct", "sort", "union", "join", "group", "exchange",
+    "scan", "select", "project", "distinct", "sort", "limit", "union", "join", "group", "exchange",
 ];
 
 const SCAN_MODES: &[&str] = &["shared", "whole"];
@@ -37,6 +39,10 @@ const SCAN_MODES: &[&str] = &["shared", "whole"];
 const TESTS: &[&str] = &["=", "<>", "<", "<=", ">", ">="];
 
 const METHODS: &[&str] = &["hash", "merge"];
+
+const SEMI_METHODS: &[&str] = &["hash"];
+
+const JOIN_KINDS: &[&str] = &["inner", "semi", "anti"];
 
 const SORT_PHASES: &[&str] = &["partial"];
 
@@ -59,6 +65,8 @@ pub fn words_of(words: Words) -> &'static [&'static str]
         Words::ScanModes => SCAN_MODES,
         Words::Tests => TESTS,
         Words::Methods => METHODS,
+        Words::SemiMethods => SEMI_METHODS,
+        Words::JoinKinds => JOIN_KINDS,
         Words::SortPhases => SORT_PHASES,
         Words::Phases => PHASES,
         Words::Functions => FUNCTIONS,

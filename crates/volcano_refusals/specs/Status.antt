@@ -51,7 +51,7 @@ plan_status plan.NoMemory = 4
 plan_status (plan.TooWide node) = 3
 plan_status (plan.PhaseMismatch node) = 3
 
--- of the checker: K1 to K9
+-- of the checker: K1 to K9 and K11
 abbrev pub rule_status : Rule → ℕ
 rule_status rule.SizeMismatch = 3
 rule_status rule.RootNotOne = 3
@@ -62,6 +62,7 @@ rule_status rule.OrderNotShown = 3
 rule_status rule.OrderNeeded = 3
 rule_status rule.KeyNotShown = 3
 rule_status rule.TotalNotShown = 3
+rule_status rule.FirstRowsOpen = 3
 
 -- of a run: X1 to X6, X12 and X14 are reported before it begins (X5 by no bundle), X7 to X11 end it
 abbrev pub run_status : RunFault → ℕ

@@ -70,7 +70,8 @@ fn rule_status(rule: Rule) -> u8
         | Rule::OrderNotShown
         | Rule::OrderNeeded
         | Rule::KeyNotShown
-        | Rule::TotalNotShown => 3,
+        | Rule::TotalNotShown
+        | Rule::FirstRowsOpen => 3,
     }
 }
 

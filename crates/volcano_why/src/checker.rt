@@ -27,7 +27,8 @@ const K4: &str = r#"K4 InputsNotMatched node=1
 What happened: equal rows or keys may lie on different workers: a distinct or group over rows that are not
 routed by its columns, a join whose sides are not routed alike, a union of rows that are on every worker with
 rows that are not.
-Usual cause, and cure: exchange by hash on these columns, or broadcast one side of the join.
+Usual cause, and cure: exchange by hash on these columns, or broadcast one side of the join; of a semi or an
+anti join only the right side may be broadcast.
 Example: a group by k over a shared scan with the size `many`.
 "#;
 
@@ -63,6 +64,14 @@ Usual cause, and cure: claim a key at the root, or a longer order.
 Example: `"total": true` over a root that claims the order k and no key, and has more columns.
 "#;
 
+const K11: &str = r#"K11 FirstRowsOpen node=0
+What happened: the input of a limit has several workers, or its claimed order contains neither a claimed key
+nor all columns, so that it is open which rows are the first.
+Usual cause, and cure: put a gather that merges between them; claim a key at the input, or sort it on more
+columns.
+Example: `{"op": "limit", "rows": 10, ..}` over a gather that merges on v and claims no key.
+"#;
+
 /// The entry of a code of the checker.
 pub fn checker_entry(code: &str) -> Option<&'static str>
     ensures listed { is_some result ≡ is_one_of code.now checker_codes }
@@ -78,6 +87,7 @@ pub fn checker_entry(code: &str) -> Option<&'static str>
         "K7" => Some(K7),
         "K8" => Some(K8),
         "K9" => Some(K9),
+        "K11" => Some(K11),
         _ => None,
     }
 }

@@ -45,6 +45,7 @@ const NAMES: &[CodeName] = &[
     CodeName("K7", "OrderNeeded"),
     CodeName("K8", "KeyNotShown"),
     CodeName("K9", "TotalNotShown"),
+    CodeName("K11", "FirstRowsOpen"),
     CodeName("X1", "SizeMissing"),
     CodeName("X2", "SizeOutOfRange"),
     CodeName("X3", "BadPacket"),

@@ -5,7 +5,7 @@ use Rattle.serde_json.specs.Data.{string}
 use Rattle.serde_json.specs.Written.{compact_text}
 use Rattle.vx_rows_values.specs.Values.{Val, num, text, Name}
 use Rattle.vx_catalog_relations.specs.Catalog.{relation_at}
-use Rattle.vx_plan_nodes.specs.Plan.{Size, one_worker, group_of, Route, by_hash, by_range, Part, one, any, all, routed, Claim, Side, column, constant, Condition, Aggregate, least, greatest, sum, count_rows, Unary, select, project, distinct, sort, group, Phase, plain, partial, final, Binary, union, join, ExchangeKind, route_to, round, broadcast, gather, concat, size}
+use Rattle.vx_plan_nodes.specs.Plan.{Size, one_worker, group_of, Route, by_hash, by_range, Part, one, any, all, routed, Claim, Side, column, constant, Condition, Aggregate, least, greatest, sum, count_rows, Unary, select, project, distinct, sort, group, limit, Phase, plain, partial, final, Binary, union, join, semi_join, ExchangeKind, route_to, round, broadcast, gather, concat, size}
 use Rattle.vx_rows_values.specs.Test.{test_text}
 use Rattle.vx_plan_nodes.specs.Names.{Names}
 use Rattle.vx_plan_nodes.specs.Outline.{Outline, scan, unary, binary, exchange, top, columns, plan_in}
@@ -109,16 +109,25 @@ unary_text inputs outputs renamed (project cols) = codes "project [" ++ (separat
 unary_text inputs outputs renamed (distinct cols) = codes "distinct [" ++ (separated (codes ",") false (kept_texts inputs outputs 0 cols renamed) ++ codes "]")
 unary_text inputs outputs renamed (sort of_parts cols) = cond of_parts (codes "partial-sort ") (codes "sort ") ++ list_text inputs cols
 unary_text inputs outputs renamed (group phase by aggregates) = grouping_text inputs outputs phase by aggregates
+unary_text inputs outputs renamed (limit n) = codes "limit " ++ decimal n
 
 -- ---- operators over two inputs, and exchanges
 
 abbrev pub pair_text : List Name → List Name → ℕ × ℕ → List ℕ
 pair_text lefts rights p = name_at lefts p.0 ++ (codes "=" ++ name_at rights p.1)
 
+-- what a semi or an anti join asks of a left row and a right one besides, whose columns have these names, the left ones first
+abbrev pub where_text : List Name → List Condition → List ℕ
+where_text names [] = []
+where_text names (c ∷ cs) = codes " where " ++ separated (codes " and ") false (map (condition_text names) (c ∷ cs))
+
 abbrev pub binary_text : List Name → List Name → Binary → List ℕ
 binary_text lefts rights union = codes "union"
 binary_text lefts rights (join merging on) =
     cond merging (codes "merge-join [") (codes "hash-join [") ++ (separated (codes ",") false (map (pair_text lefts rights) on) ++ codes "]")
+binary_text lefts rights (semi_join matched on conditions) =
+    cond matched (codes "hash-semi-join [") (codes "hash-anti-join [")
+    ++ (separated (codes ",") false (map (pair_text lefts rights) on) ++ (codes "]" ++ where_text (lefts ++ rights) conditions))
 
 abbrev pub kind_text : Names → List Name → ExchangeKind → List ℕ
 kind_text s inputs (route_to z r cols) = route_text s r ++ list_text inputs cols

@@ -1,18 +1,18 @@
 //! What the text that explains a plan says of a node's operator.
 
-ghost use Rattle.std.specs.Prelude.{◌≡◌, ◌++◌, ◌+◌, ◌<◌, ◌^◌, map, string_bytes, length, OnOk, IfOk, codes, false};
+ghost use Rattle.std.specs.Prelude.{◌≡◌, ◌++◌, ◌+◌, ◌<◌, ◌^◌, map, string_bytes, length, OnOk, IfOk, codes, decimal, false};
 ghost use Rattle.vx_rows_values.specs.ValueView.{val_of};
 ghost use Rattle.vx_catalog_relations.specs.Catalog.{relation_at};
 ghost use Rattle.vx_plan_nodes.specs.Outline.{outline_of, columns, condition_of, aggregate_of, phase_of, unary_of, renamed_of, binary_of, kind_of};
 ghost use Rattle.vx_plan_nodes.specs.TypedView.{names_in};
-ghost use Rattle.vx_check.specs.Explain.{name_at, separated, value_text, condition_text, kept_text, kept_texts, function_text, aggregate_texts, aggregates_text, group_text, grouping_text, unary_text, pair_text, binary_text, kind_text, merge_text, scan_text, prefix_text, description};
+ghost use Rattle.vx_check.specs.Explain.{name_at, separated, value_text, condition_text, kept_text, kept_texts, function_text, aggregate_texts, aggregates_text, group_text, grouping_text, unary_text, pair_text, where_text, binary_text, kind_text, merge_text, scan_text, prefix_text, description};
 
 use crate::words::{push_between, push_list, push_name, push_routed};
 use itoa::Buffer;
 use std::alloc::{AllocError, Global};
 use vx_plan_nodes::{
     Aggregate, Binary, Condition, Exchange, ExchangeKind, Name, Phase, Projected, ScanNode, Side,
-    SortPhase, TypedNode, TypedPlan, Unary,
+    SortPhase, TypedNode, TypedPlan, Unary, share_names,
 };
 use vx_rows_values::Value;
 
@@ -204,6 +204,15 @@ fn push_grouping(
     }
 }
 
+// Adds how many first rows a limit takes.
+fn push_limit(text: &mut String, rows: u32) -> Result<(), AllocError>
+    ensures { OnOk result (string_bytes text.new ≡ string_bytes text.old ++ (codes "limit " ++ decimal rows)) }
+{
+    let mut digits = Buffer::new();
+    text.push_str("limit ")?;
+    text.push_str(digits.format(rows))
+}
+
 // Adds an operator over one input; inputs and outputs are the names of the columns.
 fn push_unary(
     alloc: Global,
@@ -237,6 +246,7 @@ fn push_unary(
             by.as_slice(),
             aggregates.as_slice(),
         ),
+        Unary::Limit(rows) => push_limit(text, *rows),
     }
 }
 
@@ -272,8 +282,53 @@ fn push_join(
     text.push_str("]")
 }
 
+// The names of the left columns, and then those of the right ones.
+fn names_of_both(alloc: Global, lefts: &[Name], rights: &[Name]) -> Result<Vec<Name>, AllocError>
+    ensures { IfOk result (λ v. v.items ≡ lefts.now ++ rights.now) }
+{
+    let mut names = Vec::new(alloc);
+    share_names(&mut names, lefts)?;
+    share_names(&mut names, rights)?;
+    Ok(names)
+}
+
+// Adds the conditions of a semi or an anti join, if there are any.
+fn push_where(
+    alloc: Global,
+    text: &mut String,
+    lefts: &[Name],
+    rights: &[Name],
+    conditions: &[Condition],
+) -> Result<(), AllocError>
+    ensures { OnOk result (string_bytes text.new ≡ string_bytes text.old ++ where_text (lefts.now ++ rights.now) (map condition_of conditions.now)) }
+{
+    if conditions.is_empty() {
+        return Ok(());
+    }
+    let names = names_of_both(alloc, lefts, rights)?;
+    text.push_str(" where ")?;
+    push_conditions(alloc, text, names.as_slice(), conditions)
+}
+
+// Adds the word of a semi or an anti join, its pairs, in brackets, and its conditions.
+fn push_semi_join(
+    alloc: Global,
+    text: &mut String,
+    word: &str,
+    lefts: &[Name],
+    rights: &[Name],
+    on: &[(usize, usize)],
+    conditions: &[Condition],
+) -> Result<(), AllocError>
+    ensures { OnOk result (string_bytes text.new ≡ string_bytes text.old ++ (word.now ++ (separated (codes ",") false (map (pair_text lefts.now rights.now) on.now) ++ (codes "]" ++ where_text (lefts.now ++ rights.now) (map condition_of conditions.now))))) }
+{
+    push_join(text, word, lefts, rights, on)?;
+    push_where(alloc, text, lefts, rights, conditions)
+}
+
 // Adds an operator over inputs whose columns have these names.
 fn push_binary(
+    alloc: Global,
     text: &mut String,
     lefts: &[Name],
     rights: &[Name],
@@ -285,6 +340,24 @@ fn push_binary(
         Binary::Union => text.push_str("union"),
         Binary::HashJoin(on) => push_join(text, "hash-join [", lefts, rights, on.as_slice()),
         Binary::MergeJoin(on) => push_join(text, "merge-join [", lefts, rights, on.as_slice()),
+        Binary::SemiJoin(on, conditions) => push_semi_join(
+            alloc,
+            text,
+            "hash-semi-join [",
+            lefts,
+            rights,
+            on.as_slice(),
+            conditions.as_slice(),
+        ),
+        Binary::AntiJoin(on, conditions) => push_semi_join(
+            alloc,
+            text,
+            "hash-anti-join [",
+            lefts,
+            rights,
+            on.as_slice(),
+            conditions.as_slice(),
+        ),
     }
 }
 
@@ -395,7 +468,13 @@ pub fn push_description(
             )
         }
         TypedNode::Binary(_, operator, left, right) => {
-            push_binary(text, column_names(left), column_names(right), operator)
+            push_binary(
+                alloc,
+                text,
+                column_names(left),
+                column_names(right),
+                operator,
+            )
         }
         TypedNode::Exchange(_, exchange, input) => push_exchange(
             text,

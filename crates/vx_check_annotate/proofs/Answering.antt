@@ -1,11 +1,11 @@
 -- What annotate answers: a document with the claims that are found, or the node that no claims can save.
-use Rattle.std.proofs.Common.{◌≡◌, ℕ, ◌==◌, Bool, true, false, cond, not, ◌&&◌, ◌||◌, ◌⊎◌, List, [], ◌∷◌, Option, Some, None, is_none, Ok, inl, inr, true≢false, refl, sym, ap, ◌∙◌, subst}
+use Rattle.std.proofs.Common.{◌≡◌, ℕ, Bool, true, false, not, ◌&&◌, ◌||◌, ◌⊎◌, ⊎_elim, List, [], ◌∷◌, Option, Some, None, is_none, Ok, inl, inr, true≢false, refl, sym, ap, ◌∙◌, subst}
 use Rattle.std.specs.List.{list_all}
 use Rattle.vx_rows_values.proofs.Booleans.{and-left, and-right, and-both}
 use Rattle.vx_catalog_relations.specs.Relation.{Relation}
 use Rattle.vx_catalog_relations.specs.Catalog.{relation_at, IsCatalog}
 use Rattle.vx_plan_nodes.specs.Plan.{Plan, scan, unary, binary, exchange, claim, number, size, is_one}
-use Rattle.vx_plan_nodes.specs.Types.{types_of, width}
+use Rattle.vx_plan_nodes.specs.Types.{types_of}
 use Rattle.vx_plan_nodes.specs.Typed.{Scope, typed, is_size, is_kind, is_part, is_claim, is_output, is_unary, is_binary, are_columns, may_merge}
 use Rattle.vx_plan_nodes.specs.Phases.{phase_fits, both_closed}
 use Rattle.vx_plan_nodes.specs.Outline.{plan_in}
@@ -15,74 +15,33 @@ use Rattle.vx_plan_json.specs.Formed.{is_head_form, is_tree_form}
 use Rattle.vx_plan.specs.Resolve.{resolved}
 use Rattle.vx_plan.specs.ByName.{tree_by_name}
 use Rattle.vx_plan.proofs.PlanExact.{plans_resolved_exactly}
-use Rattle.vx_check_rules.specs.Rules.{contains, within, is_prefix, covers, numbers_below, is_total_order}
-use Rattle.vx_check_rules.specs.Refusal.{Rule, root_not_one, or_else}
-use Rattle.vx_check_rules.proofs.Bools.{or-left, or-right, all-more}
-use Rattle.vx_check_rules.proofs.Refusals.{refusal-decides}
-use Rattle.vx_check_options.specs.Options.{parts_at, places_at, first_unfit}
-use Rattle.vx_check_options.specs.Placed.{first_columns, first_part}
-use Rattle.vx_check_options.specs.Laws.{KeepsClaim, Keeps}
-use Rattle.vx_check_options.specs.Claimed.{IsClaimed, KeepsKeysOf, KeepsKeys, names_keys_at, names_keys}
-use Rattle.vx_check_options.proofs.FoundFacts.{within-trans, covers-more}
-use Rattle.vx_check_options.proofs.WithoutKeys.{claimed-width}
+use Rattle.vx_check_rules.specs.Rules.{is_total_order, allowed}
+use Rattle.vx_check_rules.specs.Refusal.{Rule, root_not_one, total_not_shown, first_rows_open, root_tests, refused_at, first_refused, refusal}
+use Rattle.vx_check_rules.proofs.Refusals.{none-both, refusal-decides}
+use Rattle.vx_check_options.specs.Options.{parts_at, places_at, is_within}
+use Rattle.vx_check_options.specs.Laws.{AtEach}
+use Rattle.vx_check_options.specs.Placed.{first_columns, first_part, bare}
+use Rattle.vx_check_options.specs.Claimed.{IsClaimed, unfit_in, names_keys_at, names_keys}
+use Rattle.vx_check_options.proofs.ClaimedIsFit.{none-unfit}
 use Rattle.vx_check_options.proofs.ClaimedKeeps.{claimed-keeps}
 use Rattle.vx_check_annotate.specs.Claimed.{claims_of, with_claims, with_forms, named_forms}
 use Rattle.vx_check_annotate.specs.Unclaimed.{unclaimed}
-use Rattle.vx_check_annotate.specs.Verdict.{refusal_by_claims, accepts_by_claims, is_accepted_by_claims, refused_by_claims}
+use Rattle.vx_check_annotate.specs.Accepted.{HasRoom}
+use Rattle.vx_check_annotate.specs.Verdict.{refusal_by_claims, accepts_by_claims, is_accepted_by_claims, refuses_by_claims, refused_by_claims}
 use Rattle.vx_check_annotate.specs.Telling.{tree_tells, tells}
-use Rattle.vx_check_annotate.specs.Hinted.{IsHinted, unfit_root}
-use Rattle.vx_check_annotate.specs.Saved.{IsWithin, IsNeverAccepted, IsNeverSaved}
+use Rattle.vx_check_annotate.specs.Hinted.{IsHinted}
+use Rattle.vx_check_annotate.specs.Saved.{IsWithin, HasRoomAtEach, IsNeverAccepted, IsNeverSaved}
 use Rattle.vx_check_annotate.specs.Strongest.{TellsTheMost}
-use Rattle.vx_check_annotate.proofs.ClaimsResolve.{claimed}
-use Rattle.vx_check_annotate.proofs.FoundDocument.{found-document, is-ready}
+use Rattle.vx_check_annotate.proofs.ClaimsResolve.{claimed, alike-bare}
+use Rattle.vx_check_annotate.proofs.FoundDocument.{IsSaid, found-said, is-ready, root-passes, size-alike}
 use Rattle.vx_check_annotate.proofs.FoundParts.{found-parts}
 use Rattle.vx_check_annotate.proofs.FoundTells.{found-tells}
-use Rattle.vx_check_annotate.proofs.FoundRefused.{unfit-found, several-found}
-
--- ---- refusals
-
--- a node is unfit, or the root has several workers
-pub nothing-unfit : (catalog : ℕ → Relation) (p : Plan) → or_else (first_unfit catalog p) (unfit_root p) ≡ None → (first_unfit catalog p ≡ None) × (is_one (size p) ≡ true)
-nothing-unfit catalog p e = by (first_unfit catalog p) (is_one (size p)) refl refl e
-  where
-    by : (o : Option (ℕ × Rule)) (b : Bool) → first_unfit catalog p ≡ o → is_one (size p) ≡ b → or_else o (cond b None (Some (number p, root_not_one))) ≡ None
-        → (first_unfit catalog p ≡ None) × (is_one (size p) ≡ true)
-    by None true o b e = (o, b)
-    by None false o b e = cc
-    by (Some x) b o s e = cc
-
--- why a document gets no claims
-abbrev pub IsRefused : List Relation → Document → ℕ → Rule → Type 0
-IsRefused catalog d n r =
-    (is_accepted_by_claims catalog d ≡ false) × ((e : Document) × (unclaimed e ≡ unclaimed d) × (refused_by_claims catalog e ≡ Some (n, r)))
-    × (IsWithin catalog d → IsNeverAccepted catalog d × ((r ≡ root_not_one) ⊎ IsNeverSaved catalog d n))
-
-pub refused-found : (catalog : List Relation) (d : Document) (p : TypedPlanView) (n : ℕ) (r : Rule) → IsCatalog catalog → is_tree_form d.root ≡ true → is_head_form d.sizes d.ranges ≡ true → IsHinted catalog d p
-    → or_else (first_unfit (relation_at catalog) (plan_in p.root)) (unfit_root (plan_in p.root)) ≡ Some (n, r) → IsRefused catalog d n r
-refused-found catalog d p n r cat formed head h e = by (first_unfit C P) (is_one (size P)) refl refl e
-  where
-    C : ℕ → Relation
-    C = relation_at catalog
-
-    P : Plan
-    P = plan_in p.root
-
-    by : (o : Option (ℕ × Rule)) (b : Bool) → first_unfit C P ≡ o → is_one (size P) ≡ b → or_else o (cond b None (Some (number P, root_not_one))) ≡ Some (n, r) → IsRefused catalog d n r
-    by None true o b e = cc
-    by None false o b e =
-        let x = several-found catalog d p cat formed head h o b in
-        let found : ℕ × Rule = (number P, root_not_one) in
-        let said : ℕ × Rule = (n, r) in
-        let pair : found ≡ said = cc in
-        let n_is : number P ≡ n = ap (λ y. y.0) pair in
-        let r_is : root_not_one ≡ r = ap (λ y. y.1) pair in
-        let Q : ℕ → Type 0 = λ k. IsRefused catalog d k root_not_one in
-        let R : Rule → Type 0 = λ s. IsRefused catalog d n s in
-        subst R r_is (subst Q n_is (x.0, x.1, λ w. (x.2, inl refl)))
-    by (Some y) b o s e =
-        let is : first_unfit C P ≡ Some (n, r) = o ∙ e in
-        let x = unfit-found catalog d p n r cat formed head h is in
-        (x.0, x.1, λ w. let a = x.2 w in (a.0, inr a.1))
+use Rattle.vx_check_annotate.proofs.FoundRefused.{resolved-bare, not-accepted, accepted-fits, kept-beside, unfit-refused, unfit-unsaved, several-refused, within-of}
+use Rattle.vx_check_annotate.proofs.FirstRows.{found-is-accepted}
+use Rattle.vx_check_annotate.proofs.BareFacts.{typed-bare}
+use Rattle.vx_check_annotate.proofs.KeptRows.{total-kept, unfit-kept, leaves_open, open-is, unfit-first}
+use Rattle.vx_check_annotate.proofs.SavedFacts.{some-is, which}
+use Rattle.vx_check_annotate.proofs.VerdictFacts.{claims_so}
 
 -- ---- claimed keys of a typed plan
 
@@ -108,42 +67,6 @@ typed-names s (exchange n c k m p) h =
     and-both (names_keys (relation_at s.catalog) p) _ (typed-names s p (and-left (typed s p) _ h))
     (output-names s (exchange n c k m p)
     (fourth (is_kind s (types_of (relation_at s.catalog) p) k) (are_columns _ m) (may_merge k m) _ (and-right (typed s p) _ h)))
-
--- ---- the order of the root
-
-front-within : (xs ys : List ℕ) → is_prefix xs ys ≡ true → within xs ys ≡ true
-front-within [] ys h = refl
-front-within (x ∷ xs) [] h = cc
-front-within (x ∷ xs) (y ∷ ys) h =
-    and-both (contains (y ∷ ys) x) (within xs (y ∷ ys)) (or-left (x == y) (contains ys x) (and-left (x == y) (is_prefix xs ys) h))
-    (all-more (contains ys) (contains (y ∷ ys)) xs (λ c e. or-right (c == y) (contains ys c) e) (front-within xs ys (and-right (x == y) (is_prefix xs ys) h)))
-
-keeps-top : (p x : Plan) → Keeps p x → KeepsClaim (claim p) (claim x)
-keeps-top (scan n c r m z) x k = let P : Plan → Type 0 = λ y. KeepsClaim c (claim y) in subst P (sym k.1) k.2
-keeps-top (unary n c op p) x k = let P : Plan → Type 0 = λ y. KeepsClaim c (claim y) in subst P (sym k.2) k.3
-keeps-top (binary n c op p q) x k = let P : Plan → Type 0 = λ y. KeepsClaim c (claim y) in subst P (sym k.3) k.4
-keeps-top (exchange n c kind m p) x k = let P : Plan → Type 0 = λ y. KeepsClaim c (claim y) in subst P (sym k.2) k.3
-
-keys-top : (p x : Plan) → KeepsKeys p x → KeepsKeysOf (claim p) (claim x)
-keys-top (scan n c r m z) x k = k
-keys-top (unary n c op p) x k = let P : Plan → Type 0 = λ y. KeepsKeysOf c (claim y) in subst P (sym k.2) k.3
-keys-top (binary n c op p q) x k = let P : Plan → Type 0 = λ y. KeepsKeysOf c (claim y) in subst P (sym k.3) k.4
-keys-top (exchange n c kind m p) x k = let P : Plan → Type 0 = λ y. KeepsKeysOf c (claim y) in subst P (sym k.2) k.3
-
--- a total order stays one
-total-kept : (catalog : ℕ → Relation) (p x : Plan) → width catalog x ≡ width catalog p → Keeps p x → KeepsKeys p x → is_total_order catalog p ≡ true → is_total_order catalog x ≡ true
-total-kept catalog p x wide k j h = by (covers (claim p).keys (claim p).order) refl h
-  where
-    longer : within (claim p).order (claim x).order ≡ true
-    longer = front-within (claim p).order (claim x).order (keeps-top p x k).1
-
-    by : (b : Bool) → covers (claim p).keys (claim p).order ≡ b → (b || within (numbers_below (width catalog p)) (claim p).order) ≡ true → is_total_order catalog x ≡ true
-    by true e t =
-        or-left (covers (claim x).keys (claim x).order) (within (numbers_below (width catalog x)) (claim x).order)
-        (covers-more (claim x).keys (claim p).order (claim x).order (keys-top p x j (claim p).order e) longer)
-    by false e t =
-        or-right (covers (claim x).keys (claim x).order) (within (numbers_below (width catalog x)) (claim x).order)
-        (rw wide (within-trans (numbers_below (width catalog p)) (claim p).order (claim x).order t longer))
 
 -- ---- documents with claims
 
@@ -185,7 +108,7 @@ found-telling catalog d e p x total cat formed form accepted h is total_is he =
     let total_made : total ≡ e.total = ap (λ y. y.total) made.2 in
     let total_given : p.total ≡ d.total = ap (λ y. y.total) given.2 in
     let stays : d.total ≡ true → e.total ≡ true = λ t.
-    let order = total-kept C P x (claimed-width C P _ _ x claimed_is) kept.0 kept.1 (asked-total (is_one (size P)) p.total (is_total_order C P) ok.1 (total_given ∙ t)) in
+    let order = total-kept C P x kept.0 kept.1 (asked-total (is_one (size P)) p.total (is_total_order C P) ok.1 (total_given ∙ t)) in
     sym total_made ∙ (total_is ∙ (ap (λ c. is_total_order (relation_at c) x) (sym over) ∙ order)) in
     and-both (e.total || not d.total) (tree_tells e.root d.root) (total-tells e.total d.total stays) (subst (λ t. tree_tells t d.root ≡ true) root_made (subst (λ t. tree_tells (tree_by_name p.names (with_claims x p.root)) t ≡ true) root_given tree))
 
@@ -196,18 +119,133 @@ pub record Answered (catalog : List Relation) (d e : Document) : Type 0 where
   pub strongest : TellsTheMost catalog e
 
 pub answered : (catalog : List Relation) (d e : Document) (p : TypedPlanView) (x : Plan) (total : Bool) (forms : List ClaimForm) → IsCatalog catalog → is_tree_form d.root ≡ true → is_head_form d.sizes d.ranges ≡ true
-    → is_tree_form e.root ≡ true → IsHinted catalog d p → or_else (first_unfit (relation_at catalog) (plan_in p.root)) (unfit_root (plan_in p.root)) ≡ None
+    → is_tree_form e.root ≡ true → IsHinted catalog d p
     → IsClaimed (relation_at catalog) (plan_in p.root) (first_part (parts_at (relation_at catalog) (plan_in p.root))) (first_columns (places_at (relation_at catalog) (plan_in p.root))) x
-    → total ≡ is_total_order (relation_at catalog) x → forms ≡ named_forms p.names (claims_of x) p.root → e ≡ with_forms forms total d → Answered catalog d e
-answered catalog d e p x total forms cat formed head form h none is total_is named placed =
-    let fit = nothing-unfit (relation_at catalog) (plan_in p.root) none in
-    let found = found-document catalog d e p x total forms cat formed head h fit.0 fit.1 is named total_is placed in
+    → total ≡ is_total_order (relation_at catalog) x → forms ≡ named_forms p.names (claims_of x) p.root → e ≡ with_forms forms total d → refused_by_claims catalog e ≡ None → Answered catalog d e
+answered catalog d e p x total forms cat formed head form h is total_is named placed none =
+    let C : ℕ → Relation = relation_at catalog in
+    let said = found-said catalog d e p x total forms cat formed head h is named total_is placed in
+    let nothing = none-both (first_refused C x) (refused_at (number x) (root_tests C total x)) (sym said.refused ∙ none) in
     record {
-      accepted = found.accepted;
-      telling = λ acc. by h acc found.resolves;
-      strongest = found.strongest;
+      accepted = claims_so catalog e (claimed x total p) said.resolves ∙ ap is_none (sym (ap refuses_by_claims said.resolves) ∙ none);
+      telling = λ acc. by h acc said.resolves;
+      strongest = said.strongest (none-unfit C (plan_in p.root) x (sym said.fits ∙ nothing.0));
     }
   where
     by : IsHinted catalog d p → is_accepted_by_claims catalog d ≡ true → resolved e catalog ≡ Ok (claimed x total p) → tells e d ≡ true
     by (inl a) acc he = found-telling catalog d e p x total cat formed form acc a.1 is total_is he
     by (inr a) acc he = absurd (true≢false (sym acc ∙ a.0))
+
+-- ---- refusals
+
+-- of an accepted document the claims that are found are not refused
+again-accepted : (catalog : List Relation) (d : Document) (p : TypedPlanView) (x : Plan) (total : Bool) → IsCatalog catalog → is_tree_form d.root ≡ true → is_accepted_by_claims catalog d ≡ true → resolved d catalog ≡ Ok p
+    → IsClaimed (relation_at catalog) (plan_in p.root) (first_part (parts_at (relation_at catalog) (plan_in p.root))) (first_columns (places_at (relation_at catalog) (plan_in p.root))) x
+    → total ≡ is_total_order (relation_at catalog) x → bare x ≡ bare (plan_in p.root) → first_refused (relation_at catalog) x ≡ unfit_in (relation_at catalog) (plan_in p.root) x
+    → refusal (relation_at catalog) total x ≡ None
+again-accepted catalog d p x total cat formed accepted h is total_is same fits =
+    let given = (plans_resolved_exactly.resolves d catalog p cat formed).0 h in
+    let s : Scope = scope_of p.names in
+    let P : Plan = plan_in p.root in
+    let over : p.names.catalog ≡ catalog = given.0 in
+    let ok = (refusal-decides (relation_at p.names.catalog) p.total P).0 (no-failure (refusal_by_claims p) (sym (ap accepts_by_claims h) ∙ accepted)) in
+    let Q : List Relation → Type 0 = λ c. IsClaimed (relation_at c) P (first_part (parts_at (relation_at c) P)) (first_columns (places_at (relation_at c) P)) x in
+    let R : List Relation → Type 0 = λ c. allowed (relation_at c) P ≡ true in
+    let ready = is-ready s P (subst IsCatalog (sym over) cat) given.1.typed.nodes in
+    let kept = claimed-keeps s P _ _ x ready ok.0 (subst Q (sym over) is) in
+    let fit = accepted-fits catalog d p cat formed accepted h in
+    let none = unfit-kept (relation_at catalog) P x (subst R over ok.0) fit.0 kept.0 kept.1 in
+    root-passes (relation_at catalog) total x (fits ∙ none) (ap is_one (size-alike x P same) ∙ fit.1) total_is
+
+-- at the root, where total is said of a total order alone, that it has several workers
+root-fails : (k n : ℕ) (r : Rule) (a b : Bool) → b ≡ true → refused_at k ((a, root_not_one) ∷ (b, total_not_shown) ∷ []) ≡ Some (n, r) → (a ≡ false) × (root_not_one ≡ r)
+root-fails k n r false b t h = (refl, ap (λ (y : ℕ × Rule). y.1) (some-is (k, root_not_one) (n, r) h))
+root-fails k n r true true t h = cc
+root-fails k n r true false t h = cc
+
+-- no answer is not an answer
+some-not : (y : ℕ × Rule) → None ≡ Some y → false ≡ true
+some-not y e = cc
+
+-- with room for all keys no claims are accepted where those that are found are refused
+found-refused : (catalog : List Relation) (d : Document) (p : TypedPlanView) (x : Plan) (y : ℕ × Rule) → IsCatalog catalog → is_tree_form d.root ≡ true → resolved (unclaimed d) catalog ≡ Ok p
+    → IsClaimed (relation_at catalog) (plan_in p.root) (first_part (parts_at (relation_at catalog) (plan_in p.root))) (first_columns (places_at (relation_at catalog) (plan_in p.root))) x
+    → first_refused (relation_at catalog) x ≡ Some y → is_within (relation_at catalog) (plan_in p.root) ≡ true → AtEach HasRoom x → IsNeverAccepted catalog d
+found-refused catalog d p x y cat formed h is refused within room e form same =
+    not-accepted catalog e (λ r he ok top.
+    let made = (plans_resolved_exactly.resolves e catalog r cat form).0 he in
+    let s : Scope = scope_of r.names in
+    let P : Plan = plan_in p.root in
+    let over : r.names.catalog ≡ catalog = made.0 in
+    let kept = kept-beside catalog d e p r cat formed form same he h in
+    let nodes : bare (plan_in r.root) ≡ P = alike-bare catalog d e p r cat form same he h ∙ resolved-bare catalog d p cat formed h in
+    let plain : typed s P ≡ true = subst (λ q. typed s q ≡ true) nodes (typed-bare s (plan_in r.root) made.1.typed.nodes) in
+    let F : List Relation → Type 0 = λ l. IsClaimed (relation_at l) P (first_part (parts_at (relation_at l) P)) (first_columns (places_at (relation_at l) P)) x in
+    let W : List Relation → Type 0 = λ l. is_within (relation_at l) P ≡ true in
+    let ready = is-ready s P (subst IsCatalog (sym over) cat) plain in
+    let none = found-is-accepted s P (plan_in r.root) _ _ x ready kept (inl (subst W (sym over) within)) made.1.typed.nodes ok (subst F (sym over) is) (inl room) in
+    some-not y (sym none ∙ (ap (λ l. first_refused (relation_at l) x) over ∙ refused)))
+
+-- no claims are accepted, and none save the node unless it is a root or a limit
+abbrev pub IsLost : List Relation → Document → ℕ → Rule → Type 0
+IsLost catalog d n r = IsNeverAccepted catalog d × ((r ≡ root_not_one) ⊎ ((r ≡ first_rows_open) ⊎ IsNeverSaved catalog d n))
+
+-- why a document gets no claims
+abbrev pub IsRefused : List Relation → Document → ℕ → Rule → Type 0
+IsRefused catalog d n r =
+    (is_accepted_by_claims catalog d ≡ false) × ((e : Document) × (unclaimed e ≡ unclaimed d) × (refused_by_claims catalog e ≡ Some (n, r))
+    × (IsWithin catalog d → (r ≡ first_rows_open → HasRoomAtEach catalog e) → IsLost catalog d n r))
+
+pub refused-found : (catalog : List Relation) (d e : Document) (p : TypedPlanView) (x : Plan) (total : Bool) (forms : List ClaimForm) (n : ℕ) (r : Rule) → IsCatalog catalog → is_tree_form d.root ≡ true
+    → is_head_form d.sizes d.ranges ≡ true → IsHinted catalog d p
+    → IsClaimed (relation_at catalog) (plan_in p.root) (first_part (parts_at (relation_at catalog) (plan_in p.root))) (first_columns (places_at (relation_at catalog) (plan_in p.root))) x
+    → total ≡ is_total_order (relation_at catalog) x → forms ≡ named_forms p.names (claims_of x) p.root → e ≡ with_forms forms total d → unclaimed e ≡ unclaimed d
+    → refused_by_claims catalog e ≡ Some (n, r) → IsRefused catalog d n r
+refused-found catalog d e p x total forms n r cat formed head h is total_is named placed same refused =
+    (taken h, (e, same, refused, λ w room. by h w room))
+  where
+    C : ℕ → Relation
+    C = relation_at catalog
+
+    P : Plan
+    P = plan_in p.root
+
+    said : IsSaid catalog e p x total
+    said = found-said catalog d e p x total forms cat formed head h is named total_is placed
+
+    bad : refusal C total x ≡ Some (n, r)
+    bad = sym said.refused ∙ refused
+
+    taken : IsHinted catalog d p → is_accepted_by_claims catalog d ≡ false
+    taken (inl a) = absurd (true≢false (sym (some-not (n, r) (sym (again-accepted catalog d p x total cat formed a.0 a.1 is total_is said.same said.fits) ∙ bad))))
+    taken (inr u) = u.0
+
+    either : (b : Bool) → (not b || b) ≡ true
+    either true = refl
+    either false = refl
+
+    room-here : HasRoomAtEach catalog e → AtEach HasRoom x
+    room-here (v, hv, each) =
+        let both : Ok v ≡ Ok (claimed x total p) = sym hv ∙ said.resolves in
+        let made : v ≡ claimed x total p = cc in
+        subst (λ q. AtEach HasRoom q) (ap (λ (v : TypedPlanView). plan_in v.root) made ∙ said.plan) each
+
+    at-node : resolved (unclaimed d) catalog ≡ Ok p → IsWithin catalog d → (r ≡ first_rows_open → HasRoomAtEach catalog e) → first_refused C x ≡ Some (n, r) → (b : Bool) → leaves_open r ≡ b → IsLost catalog d n r
+    at-node u w room first true t =
+        let limits = open-is r t in
+        (found-refused catalog d p x (n, r) cat formed u is first (within-of catalog d p u w) (room-here (room limits)), inr (inl limits))
+    at-node u w room first false t =
+        let within = within-of catalog d p u w in
+        let unfit = unfit-first C P x n r t (sym said.fits ∙ first) in
+        (unfit-refused catalog d p (n, r) cat formed u unfit within, inr (inr (unfit-unsaved catalog d p n r cat formed u unfit within)))
+
+    at-root : resolved (unclaimed d) catalog ≡ Ok p → refused_at (number x) (root_tests C total x) ≡ Some (n, r) → IsLost catalog d n r
+    at-root u h =
+        let several = root-fails (number x) n r (is_one (size x)) (not total || is_total_order C x) (ap (λ b. not total || b) (sym total_is) ∙ either total) h in
+        let more : is_one (size P) ≡ false = ap is_one (sym (size-alike x P said.same)) ∙ several.0 in
+        (several-refused catalog d p cat formed u more, inl (sym several.1))
+
+    by : IsHinted catalog d p → IsWithin catalog d → (r ≡ first_rows_open → HasRoomAtEach catalog e) → IsLost catalog d n r
+    by (inl a) w room = absurd (true≢false (sym a.0 ∙ taken (inl a)))
+    by (inr u) w room =
+        ⊎_elim (λ first. at-node u.1 w room first (leaves_open r) refl) (λ rest. at-root u.1 rest.1) (which (first_refused C x) (refused_at (number x) (root_tests C total x)) (n, r) bad)

@@ -4,7 +4,7 @@ use Rattle.vx_rows_values.specs.declared.value.ColType.{ColType}
 use Rattle.vx_rows_values.proofs.Booleans.{and-left, and-right, and-both}
 use Rattle.vx_catalog_relations.specs.Relation.{Relation}
 use Rattle.vx_catalog_relations.specs.Catalog.{relation_at}
-use Rattle.vx_plan_nodes.specs.Plan.{any, Claim, Aggregate, select, project, distinct, sort, group, plain, partial, final, Unary, Plan, scan, unary, binary, exchange}
+use Rattle.vx_plan_nodes.specs.Plan.{any, Claim, Aggregate, select, project, distinct, sort, group, limit, plain, partial, final, Unary, Plan, scan, unary, binary, exchange}
 use Rattle.vx_plan_nodes.specs.Types.{types_of, unary_types, binary_types}
 use Rattle.vx_plan_nodes.specs.Phases.{unary_open, is_open, unary_opens, opens, phase_fits, both_closed}
 use Rattle.vx_plan_nodes.specs.Typed.{Scope, are_columns, is_size, is_unary, is_binary, is_kind, may_merge, is_claim, is_output, typed}
@@ -52,6 +52,7 @@ fits-bare (sort true cols) p = open-bare p
 fits-bare (group plain by aggregates) p = ap not (open-bare p)
 fits-bare (group partial by aggregates) p = ap not (open-bare p)
 fits-bare (group final by aggregates) p = opens-bare by aggregates p
+fits-bare (limit m) p = ap not (open-bare p)
 
 output-bare : (s : Scope) (types : List ColType) (c : Claim) → is_output s types c ≡ true → is_output s types (keyless any []) ≡ true
 output-bare s types c h = and-both (nat_le (length types) 64) true (and-left (nat_le (length types) 64) (is_claim s types c) h) refl

@@ -15,7 +15,7 @@ use Rattle.vx_plan_nodes.specs.Names.{Names}
 use Rattle.vx_plan_json.specs.Document.{ClaimForm, Tree, tree_nodes, Document}
 use Rattle.vx_plan_json.specs.Document as form
 use Rattle.vx_plan.specs.ByName.{names_at, top_by_name, unary_by_name, binary_by_name, kind_by_name, tree_by_name}
-use Rattle.vx_plan.specs.Exact.{UnaryNames, binary_names, AreNamed}
+use Rattle.vx_plan.specs.Exact.{UnaryNames, binary_names, has_first_columns, AreNamed}
 use Rattle.vx_check_options.specs.Placed.{bare}
 use Rattle.vx_check_annotate.specs.Unclaimed.{no_claim, without_claims, unclaimed}
 use Rattle.vx_check_annotate.specs.Claimed.{with_claims, forms_of, first_form, later_forms, tree_with, with_forms}
@@ -81,7 +81,9 @@ named-claimed catalog (plan.unary n c op p) (unary h operator renamed t) a =
 named-claimed catalog (plan.binary n c op p q) (binary h operator t u) a =
     let same : binary_names operator (columns t).names (columns u).names ≡ binary_names operator (columns (with_claims p t)).names (columns (with_claims q u)).names =
     sym (λ i. binary_names operator (columns-claimed p t i).names (columns-claimed q u i).names) in
-    (a.0 ∙ same, a.1, named-claimed catalog p t a.2, named-claimed catalog q u a.3)
+    let first : has_first_columns operator (columns (with_claims p t)).names (columns (with_claims q u)).names ≡ has_first_columns operator (columns t).names (columns u).names =
+    λ i. has_first_columns operator (columns-claimed p t i).names (columns-claimed q u i).names in
+    (a.0 ∙ same, a.1, named-claimed catalog p t a.2, named-claimed catalog q u a.3, first ∙ a.4)
 named-claimed catalog (plan.exchange n c k m p) (exchange h kind merge t) a = (a.0 ∙ sym (ap (λ (cols : Columns). cols.names) (columns-claimed p t)), a.1, named-claimed catalog p t a.2)
 named-claimed catalog q o a = a
 

@@ -163,10 +163,12 @@ unary-some names output types (plan.group plan.plain by aggregates) renamed h n 
 unary-some names output types (plan.group plan.partial by aggregates) renamed h n l f = group-some names output by aggregates types n.1 l
     (and-right (is_some_list (names_at names by) || is_some_list (aggregates_by_name names aggregates (drop (length by) output))) (are_names (names_at names by) && list_all is_aggregate_form (aggregates_by_name names aggregates (drop (length by) output))) f)
 unary-some names output types (plan.group plan.final by aggregates) renamed h n l f = ap are_names n.1 ∙ h
+unary-some names output types (plan.limit m) renamed h n l f = ap are_names n.1 ∙ h
 
 binary-some : (left right : List Name) (op : Binary) → are_names left ≡ true → are_names right ≡ true → are_names (binary_names op left right) ≡ true
 binary-some left right plan.union l r = l
 binary-some left right (plan.join merging on) l r = list_all-append is_some_list left right ∙ and-both (are_names left) (are_names right) l r
+binary-some left right (plan.semi_join matched on conditions) l r = l
 
 -- ---- nodes
 

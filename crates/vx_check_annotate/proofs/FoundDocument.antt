@@ -1,5 +1,5 @@
--- The document with the claims that are found is accepted, and its claims tell the most.
-use Rattle.std.proofs.Common.{◌≡◌, ℕ, Bool, true, false, not, ◌&&◌, ◌||◌, List, [], ◌∷◌, None, is_none, Ok, inl, inr, refl, sym, ap, ◌∙◌, subst}
+-- The document with the claims that are found is refused where no claims fit, or where they leave the first rows of a limit open; else its claims tell the most.
+use Rattle.std.proofs.Common.{◌≡◌, ℕ, Bool, true, false, not, ◌&&◌, ◌||◌, ◌⊎◌, List, [], ◌∷◌, None, Ok, inl, inr, refl, sym, ap, ◌∙◌, subst}
 use Rattle.std.specs.List.{list_any}
 use Rattle.std.proofs.lemmas.List.{append-nil}
 use Rattle.vx_catalog_relations.specs.Relation.{Relation}
@@ -18,7 +18,7 @@ use Rattle.vx_check_rules.specs.Refusal.{root_not_one, total_not_shown, root_tes
 use Rattle.vx_check_options.specs.Options.{same_part, parts_at, places_at, first_unfit}
 use Rattle.vx_check_options.specs.Placed.{first_columns, first_part, bare}
 use Rattle.vx_check_options.specs.Laws.{is_option, IsStrongest, AtEach}
-use Rattle.vx_check_options.specs.Claimed.{IsClaimed, IsReady, HasAllKeys}
+use Rattle.vx_check_options.specs.Claimed.{IsClaimed, IsReady, HasAllKeys, unfit_in}
 use Rattle.vx_check_options.proofs.Telling.{gives-self}
 use Rattle.vx_check_options.proofs.ChosenOrders.{first-columns-chosen}
 use Rattle.vx_check_options.proofs.PlacedKeeps.{places-filled}
@@ -27,13 +27,13 @@ use Rattle.vx_check_options.proofs.ClaimedIsFit.{claimed-is-fit}
 use Rattle.vx_check_options.proofs.ClaimedIsStrongest.{claimed-is-strongest}
 use Rattle.vx_check_annotate.specs.Unclaimed.{unclaimed}
 use Rattle.vx_check_annotate.specs.Claimed.{claims_of, with_claims, forms_of, with_forms, named_forms}
-use Rattle.vx_check_annotate.specs.Verdict.{is_accepted_by_claims}
+use Rattle.vx_check_annotate.specs.Verdict.{refuses_by_claims, refused_by_claims}
 use Rattle.vx_check_annotate.specs.Hinted.{IsHinted}
 use Rattle.vx_check_annotate.specs.Strongest.{TellsTheMost}
 use Rattle.vx_check_annotate.proofs.TreeFacts.{form_without}
 use Rattle.vx_check_annotate.proofs.NamedFacts.{named-are}
 use Rattle.vx_check_annotate.proofs.ClaimsResolve.{claimed, claims-resolve, written-resolves}
-use Rattle.vx_check_annotate.proofs.VerdictFacts.{claims_so}
+use Rattle.vx_check_annotate.proofs.FoundRefused.{resolved-bare, accepted-fits}
 
 -- ---- the first part and the first columns
 
@@ -80,7 +80,7 @@ pub size-alike : (p q : Plan) → bare p ≡ bare q → size p ≡ size q
 size-alike p q e = sym (size-bare p) ∙ (ap size e ∙ size-bare q)
 
 -- the root's tests pass on one worker, where total is said of a total order alone
-root-passes : (catalog : ℕ → Relation) (total : Bool) (x : Plan) → first_refused catalog x ≡ None → is_one (size x) ≡ true → total ≡ is_total_order catalog x → refusal catalog total x ≡ None
+pub root-passes : (catalog : ℕ → Relation) (total : Bool) (x : Plan) → first_refused catalog x ≡ None → is_one (size x) ≡ true → total ≡ is_total_order catalog x → refusal catalog total x ≡ None
 root-passes catalog total x fit alone is =
     ap (λ o. or_else o (refused_at (number x) (root_tests catalog total x))) fit
     ∙ (ap (λ b. refused_at (number x) ((b, root_not_one) ∷ (not total || is_total_order catalog x, total_not_shown) ∷ [])) alone
@@ -92,53 +92,54 @@ root-passes catalog total x fit alone is =
 
 -- ---- the document
 
--- what is known of the document with the claims that are found
-pub record IsFound (catalog : List Relation) (e : Document) (p : TypedPlanView) (x : Plan) (total : Bool) : Type 0 where
+-- what is known of the document with the claims that are found: it resolves to the typed plan with them, is refused where they are, and where no node is unfit, they tell the
+-- most
+pub record IsSaid (catalog : List Relation) (e : Document) (p : TypedPlanView) (x : Plan) (total : Bool) : Type 0 where
   pub resolves : resolved e catalog ≡ Ok (claimed x total p)
   pub plan : plan_in (with_claims x p.root) ≡ x
-  pub accepted : is_accepted_by_claims catalog e ≡ true
-  pub strongest : TellsTheMost catalog e
+  pub same : bare x ≡ bare (plan_in p.root)
+  pub fits : first_refused (relation_at catalog) x ≡ unfit_in (relation_at catalog) (plan_in p.root) x
+  pub refused : refused_by_claims catalog e ≡ refusal (relation_at catalog) total x
+  pub strongest : first_unfit (relation_at catalog) (plan_in p.root) ≡ None → TellsTheMost catalog e
 
--- over the catalog of the typed plan: what a plan with claims resolves to is accepted, and tells the most
-found-tells : (catalog : List Relation) (e : Document) (p : TypedPlanView) (x : Plan) (total : Bool) → resolved e catalog ≡ Ok (claimed x total p) → plan_in (with_claims x p.root) ≡ x
-    → p.names.catalog ≡ catalog → first_refused (relation_at catalog) x ≡ None → is_one (size x) ≡ true → total ≡ is_total_order (relation_at catalog) x
-    → AtEach (IsStrongest (relation_at catalog)) x → AtEach (HasAllKeys (relation_at catalog)) x → IsFound catalog e p x total
-found-tells catalog e p x total resolves plan same fit alone is strongest keys =
-    let C : ℕ → Relation = relation_at catalog in
-    let none : refusal (relation_at p.names.catalog) total (plan_in (with_claims x p.root)) ≡ None =
-    ap (λ l. refusal (relation_at l) total (plan_in (with_claims x p.root))) same ∙ (ap (refusal C total) plan ∙ root-passes C total x fit alone is) in
-    record {
-      resolves = resolves;
-      plan = plan;
-      accepted = claims_so catalog e (claimed x total p) resolves ∙ ap is_none none;
-      strongest = (
-        claimed x total p,
-        resolves,
-        subst (λ y. AtEach (IsStrongest C) y) (sym plan) strongest,
-        subst (λ y. AtEach (HasAllKeys C) y) (sym plan) keys,
-        is ∙ ap (is_total_order C) (sym plan),
-      );
-    }
+-- the plan that is kept has no claims, or no unfit node
+hinted-fits : (catalog : List Relation) (d : Document) (p : TypedPlanView) → IsCatalog catalog → is_tree_form d.root ≡ true → IsHinted catalog d p
+    → (bare (plan_in p.root) ≡ plan_in p.root) ⊎ (first_unfit (relation_at catalog) (plan_in p.root) ≡ None)
+hinted-fits catalog d p cat formed (inl a) = inr (accepted-fits catalog d p cat formed a.0 a.1).0
+hinted-fits catalog d p cat formed (inr u) = inl (resolved-bare catalog d p cat formed u.1)
 
--- the document with the claims that are placed under the first part and the first columns, and their keys, is accepted and tells the most
-pub found-document : (catalog : List Relation) (d e : Document) (p : TypedPlanView) (x : Plan) (total : Bool) (forms : List ClaimForm) → IsCatalog catalog → is_tree_form d.root ≡ true → is_head_form d.sizes d.ranges ≡ true
-    → IsHinted catalog d p → first_unfit (relation_at catalog) (plan_in p.root) ≡ None → is_one (size (plan_in p.root)) ≡ true
+-- of the document with the claims that are placed under the first part and the first columns, and their keys
+pub found-said : (catalog : List Relation) (d e : Document) (p : TypedPlanView) (x : Plan) (total : Bool) (forms : List ClaimForm) → IsCatalog catalog → is_tree_form d.root ≡ true → is_head_form d.sizes d.ranges ≡ true
+    → IsHinted catalog d p
     → IsClaimed (relation_at catalog) (plan_in p.root) (first_part (parts_at (relation_at catalog) (plan_in p.root))) (first_columns (places_at (relation_at catalog) (plan_in p.root))) x
-    → forms ≡ named_forms p.names (claims_of x) p.root → total ≡ is_total_order (relation_at catalog) x → e ≡ with_forms forms total d → IsFound catalog e p x total
-found-document catalog d e p x total forms cat formed head hinted unfit alone found named is says =
+    → forms ≡ named_forms p.names (claims_of x) p.root → total ≡ is_total_order (relation_at catalog) x → e ≡ with_forms forms total d → IsSaid catalog e p x total
+found-said catalog d e p x total forms cat formed head hinted found named is says =
     let known = hinted-named catalog d p cat formed hinted in
     let same : p.names.catalog ≡ catalog = known.0 in
     let s : Scope = scope_of p.names in
+    let C : ℕ → Relation = relation_at catalog in
     let P : Plan = plan_in p.root in
     let q : Part = first_part (parts_at (relation_at s.catalog) P) in
     let order : List ℕ = first_columns (places_at (relation_at s.catalog) P) in
-    let fits : first_unfit (relation_at s.catalog) P ≡ None = ap (λ l. first_unfit (relation_at l) P) same ∙ unfit in
     let F : List Relation → Type 0 = λ l. IsClaimed (relation_at l) P (first_part (parts_at (relation_at l) P)) (first_columns (places_at (relation_at l) P)) x in
+    let G : List Relation → Type 0 = λ l. (bare P ≡ P) ⊎ (first_unfit (relation_at l) P ≡ None) in
+    let H : List Relation → Type 0 = λ l. first_refused (relation_at l) x ≡ unfit_in (relation_at l) P x in
     let here : IsClaimed (relation_at s.catalog) P q order x = subst F (sym same) found in
     let ready = is-ready s P (subst IsCatalog (sym same) cat) known.1.typed.nodes in
     let ok = claimed-is-typed s P q order x ready here in
-    let most = claimed-is-strongest s P q order x ready fits here in
     let r = hinted-resolves catalog d e p x total forms cat formed head hinted ok.1 ok.0 named says in
-    let fit : first_refused (relation_at s.catalog) x ≡ None = claimed-is-fit s P q order x ready (inr fits) here ∙ fits in
-    found-tells catalog e p x total r.0 r.1 same (ap (λ l. first_refused (relation_at l) x) (sym same) ∙ fit) (ap is_one (size-alike x P ok.1) ∙ alone) is
-    (subst (λ l. AtEach (IsStrongest (relation_at l)) x) same most.0) (subst (λ l. AtEach (HasAllKeys (relation_at l)) x) same most.1)
+    record {
+      resolves = r.0;
+      plan = r.1;
+      same = ok.1;
+      fits = subst H same (claimed-is-fit s P q order x ready (subst G (sym same) (hinted-fits catalog d p cat formed hinted)) here);
+      refused = ap refuses_by_claims r.0 ∙ (ap (λ l. refusal (relation_at l) total (plan_in (with_claims x p.root))) same ∙ ap (refusal C total) r.1);
+      strongest = λ unfit.
+          let most = claimed-is-strongest s P q order x ready (ap (λ l. first_unfit (relation_at l) P) same ∙ unfit) here in (
+            claimed x total p,
+            r.0,
+            subst (λ y. AtEach (IsStrongest C) y) (sym r.1) (subst (λ l. AtEach (IsStrongest (relation_at l)) x) same most.0),
+            subst (λ y. AtEach (HasAllKeys C) y) (sym r.1) (subst (λ l. AtEach (HasAllKeys (relation_at l)) x) same most.1),
+            is ∙ ap (is_total_order C) (sym r.1),
+          );
+    }

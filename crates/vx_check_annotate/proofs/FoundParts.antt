@@ -6,7 +6,7 @@ use Rattle.vx_catalog_relations.specs.Relation.{Relation}
 use Rattle.vx_catalog_relations.specs.Catalog.{relation_at}
 use Rattle.vx_plan_nodes.specs.Plan.{Part, one, any, all, routed, Claim, Plan, scan, unary, binary, exchange, claim, size, is_one}
 use Rattle.vx_plan_nodes.specs.Typed.{Scope, typed}
-use Rattle.vx_check_rules.specs.Rules.{part_gives, sizes_match, not_replicated, inputs_match, order_given, unless_one, shows, part_shown, allowed_here, allowed}
+use Rattle.vx_check_rules.specs.Rules.{part_gives, sizes_match, not_replicated, inputs_match, order_given, first_rows_known, unless_one, shows, part_shown, allowed_here, allowed}
 use Rattle.vx_check_rules.proofs.Bools.{or-false}
 use Rattle.vx_check_options.specs.Options.{same_part, told_parts, no_input, parts_at}
 use Rattle.vx_check_options.specs.Laws.{keeps_part, Keeps, is_told, is_option}
@@ -75,7 +75,8 @@ lone false f c h e = subst (λ x. unless_one f x ≡ true) e h
 shown-alone : (catalog : ℕ → Relation) (p : Plan) → allowed_here catalog p ≡ true → (claim p).part ≡ one → is_one (size p) ≡ true
 shown-alone catalog p h e =
     lone (is_one (size p)) (shows catalog p) (claim p).part
-    (and-left (part_shown catalog p) _ (and-right (order_given p) _ (and-right (inputs_match p) _ (and-right (not_replicated p) _ (and-right (sizes_match p) _ h))))) e
+    (and-left (part_shown catalog p) _
+    (and-right (first_rows_known catalog p) _ (and-right (order_given p) _ (and-right (inputs_match p) _ (and-right (not_replicated p) _ (and-right (sizes_match p) _ h)))))) e
 
 -- at a node of an accepted plan
 part-here : (s : Scope) (p : Plan) (q : Part) → typed s p ≡ true → allowed (relation_at s.catalog) p ≡ true → allowed_here (relation_at s.catalog) p ≡ true

@@ -43,7 +43,7 @@ apart i k m l h g = grind (arith, nat_tests, and-right (nat_le i k) (nat_lt k (i
 -- ---- where a node is found
 
 -- equal answers say the same
-some-is : (y z : ℕ × Rule) → Some y ≡ Some z → y ≡ z
+pub some-is : (y z : ℕ × Rule) → Some y ≡ Some z → y ≡ z
 some-is y z e = cc
 
 -- the node itself
@@ -52,7 +52,7 @@ found-here n k r None e = cc
 found-here n k r (Some x) e = let same : n ≡ k = ap (λ (y : ℕ × Rule). y.0) (some-is (n, x) (k, r) e) in ap (λ k. n == k) (sym same) ∙ eq-eqb n n refl
 
 -- the first of two answers, or the second where there is no first one
-which : (o u : Option (ℕ × Rule)) (x : ℕ × Rule) → or_else o u ≡ Some x → (o ≡ Some x) ⊎ ((o ≡ None) × (u ≡ Some x))
+pub which : (o u : Option (ℕ × Rule)) (x : ℕ × Rule) → or_else o u ≡ Some x → (o ≡ Some x) ⊎ ((o ≡ None) × (u ≡ Some x))
 which None u x e = inr (refl, e)
 which (Some y) u x e = inl e
 

@@ -14,7 +14,7 @@ use Rattle.vx_check_rules.specs.Refusal.{Rule, refusal}
 use Rattle.vx_check_rules.specs.Tables.{refusal_by}
 use Rattle.vx_check_rules.proofs.Refusals.{refusal-decides, refusal-decides-by}
 use Rattle.vx_check_rules.proofs.DerivedMore.{nodes-more, root-more}
-use Rattle.vx_check_annotate.specs.Verdict.{refusal_in, accepts, is_accepted, refusal_by_claims, accepts_by_claims, is_accepted_by_claims}
+use Rattle.vx_check_annotate.specs.Verdict.{refusal_in, accepts, is_accepted, refuses, refused, refusal_by_claims, accepts_by_claims, is_accepted_by_claims, refuses_by_claims, refused_by_claims}
 
 pub accepted_so : (catalog : List Relation) (d : Document) (p : TypedPlanView) → resolved d catalog ≡ Ok p → is_accepted catalog d ≡ is_none (refusal_in p)
 accepted_so catalog d p h = ap accepts h
@@ -59,6 +59,17 @@ plainly catalog d cat formed plain = by (resolved d catalog) refl
         let is = (plans_resolved_exactly.resolves d catalog p cat formed).0 h in
         let same : p.derives ≡ false = ap (λ (e : Document). e.derives) is.2 ∙ plain in
         ap (λ b. is_none (refusal_by b (relation_at p.names.catalog) p.total (plan_in p.root))) same
+    by (Err e) h = refl
+
+-- and refused where claims alone refuse it
+pub refused-plainly : (catalog : List Relation) (d : Document) → IsCatalog catalog → is_tree_form d.root ≡ true → d.derives ≡ false → refused catalog d ≡ refused_by_claims catalog d
+refused-plainly catalog d cat formed plain = by (resolved d catalog) refl
+  where
+    by : (o : Result TypedPlanView Refusal) → resolved d catalog ≡ o → refuses o ≡ refuses_by_claims o
+    by (Ok p) h =
+        let is = (plans_resolved_exactly.resolves d catalog p cat formed).0 h in
+        let same : p.derives ≡ false = ap (λ (e : Document). e.derives) is.2 ∙ plain in
+        ap (λ b. refusal_by b (relation_at p.names.catalog) p.total (plan_in p.root)) same
     by (Err e) h = refl
 
 -- of a document that is not accepted if it asks for that, both tables answer the same

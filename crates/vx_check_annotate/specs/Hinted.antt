@@ -1,11 +1,9 @@
 -- The typed plan whose claims are kept.
-use Rattle.std.specs.Prelude.{ℕ, ◌≡◌, ◌⊎◌, List, true, false, cond, Option, Some, None, Ok}
+use Rattle.std.specs.Prelude.{◌≡◌, ◌⊎◌, List, true, false, Ok}
 use Rattle.vx_catalog_relations.specs.Relation.{Relation}
-use Rattle.vx_plan_nodes.specs.Plan.{Plan, number, size, is_one}
 use Rattle.vx_plan_nodes.specs.Names.{TypedPlanView}
 use Rattle.vx_plan_json.specs.Document.{Document}
 use Rattle.vx_plan.specs.Resolve.{resolved}
-use Rattle.vx_check_rules.specs.Refusal.{Rule, root_not_one}
 use Rattle.vx_check_annotate.specs.Unclaimed.{unclaimed}
 use Rattle.vx_check_annotate.specs.Verdict.{is_accepted_by_claims}
 
@@ -13,7 +11,3 @@ use Rattle.vx_check_annotate.specs.Verdict.{is_accepted_by_claims}
 abbrev pub IsHinted : List Relation → Document → TypedPlanView → Type 0
 IsHinted catalog d p =
     ((is_accepted_by_claims catalog d ≡ true) × (resolved d catalog ≡ Ok p)) ⊎ ((is_accepted_by_claims catalog d ≡ false) × (resolved (unclaimed d) catalog ≡ Ok p))
-
--- the root, if it has several workers
-abbrev pub unfit_root : Plan → Option (ℕ × Rule)
-unfit_root p = cond (is_one (size p)) None (Some (number p, root_not_one))

@@ -8,3 +8,4 @@ pub mod Saved
 pub mod Hinted
 pub mod Deriving
 pub mod Asking
+pub mod Accepted

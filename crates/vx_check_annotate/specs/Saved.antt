@@ -10,6 +10,8 @@ use Rattle.vx_plan_json.specs.Formed.{is_tree_form}
 use Rattle.vx_plan.specs.Resolve.{resolved}
 use Rattle.vx_check_rules.specs.Rules.{allowed}
 use Rattle.vx_check_options.specs.Options.{is_within}
+use Rattle.vx_check_options.specs.Laws.{AtEach}
+use Rattle.vx_check_annotate.specs.Accepted.{HasRoom}
 use Rattle.vx_check_annotate.specs.Unclaimed.{unclaimed}
 use Rattle.vx_check_annotate.specs.Verdict.{is_accepted_by_claims}
 
@@ -23,6 +25,10 @@ is_saved catalog k (exchange n c kind m p) = cond (n == k) (allowed catalog (exc
 -- no bound cuts off a part that a node of the document could claim
 abbrev pub IsWithin : List Relation → Document → Type 0
 IsWithin catalog d = (p : TypedPlanView) × (resolved (unclaimed d) catalog ≡ Ok p) × (is_within (relation_at catalog) (plan_in p.root) ≡ true)
+
+-- at each node of the plan that the document resolves to fewer than 16 keys are claimed, so that none was left out
+abbrev pub HasRoomAtEach : List Relation → Document → Type 0
+HasRoomAtEach catalog e = (p : TypedPlanView) × (resolved e catalog ≡ Ok p) × AtEach HasRoom (plan_in p.root)
 
 -- whatever a document with these nodes claims, it is not accepted by claims alone
 abbrev pub IsNeverAccepted : List Relation → Document → Type 0

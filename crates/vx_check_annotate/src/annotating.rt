@@ -1,35 +1,29 @@
 //! A plan with the claims that the rule table shows.
 
-ghost use Rattle.std.specs.Prelude.{◌≡◌, ◌⊎◌, true, false, option_map, IfOk, IfErr};
-ghost use Rattle.vx_catalog_relations.specs.Catalog.{relation_at};
-ghost use Rattle.vx_plan_nodes.specs.Outline.{plan_of};
-ghost use Rattle.vx_plan_nodes.specs.TypedView.{resolved_of, plan, scope};
+ghost use Rattle.std.specs.Prelude.{◌≡◌, ◌⊎◌, true, false, IfOk, IfErr};
+ghost use Rattle.vx_plan_nodes.specs.TypedView.{resolved_of};
 ghost use Rattle.vx_plan_json.specs.Fault.{Fails};
 ghost use Rattle.vx_plan_json.specs.PlanView.{document_of};
-ghost use Rattle.vx_check_rules.specs.Refusal.{or_else};
-ghost use Rattle.vx_check_rules.specs.RuleView.{refusal_of};
-ghost use Rattle.vx_check_options.specs.Options.{first_unfit};
 ghost use Rattle.vx_plan.specs.Resolve.{resolved};
 ghost use Rattle.vx_check_annotate.specs.Unclaimed.{unclaimed};
 ghost use Rattle.vx_check_annotate.specs.Verdict.{is_accepted, is_accepted_by_claims};
 ghost use Rattle.vx_check_annotate.specs.Telling.{tells, TellsDerived};
-ghost use Rattle.vx_check_annotate.specs.Hinted.{IsHinted, unfit_root};
+ghost use Rattle.vx_check_annotate.specs.Hinted.{IsHinted};
 ghost use Rattle.vx_check_annotate.specs.Strongest.{TellsTheMost, TellsTheMostDerived};
 ghost use Rattle.vx_check_annotate.specs.Fault.{IsReason};
 
 use crate::fault::AnnotateFault;
-use crate::found_plan::{Judged, derived};
+use crate::found_plan::{Judged, derived, judge};
 use crate::keeping::{accepted_plan, claims_as_much, restored};
 use crate::naming::Naming;
 use crate::rewriting::claimed_plan;
 use crate::verdict::{is_accepted, is_accepted_by_claims};
 use std::alloc::{AllocError, Global};
 use vx_catalog_relations::Catalog;
-use vx_check_options::{first_unfit, found_claims};
-use vx_check_rules::{Rule, has_one_worker};
+use vx_check_options::found_claims;
 use vx_plan::resolve;
 use vx_plan_json::{Plan, PlanFault};
-use vx_plan_nodes::{TypedNode, TypedPlan};
+use vx_plan_nodes::TypedPlan;
 
 // The plan whose claims are kept, and its typed plan: the plan as it is, if it is accepted by claims alone, else without
 // its claims.
@@ -48,48 +42,28 @@ fn hinted(alloc: Global, catalog: &Catalog, plan: Plan) -> Result<(TypedPlan, Pl
     Ok((typed, bare))
 }
 
-// The root, if it has several workers.
-fn unfit_root(root: &TypedNode) -> Option<(u32, Rule)>
-    ensures { option_map refusal_of result ≡ unfit_root (plan_of root.now) }
-{
-    if has_one_worker(root) {
-        return None;
-    }
-    Some((root.head().number, Rule::RootNotOne))
-}
-
-// The first node that no claims can save, or the root if it has several workers.
-fn unfit(alloc: Global, typed: &TypedPlan) -> Result<Option<(u32, Rule)>, AllocError>
-    ensures { IfOk result (λ o. option_map refusal_of o ≡ or_else (first_unfit (relation_at (scope typed.now).catalog) (plan typed.now)) (unfit_root (plan typed.now))) }
-{
-    let root = typed.root();
-    match first_unfit(alloc, typed.catalog(), root)? {
-        Some(unfit) => Ok(Some(unfit)),
-        None => Ok(unfit_root(root)),
-    }
-}
-
-// The plan with its claims, and whether it is total, replaced by what the table of claims alone shows, where the plan is
-// not accepted if it asks for what is known of its columns.
+// The plan with its claims, and whether it is total, replaced by what the table of claims alone shows.
 fn annotated_by_claims(alloc: Global, catalog: &Catalog, plan: Plan) -> Result<Plan, AnnotateFault>
-    requires { (document_of plan).derives ≡ true → is_accepted catalog.now (document_of plan) ≡ false }
+    requires { (document_of plan).derives ≡ false }
     ensures same { IfOk result (λ p. unclaimed (document_of p) ≡ unclaimed (document_of plan)) }
     ensures accepted { IfOk result (λ p. is_accepted_by_claims catalog.now (document_of p) ≡ true) }
     ensures telling { is_accepted_by_claims catalog.now (document_of plan) ≡ true → IfOk result (λ p. tells (document_of p) (document_of plan) ≡ true) }
     ensures strongest { IfOk result (λ p. TellsTheMost catalog.now (document_of p)) }
-    ensures refused { (document_of plan).derives ≡ false → IfErr result (λ e. IsReason catalog.now (document_of plan) e) }
+    ensures refused { IfErr result (λ e. IsReason catalog.now (document_of plan) e) }
 {
     let _relations = catalog.len();
     let (typed, kept) = hinted(alloc, catalog, plan)?;
-    if let Some((node, rule)) = unfit(alloc, &typed)? {
-        return Err(AnnotateFault::Rule { node, rule });
-    }
     let (claims, is_total) = found_claims(alloc, typed.catalog(), typed.root())?;
     let naming = Naming {
         ranges: typed.ranges(),
     };
     let named = naming.named_claims(alloc, claims, typed.root())?;
-    Ok(claimed_plan(alloc, named, is_total, kept))
+    let found = claimed_plan(alloc, named, is_total, kept);
+    let Judged { plan, refusal } = judge(alloc, catalog, found)?;
+    match refusal {
+        None => Ok(plan),
+        Some((node, rule)) => Err(AnnotateFault::Rule { node, rule }),
+    }
 }
 
 // The plan with the claims that the second table shows, where it is not accepted with its own.
@@ -147,7 +121,7 @@ fn annotated_by_facts(alloc: Global, catalog: &Catalog, plan: Plan) -> Result<Pl
 ///
 /// A plan that is judged by claims alone gets what the table of claims shows: parts with which the operators above them fit, and
 /// the first 16 keys. What it claims is kept, if it is accepted: each of its claims is told by the new one. It is refused at the
-/// first node that no claims can save.
+/// first node that no claims can save, or that is a limit whose first rows those claims leave open.
 ///
 /// A plan that asks for what is known of its columns gets what the table of columns shows, over the inputs' claims, also by
 /// equal columns and by what is determined. If it is accepted, and those claims are not or do not tell all that it claims, it

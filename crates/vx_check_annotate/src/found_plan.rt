@@ -2,6 +2,7 @@
 
 ghost use Rattle.std.specs.Prelude.{◌≡◌, true, Ok, option_map, IfOk, IfErr};
 ghost use Rattle.vx_plan_nodes.specs.Plan as nodes;
+ghost use Rattle.vx_plan_nodes.specs.Names.{TypedPlanView};
 ghost use Rattle.vx_plan_nodes.specs.TypedView.{resolved_of};
 ghost use Rattle.vx_plan_json.specs.Document.{Document};
 ghost use Rattle.vx_plan_json.specs.Fault.{Fails};
@@ -122,11 +123,26 @@ fn refusal(alloc: Global, typed: TypedPlan) -> Result<Option<(u32, Rule)>, Alloc
     }
 }
 
-/// A plan with the claims that tell the most, and what the checker refuses of it, if anything.
+/// A plan with claims that were found, and what the checker refuses of it, if anything.
 #[derive(Drop)]
 pub struct Judged {
     pub plan: Plan,
     pub refusal: Option<(u32, Rule)>,
+}
+
+/// What the checker refuses of a plan that fits the catalog, if anything.
+pub fn judge(alloc: Global, catalog: &Catalog, plan: Plan) -> Result<Judged, AllocError>
+    requires { (p : TypedPlanView) × (resolved (document_of plan) catalog.now ≡ Ok p) }
+    ensures plan { IfOk result (λ r. document_of r.plan ≡ document_of plan) }
+    ensures refusal { IfOk result (λ r. option_map refusal_of r.refusal ≡ refused catalog.now (document_of plan)) }
+{
+    match resolve(alloc, &plan, catalog) {
+        Ok(typed) => {
+            let refusal = refusal(alloc, typed)?;
+            Ok(Judged { plan, refusal })
+        }
+        Err(_) => Err(AllocError),
+    }
 }
 
 /// The plan with its claims, and whether it is total, replaced by what the second rule table shows, whether or not the table

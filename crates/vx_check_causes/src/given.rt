@@ -47,6 +47,7 @@ pub fn goes_away(is_total: bool, claim: &Claim, rule: Rule, node: &TypedNode) ->
         | Rule::RootNotOne
         | Rule::InputsNotMatched
         | Rule::ReplicatedInput
-        | Rule::OrderNeeded => true,
+        | Rule::OrderNeeded
+        | Rule::FirstRowsOpen => true,
     }
 }

@@ -7,12 +7,12 @@ use Rattle.std.proofs.lemmas.List.{append-nil}
 use Rattle.vx_rows_values.proofs.Booleans.{and-left, and-right, and-both}
 use Rattle.vx_catalog_relations.specs.Relation.{Relation}
 use Rattle.vx_catalog_relations.specs.Catalog.{all_below}
-use Rattle.vx_plan_nodes.specs.Plan.{Claim, Unary, select, project, distinct, sort, group, plain, partial, final, Binary, union, join, Plan, scan, unary, binary, exchange, claim}
+use Rattle.vx_plan_nodes.specs.Plan.{Claim, Unary, select, project, distinct, sort, group, limit, plain, partial, final, Binary, union, join, semi_join, Plan, scan, unary, binary, exchange, claim}
 use Rattle.vx_plan_nodes.specs.Phases.{first_columns, columns_from}
 use Rattle.vx_plan_nodes.specs.Types.{width}
-use Rattle.vx_plan_nodes.specs.Describe.{Copying, whole_rows, columns_kept, right_of, place}
+use Rattle.vx_plan_nodes.specs.Describe.{Copying, whole_rows, columns_kept, right_of, place, key_of_first, keys_kept}
 use Rattle.vx_check_rules.specs.Rules.{cons_both, covers}
-use Rattle.vx_check_rules.specs.Behaviour.{Keyed, places, kept_keys, first_pair, keys_up, keyed_held, behaviour, node_keys}
+use Rattle.vx_check_rules.specs.Behaviour.{Keyed, places, kept_keys, first_pair, keys_up, keyed_after, keyed_held, behaviour, node_keys}
 use Rattle.vx_check_rules.proofs.Carrying.{kept-whole}
 
 -- ---- places
@@ -119,6 +119,11 @@ unary-below catalog n c (distinct cols) p h = first-below (length cols) (length 
 unary-below catalog n c (group plain by aggregates) p h = first-below (length by) (length by + length aggregates) (omega arith)
 unary-below catalog n c (group partial by aggregates) p h = refl
 unary-below catalog n c (group final by aggregates) p h = first-below (length by) (length by + length aggregates) (omega arith)
+unary-below catalog n c (limit m) p h = limited (nat_le m 1)
+  where
+    limited : (b : Bool) → list_all (all_below (width catalog p)) (flat_map keys_up (keyed_after (cond b (key_of_first 0) keys_kept) whole_rows (claim p).keys)) ≡ true
+    limited true = first-below 0 (width catalog p) (omega arith)
+    limited false = whole-below (width catalog p) (claim p).keys h
 
 pub node-keys-below : (catalog : ℕ → Relation) (p : Plan) → KeysBelow catalog p → list_all (all_below (width catalog p)) (node_keys catalog p) ≡ true
 node-keys-below catalog (scan n c r m z) h = whole-below (width catalog (scan n c r m z)) (catalog r).keys h
@@ -130,4 +135,5 @@ node-keys-below catalog (binary n c (join m on) p q) h =
     held-below (v + w) (covers (claim q).keys (map (λ x. x.1) on)) (covers (claim p).keys (map (λ x. x.0) on)) whole_rows (right_of v) (claim p).keys (claim q).keys
     (ap (list_all (all_below (v + w))) (kept-whole (claim p).keys) ∙ all-longer v (v + w) (omega arith) (claim p).keys h.0)
     (kept-below (right_of v) w (v + w) (right-placed v w) (claim q).keys h.1)
+node-keys-below catalog (binary n c (semi_join matched on conditions) p q) h = whole-below (width catalog p) (claim p).keys h.0
 node-keys-below catalog (exchange n c k m p) h = whole-below (width catalog p) (claim p).keys h

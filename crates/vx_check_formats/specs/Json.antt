@@ -7,7 +7,7 @@ use Rattle.serde_json.specs.View.{items_of}
 use Rattle.vx_rows_values.specs.declared.value.ColType.{ColType}
 use Rattle.vx_rows_values.specs.declared.value.ColType.TheVariants as type
 use Rattle.vx_rows_values.specs.Values.{Name, Val, num, text}
-use Rattle.vx_plan_nodes.specs.Plan.{Size, one_worker, group_of, Route, by_hash, by_range, Part, one, any, all, routed, Claim, Unary, select, project, distinct, sort, group, Phase, plain, partial, final, Binary, union, join, ExchangeKind, route_to, round, broadcast, gather, concat, size}
+use Rattle.vx_plan_nodes.specs.Plan.{Size, one_worker, group_of, Route, by_hash, by_range, Part, one, any, all, routed, Claim, Unary, select, project, distinct, sort, group, limit, Phase, plain, partial, final, Binary, union, join, semi_join, ExchangeKind, route_to, round, broadcast, gather, concat, size}
 use Rattle.vx_plan_nodes.specs.Names.{Names}
 use Rattle.vx_plan_nodes.specs.Outline.{Outline, scan, unary, binary, exchange, Columns, top, columns, plan_in}
 use Rattle.vx_plan_nodes.specs.declared.typed_plan.TypedPlan.{TypedPlan}
@@ -128,10 +128,12 @@ unary_word (project cols) = codes "project"
 unary_word (distinct cols) = codes "distinct"
 unary_word (sort of_parts cols) = cond of_parts (codes "partial-sort") (codes "sort")
 unary_word (group phase by aggregates) = phase_word phase
+unary_word (limit rows) = codes "limit"
 
 abbrev pub binary_word : Binary → List ℕ
 binary_word union = codes "union"
 binary_word (join merging on) = cond merging (codes "merge-join") (codes "hash-join")
+binary_word (semi_join matched on conditions) = cond matched (codes "hash-semi-join") (codes "hash-anti-join")
 
 abbrev pub op_word : Outline → List ℕ
 op_word (scan h r m z p) = codes "scan"

@@ -167,6 +167,7 @@ fn unary_word(operator: &Unary) -> &'static str
         Unary::Sort(SortPhase::Plain, _) => "sort",
         Unary::Sort(SortPhase::Partial, _) => "partial-sort",
         Unary::Group(phase, _, _) => phase_word(*phase),
+        Unary::Limit(_) => "limit",
     }
 }
 
@@ -177,6 +178,8 @@ fn binary_word(operator: &Binary) -> &'static str
         Binary::Union => "union",
         Binary::HashJoin(_) => "hash-join",
         Binary::MergeJoin(_) => "merge-join",
+        Binary::SemiJoin(_, _) => "hash-semi-join",
+        Binary::AntiJoin(_, _) => "hash-anti-join",
     }
 }
 

@@ -3,7 +3,7 @@ use Rattle.std.proofs.Common.{◌≡◌, ℕ, ◌+◌, ◌-◌, ◌==◌, nat_lt
 use Rattle.std.proofs.lemmas.Bool.Decides.{nat_tests}
 use Rattle.vx_rows_values.proofs.Booleans.{and-left, and-right, and-both}
 use Rattle.vx_rows_values.specs.Test.{Test, equal, unequal, below, at_most, above, at_least}
-use Rattle.vx_plan_nodes.specs.Plan.{Side, column, constant, Condition, Unary, select, project, distinct, sort, group, Binary, union, join, scan, unary, binary, exchange}
+use Rattle.vx_plan_nodes.specs.Plan.{Side, column, constant, Condition, Unary, select, project, distinct, sort, group, limit, Binary, union, join, semi_join, scan, unary, binary, exchange}
 use Rattle.vx_plan_nodes.specs.Describe.{Copying, source, left_of, right_of, described}
 use Rattle.vx_plan_nodes.specs.Types.{width}
 use Rattle.vx_plan_facts.specs.Equal.{Equality, each_itself, both_equal, lifted, with_pair, with_test, with_conditions, with_pairs, unary_equal, binary_equal, equal_at}
@@ -202,10 +202,12 @@ unary-is (project cols) e is = lifted-is (described (project cols)).copying e is
 unary-is (distinct cols) e is = lifted-is (described (distinct cols)).copying e is
 unary-is (sort of_parts cols) e is = lifted-is (described (sort of_parts cols)).copying e is
 unary-is (group phase by aggregates) e is = lifted-is (described (group phase by aggregates)).copying e is
+unary-is (limit m) e is = lifted-is (described (limit m)).copying e is
 
 binary-is : (w : ℕ) (op : Binary) (e f : Equality) → IsEquivalence e → IsEquivalence f → IsEquivalence (binary_equal w op e f)
 binary-is w union e f is also = both-is e f is also
 binary-is w (join m on) e f is also = pairs-is w on (λ a b. lifted (left_of w) e a b || lifted (right_of w) f a b) (joined-is w e f is also)
+binary-is w (semi_join matched on conditions) e f is also = is
 
 pub equal-is : EqualIsEquivalence
 equal-is catalog (scan n c r m z) = each-itself

@@ -10,13 +10,14 @@ use Rattle.vx_plan_facts.specs.Naming.{IsTypedOver}
 use Rattle.vx_plan_facts.proofs.NamedColumns.{typed-unary, typed-both, typed-sent}
 use Rattle.vx_plan_facts.proofs.Tests.{or-cases, or-left, or-right}
 use Rattle.vx_check_rules.specs.Rules.{sizes_match, not_replicated, unless_one, shows, orders}
-use Rattle.vx_check_rules.specs.Derived.{inputs_match_derived, order_given_derived, part_derived, part_shown_derived, order_derived, order_shown_derived, keys_shown_derived, allowed_here_derived, allowed_derived}
+use Rattle.vx_check_rules.specs.Derived.{inputs_match_derived, order_given_derived, first_rows_known_derived, part_derived, part_shown_derived, order_derived, order_shown_derived, keys_shown_derived, allowed_here_derived, allowed_derived}
 use Rattle.vx_check_options.specs.Laws.{AtEach}
 use Rattle.vx_check_shown.specs.Strongest.{IsStrongestDerived}
 use Rattle.vx_check_keeping.specs.Keeping.{IsShownDerived, KeysTellHere, KeysTell, TellsHere, Tells}
 use Rattle.vx_check_keeping.specs.Laws.{KeepsTold}
 use Rattle.vx_check_keeping.proofs.SameFacts.{under, beside, with_claims, is-with, width-same, size-same}
 use Rattle.vx_check_keeping.proofs.OrdersKept.{Both, Under, order-below, part-below, merged-given, joined-given, first-orders, scanned-up, one-up, two-up, sent-order-up}
+use Rattle.vx_check_keeping.proofs.TotalsKept.{first-kept}
 use Rattle.vx_check_keeping.proofs.NodesKept.{claimed-distinct, sizes-kept, sent-kept, unary-inputs, binary-inputs, scan-parts, unary-parts, binary-parts, sent-parts}
 
 joint : (a b c : Bool) → (b || c) ≡ true → ((a || b) || c) ≡ true
@@ -27,20 +28,22 @@ unless : (a b c : Bool) → a ≡ false → ((a || b) || c) ≡ true → (b || c
 unless true b c n h = absurd (true≢false n)
 unless false b c n h = h
 
-seven : (a b c d e f g : Bool) → (a && (b && (c && (d && (e && (f && g)))))) ≡ true
-    → (a ≡ true) × (b ≡ true) × (c ≡ true) × (d ≡ true) × (e ≡ true) × (f ≡ true) × (g ≡ true)
-seven a b c d e f g h =
-    let h1 = and-right a (b && (c && (d && (e && (f && g))))) h in
-    let h2 = and-right b (c && (d && (e && (f && g)))) h1 in
-    let h3 = and-right c (d && (e && (f && g))) h2 in
-    let h4 = and-right d (e && (f && g)) h3 in
-    let h5 = and-right e (f && g) h4 in
-    (and-left a _ h, and-left b _ h1, and-left c _ h2, and-left d _ h3, and-left e _ h4, and-left f _ h5, and-right f g h5)
+eight : (a b c d e f g h : Bool) → (a && (b && (c && (d && (e && (f && (g && h))))))) ≡ true
+    → (a ≡ true) × (b ≡ true) × (c ≡ true) × (d ≡ true) × (e ≡ true) × (f ≡ true) × (g ≡ true) × (h ≡ true)
+eight a b c d e f g h is =
+    let h1 = and-right a (b && (c && (d && (e && (f && (g && h)))))) is in
+    let h2 = and-right b (c && (d && (e && (f && (g && h))))) h1 in
+    let h3 = and-right c (d && (e && (f && (g && h)))) h2 in
+    let h4 = and-right d (e && (f && (g && h))) h3 in
+    let h5 = and-right e (f && (g && h)) h4 in
+    let h6 = and-right f (g && h) h5 in
+    (and-left a _ is, and-left b _ h1, and-left c _ h2, and-left d _ h3, and-left e _ h4, and-left f _ h5, and-left g _ h6, and-right g h h6)
 
-all-seven : (a b c d e f g : Bool) → a ≡ true → b ≡ true → c ≡ true → d ≡ true → e ≡ true → f ≡ true → g ≡ true → (a && (b && (c && (d && (e && (f && g)))))) ≡ true
-all-seven a b c d e f g ha hb hc hd he hf hg =
-    and-both a (b && (c && (d && (e && (f && g))))) ha (and-both b (c && (d && (e && (f && g)))) hb (and-both c (d && (e && (f && g))) hc
-    (and-both d (e && (f && g)) hd (and-both e (f && g) he (and-both f g hf hg)))))
+all-eight : (a b c d e f g h : Bool) → a ≡ true → b ≡ true → c ≡ true → d ≡ true → e ≡ true → f ≡ true → g ≡ true → h ≡ true
+    → (a && (b && (c && (d && (e && (f && (g && h))))))) ≡ true
+all-eight a b c d e f g h ha hb hc hd he hf hg hh =
+    and-both a (b && (c && (d && (e && (f && (g && h)))))) ha (and-both b (c && (d && (e && (f && (g && h))))) hb (and-both c (d && (e && (f && (g && h)))) hc
+    (and-both d (e && (f && (g && h))) hd (and-both e (f && (g && h)) he (and-both f (g && h) hf (and-both g h hg hh))))))
 
 -- the tests of a node of the one plan, and those of the other one's node
 pub record Passes (C : ℕ → Relation) (e f : Plan) : Type 0 where
@@ -48,6 +51,7 @@ pub record Passes (C : ℕ → Relation) (e f : Plan) : Type 0 where
   pub once : not_replicated e ≡ true → not_replicated f ≡ true
   pub inputs : sizes_match e ≡ true → inputs_match_derived C e ≡ true → inputs_match_derived C f ≡ true
   pub given : order_given_derived C e ≡ true → order_given_derived C f ≡ true
+  pub first : first_rows_known_derived C e ≡ true → first_rows_known_derived C f ≡ true
   pub part : sizes_match e ≡ true → is_one (size e) ≡ false → (unless_one (shows C e) (claim e).part || part_derived C e (claim e).part) ≡ true
       → (unless_one (shows C f) (claim e).part || part_derived C f (claim e).part) ≡ true
   pub order : order_derived C e (claim e).order ≡ true → order_derived C f (claim e).order ≡ true
@@ -64,11 +68,13 @@ module _ (catalog : List Relation) (fine : IsCatalog catalog) where
     f = with_claims e g
 
     abbrev Tests : Type 0
-    Tests = (sizes_match e ≡ true) × (not_replicated e ≡ true) × (inputs_match_derived C e ≡ true) × (order_given_derived C e ≡ true) × (part_shown_derived C e ≡ true)
-        × (order_shown_derived C e ≡ true) × (keys_shown_derived C e ≡ true)
+    Tests = (sizes_match e ≡ true) × (not_replicated e ≡ true) × (inputs_match_derived C e ≡ true) × (order_given_derived C e ≡ true) × (first_rows_known_derived C e ≡ true)
+        × (part_shown_derived C e ≡ true) × (order_shown_derived C e ≡ true) × (keys_shown_derived C e ≡ true)
 
     tests : Tests
-    tests = seven (sizes_match e) (not_replicated e) (inputs_match_derived C e) (order_given_derived C e) (part_shown_derived C e) (order_shown_derived C e) (keys_shown_derived C e) allowed
+    tests =
+        eight (sizes_match e) (not_replicated e) (inputs_match_derived C e) (order_given_derived C e) (first_rows_known_derived C e) (part_shown_derived C e)
+        (order_shown_derived C e) (keys_shown_derived C e) allowed
 
     sizes-hold : sizes_match f ≡ true
     sizes-hold = passes.sizes tests.0
@@ -88,8 +94,8 @@ module _ (catalog : List Relation) (fine : IsCatalog catalog) where
 
     pub node-allowed : allowed_here_derived C f ≡ true
     node-allowed =
-        all-seven (sizes_match f) (not_replicated f) (inputs_match_derived C f) (order_given_derived C f) (part_shown_derived C f) (order_shown_derived C f) (keys_shown_derived C f)
-        sizes-hold (passes.once tests.1) inputs-hold given-hold part-holds (shown.order given-hold) shown.keys
+        all-eight (sizes_match f) (not_replicated f) (inputs_match_derived C f) (order_given_derived C f) (first_rows_known_derived C f) (part_shown_derived C f)
+        (order_shown_derived C f) (keys_shown_derived C f) sizes-hold (passes.once tests.1) inputs-hold given-hold (passes.first tests.4) part-holds (shown.order given-hold) shown.keys
 
     named : are_columns (width C f) (part_columns (claim e).part) ≡ true
     named = subst (λ (w : ℕ). are_columns w (part_columns (claim e).part) ≡ true) (sym (width-same C e g)) (claimed-distinct catalog e b.typed)
@@ -100,14 +106,14 @@ module _ (catalog : List Relation) (fine : IsCatalog catalog) where
     derived-order : order_derived C e (claim e).order ≡ true
     derived-order =
         ⊎_elim (λ i. first-orders catalog fine e b.typed (claim e).order (order-below catalog e b.typed) i) (λ i. i)
-        (or-cases (orders C e (claim e).order) (order_derived C e (claim e).order) tests.5)
+        (or-cases (orders C e (claim e).order) (order_derived C e (claim e).order) tests.6)
 
     pub node-tells : TellsHere C f e
     node-tells = record {
       part = λ n.
           let several : is_one (size e) ≡ false = ap is_one (sym (size-same e g)) ∙ n in
           strongest.part n sizes-hold inputs-hold (claim e).part named
-          (passes.part tests.0 several (unless (is_one (size e)) (unless_one (shows C e) (claim e).part) (part_derived C e (claim e).part) several tests.4));
+          (passes.part tests.0 several (unless (is_one (size e)) (unless_one (shows C e) (claim e).part) (part_derived C e (claim e).part) several tests.5));
       order = strongest.order given-hold (claim e).order follows-named
           (or-right (orders C f (claim e).order) (order_derived C f (claim e).order) (passes.order derived-order));
       keys = here;
@@ -121,6 +127,7 @@ module _ (catalog : List Relation) (fine : IsCatalog catalog) where
     once = λ h. h;
     inputs = λ h k. k;
     given = λ h. refl;
+    first = λ h. refl;
     part = λ h i k. scan-parts catalog n n c (claim g) r m z c.part k;
     order = λ h. scanned-up catalog fine n c r m z g b c.order (order-below catalog (scan n c r m z) b.typed) h;
   }
@@ -132,6 +139,7 @@ module _ (catalog : List Relation) (fine : IsCatalog catalog) where
     once = λ h. h;
     inputs = λ h k. unary-inputs catalog n n c (claim g) op p (under g) u k;
     given = λ h. refl;
+    first = λ h. first-kept catalog n n c (claim g) op p (under g) u h;
     part = λ h i k. unary-parts catalog n c op p g u i c.part (part-below catalog (unary n c op p) b.typed) k;
     order = λ h. one-up catalog n c op p g b u c.order (order-below catalog (unary n c op p) b.typed) h;
   }
@@ -143,6 +151,7 @@ module _ (catalog : List Relation) (fine : IsCatalog catalog) where
     once = λ h. h;
     inputs = λ h k. binary-inputs catalog n n c (claim g) op p q (under g) (beside g) h u v k;
     given = λ h. joined-given catalog n n c (claim g) op p q (under g) (beside g) (typed-both catalog (binary n c op p q) n c op p q refl b.typed).2 u v h;
+    first = λ h. refl;
     part = λ h i k. binary-parts catalog n c op p q g h u v i c.part (part-below catalog (binary n c op p q) b.typed) k;
     order = λ h. two-up catalog n c op p q g b u c.order (order-below catalog (binary n c op p q) b.typed) h;
   }
@@ -154,6 +163,7 @@ module _ (catalog : List Relation) (fine : IsCatalog catalog) where
     once = λ h. sent-kept catalog p (under g) u h;
     inputs = λ h i. i;
     given = λ h. merged-given catalog n n c (claim g) k m p (under g) b.typed u h;
+    first = λ h. refl;
     part = λ h i j. sent-parts catalog n n c (claim g) k m p (under g) c.part j;
     order = λ h. sent-order-up catalog n c k m p g b u c.order (order-below catalog (exchange n c k m p) b.typed) h;
   }

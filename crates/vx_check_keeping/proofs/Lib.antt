@@ -6,9 +6,11 @@ pub mod OrdersFollow
 pub mod MoreFollows
 pub mod PartsTold
 pub mod PartsKept
+pub mod SemiParts
 pub mod FrontCopies
 pub mod NodeCarries
 pub mod OrdersKept
+pub mod TotalsKept
 pub mod NodesKept
 pub mod Keeps
 pub mod TellingNodes

@@ -5,7 +5,7 @@ use Rattle.std.specs.Prelude.{unwrap_or}
 use Rattle.vx_rows_values.proofs.Booleans.{and-left, and-right, and-both}
 use Rattle.vx_catalog_relations.specs.Relation.{Relation}
 use Rattle.vx_catalog_relations.specs.Catalog.{relation_at, all_below}
-use Rattle.vx_plan_nodes.specs.Plan.{Claim, claim, Binary, union, join, Plan, scan, unary, binary, exchange}
+use Rattle.vx_plan_nodes.specs.Plan.{Claim, claim, Binary, union, join, semi_join, Plan, scan, unary, binary, exchange}
 use Rattle.vx_plan_nodes.specs.Phases.{columns_from, first_columns}
 use Rattle.vx_plan_nodes.specs.Types.{width, well_formed}
 use Rattle.vx_plan_nodes.specs.Describe.{Copying, whole_rows, source, left_of, right_of, described}
@@ -57,7 +57,7 @@ contains-in t (y ∷ ys) x h k =
     ⊎_elim (λ (l : (x == y) ≡ true). subst (λ z. t z ≡ true) (sym (eqb-true x y l)) (and-left (t y) (list_all t ys) h))
     (λ r. contains-in t ys x (and-right (t y) (list_all t ys) h) r) (or-cases (x == y) (contains ys x) k)
 
-covers-in : (t : Columns) (keys : List (List ℕ)) (ys : List ℕ) → list_all t ys ≡ true → covers keys ys ≡ true → list_any (list_all t) keys ≡ true
+pub covers-in : (t : Columns) (keys : List (List ℕ)) (ys : List ℕ) → list_all t ys ≡ true → covers keys ys ≡ true → list_any (list_all t) keys ≡ true
 covers-in t keys ys h k = any-more (λ x. within x ys) (list_all t) (λ x m. all-more (contains ys) t (λ c. contains-in t ys c h) x m) keys k
 
 module _ (w : ℕ) (e : Equality) (same : (c : ℕ) → e c c ≡ true) (swap : (c d : ℕ) → e c d ≡ true → e d c ≡ true)
@@ -75,7 +75,7 @@ module _ (w : ℕ) (e : Equality) (same : (c : ℕ) → e c c ≡ true) (swap : 
       (all-first xs (and-right (nat_lt x w) (all_below w xs) l) (and-right (t x) (list_all t xs) h))
 
   -- it holds one of the keys if it holds one of the others
-  keys-hold : (keys others : List (List ℕ)) → list_all (all_below w) others ≡ true → keys_tell w e keys others ≡ true → list_any (list_all t) others ≡ true
+  pub keys-hold : (keys others : List (List ℕ)) → list_all (all_below w) others ≡ true → keys_tell w e keys others ≡ true → list_any (list_all t) others ≡ true
       → list_any (list_all t) keys ≡ true
   keys-hold keys [] l k h = absurd (true≢false (sym h))
   keys-hold keys (x ∷ others) l k h =
@@ -185,6 +185,10 @@ more-over catalog (binary n c op p q) g h k keys =
         (input-adds (v + u) w v (left_of v) (determined (relation_at catalog) p) (determined (relation_at catalog) x) wide (left-reaches v u) l t d m j))
         (λ j. subst (λ (z : ℕ). by_input w (right_of z) (determined (relation_at catalog) y) t d ≡ true) (sym near)
         (input-adds (v + u) w u (right_of v) (determined (relation_at catalog) q) (determined (relation_at catalog) y) wide (right-reaches v u) r t d m j)) i
+    both-add catalog n c (semi_join matched on conditions) p q g near wide l r t d m i =
+        let v : ℕ = width (relation_at catalog) p in
+        let x : Plan = with_claims p (under g) in
+        input-adds v (width (relation_at catalog) x) v whole_rows (determined (relation_at catalog) p) (determined (relation_at catalog) x) near (whole-reaches v) l t d m i
 more-over catalog (exchange n c kind m p) g h k keys =
     let e : Plan = exchange n c kind m p in
     let f : Plan = with_claims e g in

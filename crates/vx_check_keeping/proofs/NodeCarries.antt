@@ -2,7 +2,7 @@
 use Rattle.std.proofs.Common.{◌≡◌, ℕ, ◌+◌, ◌<◌, ◌==◌, Bool, true, ◌&&◌, ◌||◌, List, [], ◌∷◌, sym, subst, Option, Some}
 use Rattle.vx_rows_values.specs.Test.{Test, equal, unequal, below, at_most, above, at_least}
 use Rattle.vx_catalog_relations.specs.Relation.{Relation}
-use Rattle.vx_plan_nodes.specs.Plan.{Claim, claim, Side, column, constant, Condition, Unary, select, project, distinct, sort, group, join, ExchangeKind, Plan, unary, binary, exchange}
+use Rattle.vx_plan_nodes.specs.Plan.{Claim, claim, Side, column, constant, Condition, Unary, select, project, distinct, sort, group, limit, join, semi_join, ExchangeKind, Plan, unary, binary, exchange}
 use Rattle.vx_plan_nodes.specs.Types.{width, well_formed}
 use Rattle.vx_plan_nodes.specs.Describe.{Copying, whole_rows, source, left_of, right_of, described}
 use Rattle.vx_plan_facts.specs.Equal.{Equality, both_equal, lifted, with_test, with_conditions, with_pairs, unary_equal, equal_at}
@@ -53,6 +53,7 @@ unary-carried (project cols) e c d x y h i same = lifted-carried (described (pro
 unary-carried (distinct cols) e c d x y h i same = lifted-carried (described (distinct cols)).copying e c d x y h i same
 unary-carried (sort of_parts cols) e c d x y h i same = lifted-carried (described (sort of_parts cols)).copying e c d x y h i same
 unary-carried (group phase by aggregates) e c d x y h i same = lifted-carried (described (group phase by aggregates)).copying e c d x y h i same
+unary-carried (limit m) e c d x y h i same = lifted-carried (described (limit m)).copying e c d x y h i same
 
 -- ---- nodes
 
@@ -94,6 +95,24 @@ left-carries catalog n c m on p q formed under =
       more = λ s d y l h i. added catalog x formed s d l
           (or-left (by_input (v + u) (left_of v) (determined catalog p) (determined catalog x s) d) (by_input (v + u) (right_of v) (determined catalog q) (determined catalog x s) d)
           (column-is (determined catalog p (sources_in (v + u) (left_of v) (determined catalog x s))) (source (left_of v) d) y h i));
+      closes = closes-at catalog p under;
+      above = closes-at catalog x formed;
+      under_is = equal-is catalog p;
+      is = equal-is catalog x;
+    }
+
+pub kept-carries : (catalog : ℕ → Relation) (n : ℕ) (c : Claim) (matched : Bool) (on : List (ℕ × ℕ)) (conditions : List Condition) (p q : Plan)
+    → well_formed catalog (binary n c (semi_join matched on conditions) p q) ≡ true → well_formed catalog p ≡ true
+    → Carries (width catalog p) (width catalog p) whole_rows (equal_at catalog p) (equal_at catalog p) (determined catalog p) (determined catalog (binary n c (semi_join matched on conditions) p q))
+kept-carries catalog n c matched on conditions p q formed under =
+    let x : Plan = binary n c (semi_join matched on conditions) p q in
+    record {
+      reaches = whole-reaches (width catalog p);
+      equal = λ a b y z h i same.
+          let l : y ≡ a = sym (whole-is a y h) in
+          let j : z ≡ b = sym (whole-is b z i) in
+          subst (λ (u : ℕ). equal_at catalog p u b ≡ true) l (subst (λ (u : ℕ). equal_at catalog p y u ≡ true) j same);
+      more = λ s d y l h i. added catalog x formed s d l (column-is (determined catalog p (sources_in (width catalog p) whole_rows (determined catalog x s))) (Some d) y h i);
       closes = closes-at catalog p under;
       above = closes-at catalog x formed;
       under_is = equal-is catalog p;

@@ -5,7 +5,7 @@ use Rattle.vx_rows_values.specs.Lists.{is_some_list}
 use Rattle.vx_rows_values.proofs.Booleans.{and-left, and-right, and-both}
 use Rattle.vx_catalog_relations.specs.Relation.{Relation}
 use Rattle.vx_catalog_relations.specs.Catalog.{relation_at, all_below}
-use Rattle.vx_plan_nodes.specs.Plan.{Claim, claim, Unary, select, project, distinct, sort, group, union, join, Plan, scan, unary, binary, exchange}
+use Rattle.vx_plan_nodes.specs.Plan.{Claim, claim, Unary, select, project, distinct, sort, group, limit, union, join, semi_join, Plan, scan, unary, binary, exchange}
 use Rattle.vx_plan_nodes.specs.Phases.{first_columns, phase_fits, both_closed}
 use Rattle.vx_plan_nodes.specs.Types.{width, unary_width, part_columns, names_columns, well_formed}
 use Rattle.vx_plan_nodes.specs.Describe.{whole_rows, source, left_of, right_of, described}
@@ -44,6 +44,10 @@ claim-named catalog (binary n c (join m on) p q) h =
     let named = names_columns (width catalog p + width catalog q) c in
     and-right (both_closed p q) named
     (and-right (well_formed catalog q) (both_closed p q && named) (and-right (well_formed catalog p) (well_formed catalog q && (both_closed p q && named)) h))
+claim-named catalog (binary n c (semi_join matched on conditions) p q) h =
+    let named = names_columns (width catalog p) c in
+    and-right (both_closed p q) named
+    (and-right (well_formed catalog q) (both_closed p q && named) (and-right (well_formed catalog p) (well_formed catalog q && (both_closed p q && named)) h))
 claim-named catalog (exchange n c k m p) h = and-right (well_formed catalog p) (names_columns (width catalog p) c) h
 
 pub part-named : (w : ℕ) (c : Claim) → names_columns w c ≡ true → all_below w (part_columns c.part) ≡ true
@@ -73,6 +77,7 @@ unary-reaches v (distinct cols) h = λ c x l e. within-is v (source (described (
 unary-reaches v (sort of_parts cols) h = whole-reaches v
 unary-reaches v (group phase by aggregates) h =
     λ c x l e. within-is v (source (described (group phase by aggregates)).copying c) x (group-within v (group phase by aggregates) phase by aggregates refl h c) e
+unary-reaches v (limit m) h = whole-reaches v
 
 pub left-reaches : (v u : ℕ) → Reaches (v + u) (left_of v) v
 left-reaches v u c x l e = go (nat_lt c v) refl e

@@ -7,7 +7,7 @@ use Rattle.vx_rows_values.specs.Types.{type_at}
 use Rattle.vx_rows_values.proofs.Booleans.{and-left, and-right, and-both}
 use Rattle.vx_catalog_relations.specs.Relation.{Relation}
 use Rattle.vx_catalog_relations.specs.Catalog.{relation_at, all_below}
-use Rattle.vx_plan_nodes.specs.Plan.{by_hash, by_range, Part, one, any, all, routed, Claim, claim, Size, one_worker, group_of, size, size_eq, is_one, Unary, Binary, union, join, ExchangeKind, Plan, scan, unary, binary, exchange}
+use Rattle.vx_plan_nodes.specs.Plan.{by_hash, by_range, Part, one, any, all, routed, Claim, claim, Size, one_worker, group_of, size, size_eq, is_one, Unary, Binary, union, join, semi_join, ExchangeKind, Plan, scan, unary, binary, exchange}
 use Rattle.vx_plan_nodes.specs.Parts.{kind_part}
 use Rattle.vx_plan_nodes.specs.Phases.{phase_fits, both_closed}
 use Rattle.vx_plan_nodes.specs.Types.{types_of, width, part_columns}
@@ -16,11 +16,12 @@ use Rattle.vx_plan_nodes.specs.Describe.{described}
 use Rattle.vx_plan_facts.specs.Equal.{Equality, equal_at}
 use Rattle.vx_plan_facts.specs.Naming.{IsTypedOver}
 use Rattle.vx_plan_facts.proofs.NamedColumns.{types-width}
-use Rattle.vx_check_rules.specs.Rules.{sizes_match, has, keeps_apart, binary_inputs_match, unless_one, unary_shows, both_have, join_shows, kind_shows, shows}
-use Rattle.vx_check_rules.specs.Derived.{unary_meets_equally, routed_alike_equally, inputs_match_derived, part_matches, routed_as, is_any, join_routed, part_derived}
+use Rattle.vx_check_rules.specs.Rules.{sizes_match, has, keeps_apart, binary_inputs_match, unless_one, unary_shows, both_have, join_shows, semi_join_shows, kind_shows, shows}
+use Rattle.vx_check_rules.specs.Derived.{unary_meets_equally, routed_alike_equally, inputs_match_derived, part_matches, routed_as, is_any, join_routed, semi_join_routed, part_derived}
 use Rattle.vx_check_keeping.proofs.EqualLaws.{equal-is}
 use Rattle.vx_check_keeping.proofs.SameFacts.{under, beside, with_claims, width-same, equal-same, size-same}
 use Rattle.vx_check_keeping.proofs.PartsKept.{InPlace, has-any, unary-matches, unary-shown, union-inputs, join-inputs, union-shown, join-shown}
+use Rattle.vx_check_keeping.proofs.SemiParts.{semi-inputs, semi-shown}
 use Rattle.vx_check_keeping.proofs.OrdersKept.{Under, part-below}
 
 -- ---- a claimed part is of distinct columns
@@ -108,6 +109,14 @@ module _ (catalog : List Relation) where
       (sym (equal-same C p g))
       (subst (λ (f : Equality). ((is_one (size p) || binary_inputs_match (join m on) p q) || routed_alike_equally (equal_at C p) f on (claim p).part (claim q).part) ≡ true)
       (sym (equal-same C q h)) k))
+  binary-inputs n i c d (semi_join matched on conditions) p q g h sizes u v k =
+      let op : Binary = semi_join matched on conditions in
+      semi-inputs (equal_at C (with_claims p g)) (equal_at C (with_claims q h)) (equal-is C (with_claims p g)) (equal-is C (with_claims q h)) p q (with_claims p g) (with_claims q h)
+      (in-place p g u) (in-place q h v) on (sizes-alike (size p) (size q) sizes)
+      (subst (λ (e : Equality). ((is_one (size p) || binary_inputs_match op p q) || routed_alike_equally e (equal_at C (with_claims q h)) on (claim p).part (claim q).part) ≡ true)
+      (sym (equal-same C p g))
+      (subst (λ (f : Equality). ((is_one (size p) || binary_inputs_match op p q) || routed_alike_equally (equal_at C p) f on (claim p).part (claim q).part) ≡ true)
+      (sym (equal-same C q h)) k))
 
   -- ---- parts
 
@@ -145,6 +154,10 @@ module _ (catalog : List Relation) where
   join_test v w e f g on p q x =
       unless_one (join_shows on v p q) x || ((is_any x && routed_alike_equally e f on (claim p).part (claim q).part) || join_routed v w e f g on p q x)
 
+  abbrev semi_join_test : ℕ → Equality → Equality → Equality → List (ℕ × ℕ) → Plan → Plan → Part → Bool
+  semi_join_test w e f g on p q x =
+      unless_one (semi_join_shows on p q) x || ((is_any x && routed_alike_equally e f on (claim p).part (claim q).part) || semi_join_routed w e f g on p q x)
+
   pub binary-parts : (n : ℕ) (c : Claim) (op : Binary) (p q g : Plan) → sizes_match (binary n c op p q) ≡ true → Under catalog p (under g) → Under catalog q (beside g) → is_one (size p) ≡ false
       → (x : Part) → all_below (width C (binary n c op p q)) (part_columns x) ≡ true → Shown (binary n c op p q) x → Shown (with_claims (binary n c op p q) g) x
   binary-parts n c union p q g sizes u v several x l h =
@@ -167,6 +180,17 @@ module _ (catalog : List Relation) where
       (subst (λ (y : Equality). join_test (width C p) (width C e) y (equal_at C t) (equal_at C f) on p q x ≡ true) (sym (equal-same C p (under g)))
       (subst (λ (y : Equality). join_test (width C p) (width C e) (equal_at C p) y (equal_at C f) on p q x ≡ true) (sym (equal-same C q (beside g)))
       (subst (λ (y : Equality). join_test (width C p) (width C e) (equal_at C p) (equal_at C q) y on p q x ≡ true) (sym (equal-same C e g)) h)))))
+  binary-parts n c (semi_join matched on conditions) p q g sizes u v several x l h =
+      let e : Plan = binary n c (semi_join matched on conditions) p q in
+      let f : Plan = with_claims e g in
+      let s : Plan = with_claims p (under g) in
+      let t : Plan = with_claims q (beside g) in
+      semi-shown (equal_at C s) (equal_at C t) (equal-is C s) (equal-is C t) p q s t (in-place p (under g) u) (in-place q (beside g) v) on (sizes-alike (size p) (size q) sizes)
+      (width C s) (equal_at C f) (equal-is C f) several x (subst (λ (w : ℕ). all_below w (part_columns x) ≡ true) (sym (width-same C p (under g))) l)
+      (subst (λ (y : ℕ). semi_join_test y (equal_at C s) (equal_at C t) (equal_at C f) on p q x ≡ true) (sym (width-same C p (under g)))
+      (subst (λ (y : Equality). semi_join_test (width C p) y (equal_at C t) (equal_at C f) on p q x ≡ true) (sym (equal-same C p (under g)))
+      (subst (λ (y : Equality). semi_join_test (width C p) (equal_at C p) y (equal_at C f) on p q x ≡ true) (sym (equal-same C q (beside g)))
+      (subst (λ (y : Equality). semi_join_test (width C p) (equal_at C p) (equal_at C q) y on p q x ≡ true) (sym (equal-same C e g)) h))))
 
   pub sent-parts : (n i : ℕ) (c d : Claim) (k : ExchangeKind) (m : List ℕ) (p g : Plan) (x : Part) → Shown (exchange n c k m p) x → Shown (exchange i d k m (with_claims p g)) x
   sent-parts n i c d k m p g x h =

@@ -6,7 +6,7 @@ use Rattle.vx_rows_values.specs.Lists.{is_some_list}
 use Rattle.vx_rows_values.proofs.Booleans.{and-left, and-right, and-both}
 use Rattle.vx_catalog_relations.specs.Relation.{Relation}
 use Rattle.vx_catalog_relations.specs.Catalog.{relation_at, all_below, are_distinct, IsRelation, IsCatalog}
-use Rattle.vx_plan_nodes.specs.Plan.{by_hash, by_range, Part, one, any, all, routed, Claim, claim, Size, size, is_one, Unary, select, project, distinct, sort, group, Phase, plain, partial, final, Aggregate, Binary, union, join, ExchangeKind, route_to, round, broadcast, gather, concat, Plan, scan, unary, binary, exchange}
+use Rattle.vx_plan_nodes.specs.Plan.{by_hash, by_range, Part, one, any, all, routed, Claim, claim, Size, size, is_one, Unary, select, project, distinct, sort, group, limit, Phase, plain, partial, final, Aggregate, Binary, union, join, semi_join, ExchangeKind, route_to, round, broadcast, gather, concat, Plan, scan, unary, binary, exchange}
 use Rattle.vx_plan_nodes.specs.Phases.{phase_fits}
 use Rattle.vx_plan_nodes.specs.Types.{types_of, width, part_columns}
 use Rattle.vx_plan_nodes.specs.Typed.{are_columns, is_unary, is_kind, typed}
@@ -31,7 +31,7 @@ use Rattle.vx_check_keeping.proofs.MoreFollows.{larger-at}
 use Rattle.vx_check_keeping.proofs.OrdersFollow.{Larger, longer-below, prefix-begins, begins-follows, follows-more, follows-joins, follows-self}
 use Rattle.vx_check_keeping.proofs.PartsTold.{told-routed}
 use Rattle.vx_check_keeping.proofs.FrontCopies.{AreCopies, fronts-told, copies-follow, stays-larger}
-use Rattle.vx_check_keeping.proofs.NodeCarries.{unary-carries, left-carries, passed-carries}
+use Rattle.vx_check_keeping.proofs.NodeCarries.{unary-carries, left-carries, kept-carries, passed-carries}
 
 -- a plan and the one with other claims, whose keys say more
 pub record Both (catalog : List Relation) (e g : Plan) : Type 0 where
@@ -175,6 +175,7 @@ module _ (catalog : List Relation) where
       → order_given_derived C (binary n c op p q) ≡ true → order_given_derived C (binary i d op (with_claims p g) (with_claims q h)) ≡ true
   joined-given n i c d union p q g h names u v given = refl
   joined-given n i c d (join false on) p q g h names u v given = refl
+  joined-given n i c d (semi_join matched on conditions) p q g h names u v given = refl
   joined-given n i c d (join true on) p q g h names u v given =
       let ls : List ℕ = map (λ x. x.0) on in
       let rs : List ℕ = map (λ x. x.1) on in
@@ -214,6 +215,8 @@ module _ (catalog : List Relation) where
   first-unary n c (distinct cols) p h order l k = kept-first n c (distinct cols) p h cols order (λ d. refl) l k
   first-unary n c (sort of_parts cols) p h order l k = prefix-at (unary n c (sort of_parts cols) p) h cols order (sorted-below catalog n c of_parts cols p h) l k
   first-unary n c (group phase by aggregates) p h order l k = kept-first n c (group phase by aggregates) p h by order (group-source phase by aggregates) l k
+  first-unary n c (limit m) p h order l k =
+      prefix-at (unary n c (limit m) p) h (claim p).order order (order-below catalog p (typed-unary catalog (unary n c (limit m) p) n c (limit m) p refl h).0) l k
 
   rises-first : (p : Plan) → IsTypedOver catalog p → (q : Part) (order : List ℕ) → all_below (width C p) order ≡ true → rises_by q order ≡ true
       → rises_equally (equal_at C p) (determined C p) q order ≡ true
@@ -244,6 +247,9 @@ module _ (catalog : List Relation) where
   first-orders fine (binary n c (join m on) p q) h order l k =
       prefix-at (binary n c (join m on) p q) h (claim p).order order
       (longer-below (width C p) (width C p + width C q) (claim p).order (omega arith) (order-below catalog p (typed-both catalog (binary n c (join m on) p q) n c (join m on) p q refl h).0)) l k
+  first-orders fine (binary n c (semi_join matched on conditions) p q) h order l k =
+      let x : Plan = binary n c (semi_join matched on conditions) p q in
+      prefix-at x h (claim p).order order (order-below catalog p (typed-both catalog x n c (semi_join matched on conditions) p q refl h).0) l k
   first-orders fine (exchange n c kind m p) h order l k =
       let x : Plan = exchange n c kind m p in
       let t = typed-sent catalog x n c kind m p refl h in
@@ -288,6 +294,14 @@ module _ (catalog : List Relation) where
       (stays-larger (width C f) (width C s) whole_rows (equal_at C s) (equal_at C f) (determined C s) (determined C f)
       (unary-carries C n (claim g) (select cs) s (formed-over catalog f b.also) (formed-over catalog s t.0) t.1) (omega arith) (λ x l. refl))
       (claim s).order (claim p).order (order-below catalog s t.0) (below-over p (under g) (claim p).order (order-below catalog p u.both.typed)) u.tells.order
+  unary-up n c (limit m) p g b u =
+      let f : Plan = with_claims (unary n c (limit m) p) g in
+      let s : Plan = with_claims p (under g) in
+      let t = typed-unary catalog f n (claim g) (limit m) s refl b.also in
+      follows-more (width C s) (width C f) (equal_at C s) (equal_at C f) (determined C s) (determined C f)
+      (stays-larger (width C f) (width C s) whole_rows (equal_at C s) (equal_at C f) (determined C s) (determined C f)
+      (unary-carries C n (claim g) (limit m) s (formed-over catalog f b.also) (formed-over catalog s t.0) t.1) (omega arith) (λ x l. refl))
+      (claim s).order (claim p).order (order-below catalog s t.0) (below-over p (under g) (claim p).order (order-below catalog p u.both.typed)) u.tells.order
   unary-up n c (project cols) p g b u = copied-up n c (project cols) p g b u
   unary-up n c (distinct cols) p g b u = copied-up n c (distinct cols) p g b u
   unary-up n c (sort of_parts cols) p g b u =
@@ -301,6 +315,7 @@ module _ (catalog : List Relation) where
   given-below n c (project cols) p h = copies-below (length cols) (described (project cols)).copying (equal_at C p) (short (determined C p) (claim p).order)
   given-below n c (distinct cols) p h = copies-below (length cols) (described (distinct cols)).copying (equal_at C p) (short (determined C p) (claim p).order)
   given-below n c (sort of_parts cols) p h = sorted-below catalog n c of_parts cols p h
+  given-below n c (limit m) p h = order-below catalog p (typed-unary catalog (unary n c (limit m) p) n c (limit m) p refl h).0
   given-below n c (group phase by aggregates) p h =
       copies-below (length by + length aggregates) (described (group phase by aggregates)).copying (equal_at C p) (short (determined C p) (claim p).order)
 
@@ -386,6 +401,17 @@ module _ (catalog : List Relation) where
       (left-carries C n (claim g) m on s t (formed-over catalog f b.also) (formed-over catalog s u.both.also)) (omega arith)
       (λ x i. ap (λ a. cond a (Some x) None) (is-below x (width C s) i)))
       (claim s).order (claim p).order (order-below catalog s u.both.also) (below-over p (under g) (claim p).order (order-below catalog p u.both.typed)) u.tells.order) over_f
+  two-up n c (semi_join matched on conditions) p q g b u order l h =
+      let e : Plan = binary n c (semi_join matched on conditions) p q in
+      let f : Plan = with_claims e g in
+      let s : Plan = with_claims p (under g) in
+      let t : Plan = with_claims q (beside g) in
+      joins-at f (claim s).order (claim p).order order
+      (follows-more (width C s) (width C f) (equal_at C s) (equal_at C f) (determined C s) (determined C f)
+      (stays-larger (width C f) (width C s) whole_rows (equal_at C s) (equal_at C f) (determined C s) (determined C f)
+      (kept-carries C n (claim g) matched on conditions s t (formed-over catalog f b.also) (formed-over catalog s u.both.also)) (omega arith) (λ x i. refl))
+      (claim s).order (claim p).order (order-below catalog s u.both.also) (below-over p (under g) (claim p).order (order-below catalog p u.both.typed)) u.tells.order)
+      (follows-over e g b (claim p).order order (order-below catalog p u.both.typed) l h)
 
   pub sent-order-up : (n : ℕ) (c : Claim) (k : ExchangeKind) (m : List ℕ) (p g : Plan) → Both catalog (exchange n c k m p) g → Under catalog p (under g) → (order : List ℕ)
       → all_below (width C (exchange n c k m p)) order ≡ true → order_derived C (exchange n c k m p) order ≡ true → order_derived C (with_claims (exchange n c k m p) g) order ≡ true

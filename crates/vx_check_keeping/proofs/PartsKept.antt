@@ -3,7 +3,7 @@ use Rattle.std.proofs.Common.{◌≡◌, ℕ, ◌-◌, ◌≤◌, nat_lt, nat_le
 use Rattle.std.specs.List.{list_all}
 use Rattle.vx_rows_values.proofs.Booleans.{and-left, and-right, and-both}
 use Rattle.vx_catalog_relations.specs.Catalog.{all_below}
-use Rattle.vx_plan_nodes.specs.Plan.{Route, Part, one, any, all, routed, Unary, select, project, distinct, sort, group, Phase, plain, partial, final, Aggregate, union, join, Plan, claim, size, is_one}
+use Rattle.vx_plan_nodes.specs.Plan.{Route, Part, one, any, all, routed, Unary, select, project, distinct, sort, group, limit, Phase, plain, partial, final, Aggregate, union, join, Plan, claim, size, is_one}
 use Rattle.vx_plan_nodes.specs.Types.{part_columns}
 use Rattle.vx_plan_nodes.specs.Describe.{Copying, whole_rows, columns_kept, left_of, right_of, described}
 use Rattle.vx_plan_facts.specs.Equal.{Equality}
@@ -48,7 +48,7 @@ module _ (e : Equality) (is : IsEquivalence e) where
   gives-by true x y i h = absurd (true≢false i)
   gives-by false x y i h = h
 
-  has-gives : (p : Plan) (y : Part) → is_one (size p) ≡ false → has p y ≡ true → part_gives (claim p).part y ≡ true
+  pub has-gives : (p : Plan) (y : Part) → is_one (size p) ≡ false → has p y ≡ true → part_gives (claim p).part y ≡ true
   has-gives p y i h = gives-by (is_one (size p)) (claim p).part y i h
 
   -- ---- what an operator asks of its inputs' parts
@@ -70,6 +70,7 @@ module _ (e : Equality) (is : IsEquivalence e) where
   unary-matches (group plain by aggregates) p s i h = apart-kept p s i by h
   unary-matches (group partial by aggregates) p s i h = free (is_one (size s))
   unary-matches (group final by aggregates) p s i h = apart-kept p s i by h
+  unary-matches (limit m) p s i h = free (is_one (size s))
 
   -- ---- what an operator over one input shows
 
@@ -111,7 +112,7 @@ module _ (e : Equality) (is : IsEquivalence e) where
       (copy-stands e is w (columns_kept kept) g also c t.0 (ltb-true c w (and-left (nat_lt c w) (all_below w cs) l)) t.2)
       (kept-stand w kept g also cs t.1 (and-right (nat_lt c w) (all_below w cs) l) t.3))
 
-  whole-stand : (w : ℕ) (g : Equality) → IsEquivalence g → (cs : List ℕ) → all_below w cs ≡ true → stand_for w whole_rows e g cs cs ≡ true
+  pub whole-stand : (w : ℕ) (g : Equality) → IsEquivalence g → (cs : List ℕ) → all_below w cs ≡ true → stand_for w whole_rows e g cs cs ≡ true
   whole-stand w g also [] l = refl
   whole-stand w g also (c ∷ cs) l =
       and-both (stands_for w whole_rows e g c c) (stand_for w whole_rows e g cs cs)
@@ -137,6 +138,7 @@ module _ (e : Equality) (is : IsEquivalence e) where
   first-as w (distinct cols) g also p n r cs l h = kept-as w cols g also p n r cs l h
   first-as w (sort of_parts cols) g also p n r cs l h = given-as e is w whole_rows g (claim p).part r cs cs (whole-stand w g also cs l) (has-gives p (routed r cs) n h)
   first-as w (group phase by aggregates) g also p n r cs l h = group-as w phase by aggregates g (claim p).part (routed r cs) (kept-as w by g also p n r cs l h)
+  first-as w (limit m) g also p n r cs l h = given-as e is w whole_rows g (claim p).part r cs cs (whole-stand w g also cs l) (has-gives p (routed r cs) n h)
 
   unary-any : (op : Unary) (p s : Plan) → InPlace e p s → unary_shows op p any ≡ true → unary_shows op s any ≡ true
   unary-any (select cs) p s i h = has-any p s i h
@@ -144,6 +146,7 @@ module _ (e : Equality) (is : IsEquivalence e) where
   unary-any (distinct cols) p s i h = has-any p s i h
   unary-any (sort of_parts cols) p s i h = has-any p s i h
   unary-any (group phase by aggregates) p s i h = has-any p s i h
+  unary-any (limit m) p s i h = has-any p s i h
 
   unary-all : (op : Unary) (p s : Plan) → InPlace e p s → unary_shows op p all ≡ true → unary_shows op s all ≡ true
   unary-all (select cs) p s i h = has-all p s i h
@@ -151,6 +154,7 @@ module _ (e : Equality) (is : IsEquivalence e) where
   unary-all (distinct cols) p s i h = has-all p s i h
   unary-all (sort of_parts cols) p s i h = has-all p s i h
   unary-all (group phase by aggregates) p s i h = has-all p s i h
+  unary-all (limit m) p s i h = has-all p s i h
 
   not-so : {A : Type 0} (b : Bool) → b ≡ false → b ≡ true → A
   not-so b i h = absurd (true≢false (sym h ∙ i))

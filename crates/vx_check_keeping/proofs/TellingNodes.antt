@@ -4,7 +4,7 @@ use Rattle.std.specs.List.{list_all}
 use Rattle.vx_rows_values.proofs.Booleans.{and-left, and-right}
 use Rattle.vx_catalog_relations.specs.Relation.{Relation}
 use Rattle.vx_catalog_relations.specs.Catalog.{all_below}
-use Rattle.vx_plan_nodes.specs.Plan.{Plan, scan, unary, binary, exchange, claim, Claim, Unary, Binary, union, join, ExchangeKind}
+use Rattle.vx_plan_nodes.specs.Plan.{Plan, scan, unary, binary, exchange, claim, Claim, Unary, Binary, union, join, semi_join, ExchangeKind}
 use Rattle.vx_plan_nodes.specs.Phases.{phase_fits, both_closed}
 use Rattle.vx_plan_nodes.specs.Types.{width, part_columns, names_columns, well_formed}
 use Rattle.vx_plan_facts.specs.declared.known.KnownColumns as rust_known
@@ -61,6 +61,8 @@ both-formed catalog i d union p q h =
     (and-left (well_formed catalog p) _ h, and-left (well_formed catalog q) _ (and-right (well_formed catalog p) _ h))
 both-formed catalog i d (join m on) p q h =
     (and-left (well_formed catalog p) _ h, and-left (well_formed catalog q) _ (and-right (well_formed catalog p) _ h))
+both-formed catalog i d (semi_join matched on conditions) p q h =
+    (and-left (well_formed catalog p) _ h, and-left (well_formed catalog q) _ (and-right (well_formed catalog p) _ h))
 
 module _ (catalog : ℕ → Relation) (k : rust_known.KnownColumns) (f e : Plan) (h : IsBesideKnown catalog k f e) where
   pub beside-unary : (n i : ℕ) (c d : Claim) (op o : Unary) (p q : Plan) → f ≡ unary n c op p → e ≡ unary i d o q → IsBesideKnown catalog k p q
@@ -110,6 +112,8 @@ claim-named catalog (binary n c union p q) h =
     and-right _ (names_columns (width catalog p) c) (and-right (both_closed p q) _ (and-right (well_formed catalog q) _ (and-right (well_formed catalog p) _ h)))
 claim-named catalog (binary n c (join m on) p q) h =
     and-right (both_closed p q) (names_columns (width catalog (binary n c (join m on) p q)) c) (and-right (well_formed catalog q) _ (and-right (well_formed catalog p) _ h))
+claim-named catalog (binary n c (semi_join matched on conditions) p q) h =
+    and-right (both_closed p q) (names_columns (width catalog p) c) (and-right (well_formed catalog q) _ (and-right (well_formed catalog p) _ h))
 claim-named catalog (exchange n c k m p) h = and-right (well_formed catalog p) (names_columns (width catalog p) c) h
 
 module _ (catalog : ℕ → Relation) (k : rust_known.KnownColumns) (f e : Plan) (h : IsBesideKnown catalog k f e) where

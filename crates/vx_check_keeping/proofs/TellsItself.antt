@@ -40,7 +40,7 @@ begins-itself e h (x ∷ xs) = and-both (e x x) (begins_equally e xs xs) (h x) (
 
 -- ---- keys
 
-all-among : (key xs : List ℕ) → ((c : ℕ) → set_of xs c ≡ true → set_of key c ≡ true) → list_all (set_of key) xs ≡ true
+pub all-among : (key xs : List ℕ) → ((c : ℕ) → set_of xs c ≡ true → set_of key c ≡ true) → list_all (set_of key) xs ≡ true
 all-among key [] h = refl
 all-among key (x ∷ xs) h =
     and-both (set_of key x) (list_all (set_of key) xs) (h x (or-left (x == x) (set_of xs x) (eq-eqb x x refl))) (all-among key xs (λ c m. h c (or-right (c == x) (set_of xs c) m)))

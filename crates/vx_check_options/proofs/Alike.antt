@@ -5,7 +5,7 @@ use Rattle.std.proofs.lemmas.List.Folds.{list_all-append}
 use Rattle.vx_rows_values.specs.Lists.{is_some_list}
 use Rattle.vx_rows_values.proofs.Booleans.{and-left, and-right, and-both}
 use Rattle.vx_catalog_relations.specs.Relation.{Relation}
-use Rattle.vx_plan_nodes.specs.Plan.{Route, Part, one, any, all, routed, union, join, ExchangeKind, route_to, round, broadcast, gather, concat, Plan, scan, unary, binary, exchange, claim, size, is_one}
+use Rattle.vx_plan_nodes.specs.Plan.{Route, Part, one, any, all, routed, union, join, semi_join, ExchangeKind, route_to, round, broadcast, gather, concat, Plan, scan, unary, binary, exchange, claim, size, is_one}
 use Rattle.vx_plan_nodes.specs.Parts.{kind_part}
 use Rattle.vx_plan_nodes.specs.Types.{width}
 use Rattle.vx_plan_nodes.specs.Describe.{Copying, whole_rows, right_of, left_of, described}
@@ -35,6 +35,7 @@ replicates (scan n c r m z) a b = not m
 replicates (unary n c op p) a b = a
 replicates (binary n c union p q) a b = a
 replicates (binary n c (join m on) p q) a b = a && b
+replicates (binary n c (semi_join matched on conditions) p q) a b = a
 replicates (exchange n c k m p) a b = part_gives (kind_part k) all
 
 abbrev pub replicated : Plan → Bool
@@ -127,6 +128,10 @@ fair-ways catalog (binary n c (join m on) p q) a b x y h k =
     (λ e. let t : (a && b) ≡ a = ap (λ v. a && v) (all-kind b y k e) ∙ and-true a in rw t (and-both (one_or a x) true h refl)))
     (all-so (fair (a && b)) (part_gives x all) (way (right_of w) ((false, y) ∷ []) ∷ [])
     (λ e. let t : (a && b) ≡ b = ap (λ v. v && b) (all-kind a x h e) in rw t (and-both (one_or b y) true k refl))))
+fair-ways catalog (binary n c (semi_join matched on conditions) p q) a b x y h k =
+    all-joined (fair a) (if_so (routed_alike on x y) (way whole_rows (bare x ∷ []) ∷ [])) (if_so (part_gives y all) (way whole_rows ((false, x) ∷ []) ∷ []))
+    (all-so (fair a) (routed_alike on x y) (way whole_rows (bare x ∷ []) ∷ []) (λ e. and-both (one_or a x) true h refl))
+    (all-so (fair a) (part_gives y all) (way whole_rows ((false, x) ∷ []) ∷ []) (λ e. and-both (one_or a x) true h refl))
 fair-ways catalog (exchange n c kind m p) a b x y h k = and-both (one_or (part_gives (kind_part kind) all) (kind_part kind)) true (kind-fair kind) refl
 
 -- ---- what ways give

@@ -6,7 +6,7 @@ use Rattle.std.proofs.lemmas.List.Folds.{list_any-append}
 use Rattle.vx_rows_values.specs.Lists.{is_some_list}
 use Rattle.vx_rows_values.proofs.Booleans.{and-left, and-right, and-both}
 use Rattle.vx_plan_nodes.specs.Plan.{Part}
-use Rattle.vx_plan_nodes.specs.Describe.{Copying, whole_rows, columns_kept, left_of, right_of, source}
+use Rattle.vx_plan_nodes.specs.Describe.{Copying, whole_rows, columns_kept, left_of, right_of, no_columns, source}
 use Rattle.vx_check_rules.specs.Rules.{contains, is_prefix, rises_by}
 use Rattle.vx_check_rules.proofs.Bools.{or-false, or-right}
 use Rattle.vx_check_options.specs.Options.{OrderChoices, places_from, copies, singles, place_then, places_up, narrowed, or_nowhere, rising}
@@ -61,6 +61,7 @@ copy-source (right_of w) x c h = by (nat_lt x 64) h
         let f : c - w ≡ x = omega arith in
         rw (e, f) refl
     by false l = absurd (true≢false (sym l))
+copy-source no_columns x c h = absurd (true≢false (sym h))
 
 -- these columns are copies of the first of those, one by one
 abbrev pub are_front_copies : Copying → List ℕ → List ℕ → Bool

@@ -3,7 +3,7 @@ use Rattle.std.proofs.Common.{◌≡◌, ◌≤◌, ℕ, Bool, ◌||◌, List, [
 use Rattle.std.specs.List.{list_any}
 use Rattle.vx_catalog_relations.specs.Relation.{Relation}
 use Rattle.vx_catalog_relations.specs.Catalog.{relation_at, all_below}
-use Rattle.vx_plan_nodes.specs.Plan.{Part, routed, Claim, union, join, ExchangeKind, route_to, round, broadcast, gather, concat, Plan, scan, unary, binary, exchange, claim, size, is_one}
+use Rattle.vx_plan_nodes.specs.Plan.{Part, routed, Claim, union, join, semi_join, ExchangeKind, route_to, round, broadcast, gather, concat, Plan, scan, unary, binary, exchange, claim, size, is_one}
 use Rattle.vx_plan_nodes.specs.Types.{width, unary_width, binary_width}
 use Rattle.vx_plan_nodes.specs.Describe.{whole_rows, described, described_both}
 use Rattle.vx_check_rules.specs.Rules.{goes_on}
@@ -76,7 +76,7 @@ ways-unkeyed catalog (binary n c op p q) =
     over (width-unkeyed catalog p) (own-unkeyed p) (own-unkeyed q)
   where
     over : {v w : ℕ} {a b c d : Bool × Part} → v ≡ w → a ≡ b → c ≡ d
-        → ways_over (described_both v op).pairs (described_both v op) a c ≡ ways_over (described_both w op).pairs (described_both w op) b d
+        → ways_over (described_both v op).meeting (described_both v op) a c ≡ ways_over (described_both w op).meeting (described_both w op) b d
     over e f g = rw (e, f, g) refl
 ways-unkeyed catalog (exchange n c k m p) = refl
 
@@ -94,6 +94,7 @@ sortings-unkeyed catalog (scan n c r m z) = refl
 sortings-unkeyed catalog (unary n c op p) = ap (λ (d : Claim). sorted_by (described op).copying (order_after (described op).order d.order) ∷ []) (claim-unkeyed p)
 sortings-unkeyed catalog (binary n c union p q) = refl
 sortings-unkeyed catalog (binary n c (join m on) p q) = ap (λ (d : Claim). sorted_by whole_rows d.order ∷ []) (claim-unkeyed p)
+sortings-unkeyed catalog (binary n c (semi_join matched on conditions) p q) = ap (λ (d : Claim). sorted_by whole_rows d.order ∷ []) (claim-unkeyed p)
 sortings-unkeyed catalog (exchange n c k merge p) =
     ap (λ z. if_so (is_one z || goes_on k (claim (unkeyed p))) (sorted_by whole_rows (claim (unkeyed p)).order ∷ []) ++ sorted_by whole_rows merge ∷ []) (size-unkeyed p)
     ∙ (ap (λ (d : Claim). if_so (is_one (size p) || goes_on k d) (sorted_by whole_rows d.order ∷ []) ++ sorted_by whole_rows merge ∷ []) (claim-unkeyed p)
@@ -139,7 +140,7 @@ each-found catalog (binary n c op p p2) q order x f =
         all = λ few cols below shown.
             f.6.all few cols
             (sym (ap (λ w. all_below (binary_width op w (width catalog f.2)) cols) left ∙ ap (λ w. all_below (binary_width op (width catalog p) w) cols) right) ∙ below)
-            (sym (ap (λ w. show (keyed_over (described_both w op).pairs (described_both w op) (claim f.1).keys (claim f.2).keys) cols) left) ∙ shown);
+            (sym (ap (λ w. show (keyed_over (described_both w op).meeting (described_both w op) (claim f.1).keys (claim f.2).keys) cols) left) ∙ shown);
       },
     )
 each-found catalog (exchange n c k m p) q order x f =

@@ -4,7 +4,7 @@ use Rattle.std.specs.List.{list_all}
 use Rattle.vx_rows_values.specs.declared.value.ColType.{ColType}
 use Rattle.vx_catalog_relations.specs.Relation.{Relation}
 use Rattle.vx_catalog_relations.specs.Catalog.{relation_at}
-use Rattle.vx_plan_nodes.specs.Plan.{Part, any, Aggregate, Claim, Unary, select, project, distinct, sort, group, plain, partial, final, Plan, scan, unary, binary, exchange}
+use Rattle.vx_plan_nodes.specs.Plan.{Part, any, Aggregate, Claim, Unary, select, project, distinct, sort, group, limit, plain, partial, final, Plan, scan, unary, binary, exchange}
 use Rattle.vx_plan_nodes.specs.Types.{unary_types, binary_types, types_of}
 use Rattle.vx_plan_nodes.specs.Typed.{Scope, are_columns, is_size, is_part, is_unary, is_binary, is_kind, may_merge, is_output, typed}
 use Rattle.vx_plan_nodes.specs.Phases.{unary_open, is_open, unary_opens, opens, phase_fits, both_closed}
@@ -49,6 +49,7 @@ fits-without (sort true cols) p = open-without p
 fits-without (group plain by aggregates) p = ap not (open-without p)
 fits-without (group partial by aggregates) p = ap not (open-without p)
 fits-without (group final by aggregates) p = opens-without by aggregates p
+fits-without (limit m) p = ap not (open-without p)
 
 closed-without : (p q : Plan) → both_closed (without_keys p) (without_keys q) ≡ both_closed p q
 closed-without p q = rw (open-without p, open-without q) refl

@@ -5,7 +5,7 @@ use Rattle.vx_rows_values.proofs.Booleans.{and-left, and-right}
 use Rattle.vx_catalog_relations.specs.Relation.{Relation}
 use Rattle.vx_catalog_relations.specs.Catalog.{relation_at}
 use Rattle.vx_plan_nodes.specs.Plan.{Part, one, any, all, routed, Claim, Plan, scan, unary, binary, exchange, claim}
-use Rattle.vx_check_rules.specs.Rules.{contains, within, is_prefix, covers, sizes_match, not_replicated, inputs_match, order_given, part_shown, order_shown, keys_shown, allowed_here, allowed}
+use Rattle.vx_check_rules.specs.Rules.{contains, within, is_prefix, covers, sizes_match, not_replicated, inputs_match, order_given, first_rows_known, part_shown, order_shown, keys_shown, allowed_here, allowed}
 use Rattle.vx_check_rules.specs.Behaviour.{Keyed, keyed_from, behaviour, shown_key}
 use Rattle.vx_check_rules.specs.Exactly.{KeysNameColumns}
 use Rattle.vx_check_rules.proofs.Bools.{all-more}
@@ -65,12 +65,12 @@ keeps-keyed catalog (exchange n c kind m p) q order x k f =
 -- ---- keys
 
 -- a key that is shown, of which a part is found if it is
-if-shown : (a b : Bool) → (not a || b) ≡ true → a ≡ true → b ≡ true
+pub if-shown : (a b : Bool) → (not a || b) ≡ true → a ≡ true → b ≡ true
 if-shown true b h e = h
 if-shown false b h e = cc
 
 -- where all claimed keys are shown, a part of each is found
-found-kept : (keyed : List Keyed) (found claimed : List (List ℕ)) → list_all (λ key. not (show keyed key) || covers found key) claimed ≡ true
+pub found-kept : (keyed : List Keyed) (found claimed : List (List ℕ)) → list_all (λ key. not (show keyed key) || covers found key) claimed ≡ true
     → list_all (show keyed) claimed ≡ true → Wider claimed found
 found-kept keyed found [] h s key c = cc
 found-kept keyed found (first ∷ claimed) h s key c =
@@ -84,10 +84,11 @@ found-kept keyed found (first ∷ claimed) h s key c =
     by false e more l = more l
 
 -- the last test at a node: its keys are shown
-keys-tested : (catalog : ℕ → Relation) (p : Plan) → allowed_here catalog p ≡ true → keys_shown catalog p ≡ true
+pub keys-tested : (catalog : ℕ → Relation) (p : Plan) → allowed_here catalog p ≡ true → keys_shown catalog p ≡ true
 keys-tested catalog p h =
     and-right (order_shown catalog p) _
-    (and-right (part_shown catalog p) _ (and-right (order_given p) _ (and-right (inputs_match p) _ (and-right (not_replicated p) _ (and-right (sizes_match p) _ h)))))
+    (and-right (part_shown catalog p) _
+    (and-right (first_rows_known catalog p) _ (and-right (order_given p) _ (and-right (inputs_match p) _ (and-right (not_replicated p) _ (and-right (sizes_match p) _ h))))))
 
 -- at a node that shows over more keys what it showed
 keys-here : (catalog : ℕ → Relation) (p : Plan) (lefts rights found : List (List ℕ)) → FoundAt catalog p lefts rights found → KeysNameColumns catalog p → allowed_here catalog p ≡ true
@@ -99,7 +100,7 @@ keys-here catalog p lefts rights found f named ok more =
     found-kept keyed found (claim p).keys f.kept (all-more (shown_key (behaviour catalog p)) (show keyed) (claim p).keys more shown)
 
 -- at the top of a plan
-keys-at-top : (p x : Plan) → KeepsKeys p x → Wider (claim p).keys (claim x).keys
+pub keys-at-top : (p x : Plan) → KeepsKeys p x → Wider (claim p).keys (claim x).keys
 keys-at-top (scan n c r m z) x h = h
 keys-at-top (unary n c op p) x h = subst (λ y. KeepsKeysOf c (claim y)) (sym h.2) h.3
 keys-at-top (binary n c op p q) x h = subst (λ y. KeepsKeysOf c (claim y)) (sym h.3) h.4

@@ -3,7 +3,7 @@ use Rattle.std.proofs.Common.{ℕ, ◌≡◌, ◌==◌, Bool, true, false, cond,
 use Rattle.std.specs.List.{list_any}
 use Rattle.vx_rows_values.proofs.Booleans.{and-left, and-right, and-both}
 use Rattle.vx_catalog_relations.specs.Relation.{Relation}
-use Rattle.vx_plan_nodes.specs.Plan.{by_hash, by_range, Part, one, any, all, routed, Claim, Unary, select, project, distinct, sort, group, plain, partial, final, Binary, union, join, ExchangeKind, route_to, round, broadcast, gather, concat, Plan, unary, binary, exchange, claim, size, is_one}
+use Rattle.vx_plan_nodes.specs.Plan.{by_hash, by_range, Part, one, any, all, routed, Claim, Unary, select, project, distinct, sort, group, limit, plain, partial, final, Binary, union, join, semi_join, ExchangeKind, route_to, round, broadcast, gather, concat, Plan, unary, binary, exchange, claim, size, is_one}
 use Rattle.vx_plan_nodes.specs.Typed.{may_merge}
 use Rattle.vx_plan_nodes.specs.Describe.{Copying, whole_rows, columns_kept, source, OrderAfter, order_kept, sorted_on, described}
 use Rattle.vx_check_rules.specs.Rules.{contains, is_prefix, cons_both, part_gives, rises_by, goes_on, orders, order_given}
@@ -101,6 +101,7 @@ op-finds (sort of_parts cols) = whole-finds
 op-finds (group plain by aggregates) = kept-finds by
 op-finds (group partial by aggregates) = kept-finds by
 op-finds (group final by aggregates) = kept-finds by
+op-finds (limit m) = whole-finds
 
 after-front : (o : OrderAfter) (cs below : List ℕ) (places : OrderChoices) → is_prefix cs (order_after o below) ≡ true → is_front below places ≡ true → is_front cs (places_after o places) ≡ true
 after-front order_kept cs below places h k = front-less cs below places h k
@@ -127,6 +128,7 @@ binary-front catalog n d (join true on) p q places h g k =
     front-less d.order (claim p).order (or_nowhere (narrowed (map (λ x. x.0) on) places)) h
     (narrowed-kept (map (λ x. x.0) on) (claim p).order places (and-left (is_prefix (map (λ x. x.0) on) (claim p).order) (is_prefix (map (λ x. x.1) on) (claim q).order) g) k)
 binary-front catalog n d (join false on) p q places h g k = front-less d.order (claim p).order places h k
+binary-front catalog n d (semi_join matched on conditions) p q places h g k = front-less d.order (claim p).order places h k
 
 -- the parts by which an order rises
 rises-more : (x y : Part) (d : ℕ) (order : List ℕ) → part_gives x y ≡ true → rises_by y (d ∷ order) ≡ true → rises_by x (d ∷ []) ≡ true

@@ -3,7 +3,7 @@ use Rattle.std.proofs.Common.{◌≡◌, ℕ, ◌==◌, Bool, true, false, ◌&&
 use Rattle.std.specs.List.{list_any, list_all}
 use Rattle.vx_rows_values.proofs.Booleans.{and-left, and-right, and-both}
 use Rattle.vx_catalog_relations.specs.Relation.{Relation}
-use Rattle.vx_plan_nodes.specs.Plan.{union, join, Plan, scan, unary, binary, exchange}
+use Rattle.vx_plan_nodes.specs.Plan.{union, join, semi_join, Plan, scan, unary, binary, exchange}
 use Rattle.vx_plan_nodes.specs.Types.{width}
 use Rattle.vx_plan_nodes.specs.Describe.{Copying, whole_rows, right_of, KeysAfter, keys_kept, key_of_first, no_key, described}
 use Rattle.vx_check_rules.specs.Rules.{contains, within, covers, shifted}
@@ -58,7 +58,7 @@ has-wider : (k : Copying) (first second : List (List ℕ)) (cols : List ℕ) →
 has-wider k first second cols h e = wider-passes (has_copy k cols) first second h e
 
 -- of one input alone
-alone-shown : (k : Copying) (keys : List (List ℕ)) (cols : List ℕ) → show (keyed_by ((k, keys) ∷ []) ∷ []) cols ≡ has_key k keys cols
+pub alone-shown : (k : Copying) (keys : List (List ℕ)) (cols : List ℕ) → show (keyed_by ((k, keys) ∷ []) ∷ []) cols ≡ has_key k keys cols
 alone-shown k keys cols = or-false (has_key k keys cols && true) ∙ and-true (has_key k keys cols)
 
 -- it stays shown over more keys
@@ -100,4 +100,5 @@ from-wider catalog (scan n c r m z) lefts rights lefts' rights' cols f g e = e
 from-wider catalog (unary n c op p) lefts rights lefts' rights' cols f g e = after-wider (described op).keys (described op).copying lefts lefts' cols f e
 from-wider catalog (binary n c union p q) lefts rights lefts' rights' cols f g e = e
 from-wider catalog (binary n c (join m on) p q) lefts rights lefts' rights' cols f g e = join-wider on (width catalog p) lefts rights lefts' rights' cols f g e
+from-wider catalog (binary n c (semi_join matched on conditions) p q) lefts rights lefts' rights' cols f g e = alone-wider whole_rows lefts lefts' cols f e
 from-wider catalog (exchange n c k m p) lefts rights lefts' rights' cols f g e = alone-wider whole_rows lefts lefts' cols f e

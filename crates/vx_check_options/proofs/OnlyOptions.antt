@@ -7,17 +7,18 @@ use Rattle.vx_rows_values.specs.Lists.{is_some_list}
 use Rattle.vx_rows_values.proofs.Booleans.{and-left, and-right, and-both}
 use Rattle.vx_catalog_relations.specs.Relation.{Relation}
 use Rattle.vx_catalog_relations.specs.Catalog.{relation_at, all_below, are_distinct}
-use Rattle.vx_plan_nodes.specs.Plan.{Size, one_worker, group_of, by_hash, by_range, Part, one, any, all, routed, Claim, Unary, Binary, union, join, ExchangeKind, Plan, scan, unary, binary, exchange, claim, size, size_eq, is_one}
+use Rattle.vx_plan_nodes.specs.Plan.{Size, one_worker, group_of, by_hash, by_range, Part, one, any, all, routed, Claim, Unary, Binary, union, join, semi_join, ExchangeKind, Plan, scan, unary, binary, exchange, claim, size, size_eq, is_one}
 use Rattle.vx_plan_nodes.specs.Phases.{phase_fits, both_closed}
 use Rattle.vx_plan_nodes.specs.Types.{types_of, binary_width, unary_width, width}
 use Rattle.vx_plan_nodes.specs.Describe.{described, described_both}
 use Rattle.vx_plan_nodes.specs.Typed.{Scope, bounds_at, range_type, type_eq, are_columns, is_size, is_part, is_claim, is_unary, is_binary, is_kind, may_merge, is_output, typed}
 use Rattle.vx_rows_values.specs.Types.{type_at}
-use Rattle.vx_check_rules.specs.Rules.{part_gives, is_prefix, sizes_match, not_replicated, inputs_match, order_given, part_shown, order_shown, keys_shown, allowed_here, allowed}
+use Rattle.vx_check_rules.specs.Rules.{part_gives, is_prefix, sizes_match, not_replicated, inputs_match, order_given, first_rows_known, part_shown, order_shown, keys_shown, allowed_here, allowed}
 use Rattle.vx_check_rules.specs.Refusal.{Rule, size_mismatch, replicated_input, inputs_not_matched, order_needed, order_not_shown, or_else, refused_at}
 use Rattle.vx_check_rules.specs.Behaviour.{gives, ways_along, ways_over, behaviour, shown_part}
 use Rattle.vx_check_rules.proofs.Bools.{all-more}
 use Rattle.vx_check_rules.proofs.Exact.{parts-exactly}
+use Rattle.vx_check_rules.proofs.DerivedMore.{eight}
 use Rattle.vx_check_options.specs.Options.{gives_part, told_parts, parts_above, no_input, parts_at, is_within_here, is_within, narrowed, places_over, places_at, can_send, can_meet, can_order, can_keep, fit_tests, first_unfit}
 use Rattle.vx_check_options.specs.Laws.{keeps_part, KeepsClaim, Keeps, is_told, is_front, OnlyOptions}
 use Rattle.vx_check_options.proofs.Alike.{one_or, replicated, options-alike}
@@ -25,16 +26,6 @@ use Rattle.vx_check_options.proofs.Told.{are_few, names_few, is_whole, each_way,
 use Rattle.vx_check_options.proofs.Fronts.{front-singles, narrowed-some, narrowed-kept, unary-front, binary-front, exchange-front}
 
 -- ---- tests at a node
-
-seven : (a b c d e f g : Bool) → (a && (b && (c && (d && (e && (f && g)))))) ≡ true
-    → (a ≡ true) × (b ≡ true) × (c ≡ true) × (d ≡ true) × (e ≡ true) × (f ≡ true) × (g ≡ true)
-seven a b c d e f g h =
-    let h1 = and-right a (b && (c && (d && (e && (f && g))))) h in
-    let h2 = and-right b (c && (d && (e && (f && g)))) h1 in
-    let h3 = and-right c (d && (e && (f && g))) h2 in
-    let h4 = and-right d (e && (f && g)) h3 in
-    let h5 = and-right e (f && g) h4 in
-    (and-left a _ h, and-left b _ h1, and-left c _ h2, and-left d _ h3, and-left e _ h4, and-left f _ h5, and-right f g h5)
 
 -- those that an accepted node passes
 record Passed (catalog : ℕ → Relation) (q : Plan) : Type 0 where
@@ -47,8 +38,8 @@ record Passed (catalog : ℕ → Relation) (q : Plan) : Type 0 where
 
 passed : (catalog : ℕ → Relation) (q : Plan) → allowed_here catalog q ≡ true → Passed catalog q
 passed catalog q h =
-    let t = seven (sizes_match q) (not_replicated q) (inputs_match q) (order_given q) (part_shown catalog q) (order_shown catalog q) (keys_shown catalog q) h in
-    record { sizes = t.0; once = t.1; inputs = t.2; given = t.3; part = t.4; order = t.5 }
+    let t = eight (sizes_match q) (not_replicated q) (inputs_match q) (order_given q) (first_rows_known catalog q) (part_shown catalog q) (order_shown catalog q) (keys_shown catalog q) h in
+    record { sizes = t.0; once = t.1; inputs = t.2; given = t.3; part = t.5; order = t.6 }
 
 or-drop : (b c : Bool) → b ≡ false → (b || c) ≡ true → c ≡ true
 or-drop true c h k = cc
@@ -69,13 +60,13 @@ both-none None o' h k = k
 
 -- ---- the same nodes
 
-same-size : (p q : Plan) → Keeps p q → size q ≡ size p
+pub same-size : (p q : Plan) → Keeps p q → size q ≡ size p
 same-size (scan n c r m z) q k = ap size k.1
 same-size (unary n c op p) q k = ap size k.2 ∙ same-size p k.1 k.4
 same-size (binary n c op p p2) q k = ap size k.3 ∙ same-size p k.1 k.5
 same-size (exchange n c kind m p) q k = ap size k.2
 
-same-width : (catalog : ℕ → Relation) (p q : Plan) → Keeps p q → width catalog q ≡ width catalog p
+pub same-width : (catalog : ℕ → Relation) (p q : Plan) → Keeps p q → width catalog q ≡ width catalog p
 same-width catalog (scan n c r m z) q k = ap (width catalog) k.1
 same-width catalog (unary n c op p) q k = ap (width catalog) k.2 ∙ ap (unary_width op) (same-width catalog p k.1 k.4)
 same-width catalog (binary n c op p p2) q k =
@@ -231,6 +222,7 @@ both-ordered catalog n m c d (join true on) p q p' q' g f h =
     (narrowed-some lefts (claim p').order (places_at catalog p) (and-left (is_prefix lefts (claim p').order) (is_prefix rights (claim q').order) g) f)
     (narrowed-some rights (claim q').order (places_at catalog q) (and-right (is_prefix lefts (claim p').order) (is_prefix rights (claim q').order) g) h)
 both-ordered catalog n m c d (join false on) p q p' q' g f h = refl
+both-ordered catalog n m c d (semi_join matched on conditions) p q p' q' g f h = refl
 
 -- what a node over two inputs shows, by their parts alone
 both-given : (catalog : ℕ → Relation) (n m : ℕ) (c d : Claim) (op : Binary) (p q p' q' : Plan) (x : Part) → width catalog p' ≡ width catalog p → is_one (size p') ≡ false → is_one (size q') ≡ false
@@ -238,7 +230,7 @@ both-given : (catalog : ℕ → Relation) (n m : ℕ) (c d : Claim) (op : Binary
 both-given catalog n m c d op p q p' q' x wide left right h =
     let y : Part = (claim p').part in
     let z : Part = (claim q').part in
-    let at = λ (w : ℕ) (a b : Bool). list_any (λ v. gives v x) (ways_over (described_both w op).pairs (described_both w op) (a, y) (b, z)) in
+    let at = λ (w : ℕ) (a b : Bool). list_any (λ v. gives v x) (ways_over (described_both w op).meeting (described_both w op) (a, y) (b, z)) in
     let one_less : at (width catalog p) (is_one (size p')) (is_one (size q')) ≡ true = subst (λ w. at w (is_one (size p')) (is_one (size q')) ≡ true) wide h in
     let two_less : at (width catalog p) false (is_one (size q')) ≡ true = subst (λ a. at (width catalog p) a (is_one (size q')) ≡ true) left one_less in
     subst (λ b. at (width catalog p) false b ≡ true) right two_less

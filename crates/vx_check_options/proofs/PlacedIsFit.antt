@@ -1,4 +1,5 @@
 -- The checker refuses what is placed exactly where no claims fit.
+use Rattle.std.specs.Prelude.{⊤}
 use Rattle.std.proofs.Common.{◌≡◌, ℕ, Bool, true, false, cond, ◌==◌, ◌&&◌, ◌||◌, ◌⊎◌, inl, inr, ⊎_elim, List, [], ◌∷◌, map, take, refl, sym, ap, ◌∙◌, Option, Some, None, is_some, option_map, unwrap_or}
 use Rattle.std.specs.List.{list_any, list_all, filter}
 use Rattle.std.proofs.lemmas.Bool.{eqb-true}
@@ -6,18 +7,19 @@ use Rattle.vx_rows_values.specs.Lists.{is_some_list}
 use Rattle.vx_rows_values.proofs.Booleans.{and-left, and-right, and-both}
 use Rattle.vx_catalog_relations.specs.Relation.{Relation}
 use Rattle.vx_catalog_relations.specs.Catalog.{relation_at}
-use Rattle.vx_plan_nodes.specs.Plan.{Size, by_hash, by_range, Part, one, any, all, routed, Claim, Unary, Binary, union, join, ExchangeKind, route_to, round, broadcast, gather, concat, Plan, scan, unary, binary, exchange, number, claim, size, is_one, size_eq}
+use Rattle.vx_plan_nodes.specs.Plan.{Size, by_hash, by_range, Part, one, any, all, routed, Claim, Unary, Binary, union, join, semi_join, ExchangeKind, route_to, round, broadcast, gather, concat, Plan, scan, unary, binary, exchange, number, claim, size, is_one, size_eq}
 use Rattle.vx_plan_nodes.specs.Types.{width, unary_width, binary_width}
 use Rattle.vx_plan_nodes.specs.Typed.{Scope, may_merge, is_kind, are_columns, typed}
 use Rattle.vx_plan_nodes.specs.Describe.{Copying, whole_rows, OrderAfter, order_kept, sorted_on, described, described_both}
 use Rattle.vx_check_rules.specs.Rules.{part_gives, contains, is_prefix, rises_by, goes_on, sizes_match, not_replicated, inputs_match, order_given, part_shown, order_shown, if_some, keys_of, keys_shown}
-use Rattle.vx_check_rules.specs.Refusal.{Rule, size_mismatch, part_not_shown, inputs_not_matched, replicated_input, order_not_shown, order_needed, key_not_shown, first_failure, first_refused, node_tests, or_else, refused_at}
+use Rattle.vx_check_rules.specs.Refusal.{Rule, size_mismatch, part_not_shown, inputs_not_matched, replicated_input, order_not_shown, order_needed, key_not_shown, first_rows_open, first_failure, or_else, refused_at}
 use Rattle.vx_check_rules.specs.Behaviour.{own, gives, sources, order_after, ways_along, ways_over, ways_from, behaviour, fits, shown_part}
 use Rattle.vx_check_rules.proofs.Bools.{or-left, or-right, any-more}
 use Rattle.vx_check_rules.proofs.Exact.{fits-exactly, parts-exactly, orders-exactly}
 use Rattle.vx_check_rules.proofs.Refusals.{none-both, none-failed}
 use Rattle.vx_check_options.specs.Options.{told_parts, parts_at, OrderChoices, singles, narrowed, or_nowhere, places_over_both, places_sent, rising, places_at, can_send, can_meet, can_order, can_keep, fit_tests, first_unfit}
 use Rattle.vx_check_options.specs.Placed.{order_along, order_below, left_order, right_order, order_sent, is_chosen, first_part, parts_below, part_sent, keyless, placed, bare}
+use Rattle.vx_check_options.specs.Claimed.{fit_tests_with}
 use Rattle.vx_check_options.specs.Laws.{is_option}
 use Rattle.vx_check_options.proofs.PlacedOrders.{same-tests, are_full, full-singles, full-up, full-rising, full-nowhere, first-chosen, along-chosen, chosen-along, prefix-same, begins-same, kept-chosen, goes-on-same, none-chosen, kept-prefix, singles-chosen, then-chosen, below-shown}
 use Rattle.vx_check_options.proofs.PlacedParts.{lefts_at, rights_at, parts-at-is, below-given, below-in, sent-in, option-in, find-some, met-some, both-several}
@@ -65,6 +67,7 @@ full-both : (op : Binary) (places : OrderChoices) → are_full places ≡ true �
 full-both union places h = refl
 full-both (join true on) places h = full-nowhere (map (λ x. x.0) on) places h
 full-both (join false on) places h = h
+full-both (semi_join matched on conditions) places h = h
 
 full-sent : (k : ExchangeKind) (merge : List ℕ) (parts : List Part) (places : OrderChoices) (b : Bool) → are_full places ≡ true
     → are_full (cond b (or_nowhere (narrowed merge places)) (places_sent k merge parts places)) ≡ true
@@ -84,12 +87,12 @@ full-at catalog (exchange n c k m p) = full-nowhere c.order _ (full-sent k m (pa
 -- ---- parts
 
 ways-both : (catalog : ℕ → Relation) (op : Binary) (p p2 : Plan) (x y : Part) (order order2 : List ℕ) → is_one (size p) ≡ false → is_one (size p2) ≡ false
-    → ways_over (described_both (width catalog (placed catalog p x order)) op).pairs (described_both (width catalog (placed catalog p x order)) op) (own (placed catalog p x order)) (own (placed catalog p2 y order2))
-    ≡ ways_over (described_both (width catalog p) op).pairs (described_both (width catalog p) op) (false, x) (false, y)
+    → ways_over (described_both (width catalog (placed catalog p x order)) op).meeting (described_both (width catalog (placed catalog p x order)) op) (own (placed catalog p x order)) (own (placed catalog p2 y order2))
+    ≡ ways_over (described_both (width catalog p) op).meeting (described_both (width catalog p) op) (false, x) (false, y)
 ways-both catalog op p p2 x y order order2 s s2 =
-    ap (λ w. ways_over (described_both w op).pairs (described_both w op) (own (placed catalog p x order)) (own (placed catalog p2 y order2))) (width-placed catalog p x order)
-    ∙ (ap (λ h. ways_over (described_both (width catalog p) op).pairs (described_both (width catalog p) op) h (own (placed catalog p2 y order2))) (own-placed catalog p x order s)
-    ∙ ap (λ h. ways_over (described_both (width catalog p) op).pairs (described_both (width catalog p) op) (false, x) h) (own-placed catalog p2 y order2 s2))
+    ap (λ w. ways_over (described_both w op).meeting (described_both w op) (own (placed catalog p x order)) (own (placed catalog p2 y order2))) (width-placed catalog p x order)
+    ∙ (ap (λ h. ways_over (described_both (width catalog p) op).meeting (described_both (width catalog p) op) h (own (placed catalog p2 y order2))) (own-placed catalog p x order s)
+    ∙ ap (λ h. ways_over (described_both (width catalog p) op).meeting (described_both (width catalog p) op) (false, x) h) (own-placed catalog p2 y order2 s2))
 
 -- the parts that are placed below a node
 abbrev pub left_part : (ℕ → Relation) → Plan → Part → Part
@@ -169,7 +172,7 @@ sent-given concat [] claimed parts places order false may f keep h = refl
 sent-given concat (c ∷ merge) claimed parts places order false may f keep h = cc
 
 -- what is kept passes
-kept-passes : (test : ℕ → Bool) (s : List ℕ) (d : ℕ) → contains (filter test s) d ≡ true → (contains s d ≡ true) × (test d ≡ true)
+pub kept-passes : (test : ℕ → Bool) (s : List ℕ) (d : ℕ) → contains (filter test s) d ≡ true → (contains s d ≡ true) × (test d ≡ true)
 kept-passes test [] d h = cc
 kept-passes test (c ∷ s) d h = by (test c) refl (kept-passes test s d) h
   where
@@ -241,22 +244,28 @@ sizes-placed catalog (binary n c op p p2) q order = alike (size-placed catalog p
 sizes-placed catalog (exchange n c k m p) q order = refl
 
 -- the first failure is the same
-same-failure : (a b c d e a' b' c' d' f g h : Bool) → a' ≡ a → b' ≡ b → (a ≡ true → c ≡ true → c' ≡ true) → (a ≡ true → c' ≡ true → c ≡ true) → d' ≡ d → e ≡ true
+same-failure : (a b c d e m a' b' c' d' f g h : Bool) → a' ≡ a → b' ≡ b → (a ≡ true → c ≡ true → c' ≡ true) → (a ≡ true → c' ≡ true → c ≡ true) → d' ≡ d → e ≡ true
     → (a ≡ true → c ≡ true → f ≡ true) → g ≡ true → h ≡ true
-    → first_failure ((a', size_mismatch) ∷ (b', replicated_input) ∷ (c', inputs_not_matched) ∷ (d', order_needed) ∷ (f, part_not_shown) ∷ (g, order_not_shown) ∷ (h, key_not_shown) ∷ [])
-    ≡ first_failure ((a, size_mismatch) ∷ (b, replicated_input) ∷ (c, inputs_not_matched) ∷ (d, order_needed) ∷ (e, order_not_shown) ∷ [])
-same-failure false b c d e a' b' c' d' f g h sa sb cc1 cc2 sd se sf sg sh = rw sa refl
-same-failure true false c d e a' b' c' d' f g h sa sb cc1 cc2 sd se sf sg sh = rw (sa, sb) refl
-same-failure true true false d e a' b' c' d' f g h sa sb cc1 cc2 sd se sf sg sh =
+    → first_failure ((a', size_mismatch) ∷ (b', replicated_input) ∷ (c', inputs_not_matched) ∷ (d', order_needed) ∷ (m, first_rows_open) ∷ (f, part_not_shown) ∷ (g, order_not_shown) ∷ (h, key_not_shown) ∷ [])
+    ≡ first_failure ((a, size_mismatch) ∷ (b, replicated_input) ∷ (c, inputs_not_matched) ∷ (d, order_needed) ∷ (m, first_rows_open) ∷ (e, order_not_shown) ∷ [])
+same-failure false b c d e m a' b' c' d' f g h sa sb cc1 cc2 sd se sf sg sh = rw sa refl
+same-failure true false c d e m a' b' c' d' f g h sa sb cc1 cc2 sd se sf sg sh = rw (sa, sb) refl
+same-failure true true false d e m a' b' c' d' f g h sa sb cc1 cc2 sd se sf sg sh =
     let no : c' ≡ false = same-tests c' false (cc2 refl) (cc1 refl) in
     rw (sa, sb, no) refl
-same-failure true true true false e a' b' c' d' f g h sa sb cc1 cc2 sd se sf sg sh =
+same-failure true true true false e m a' b' c' d' f g h sa sb cc1 cc2 sd se sf sg sh =
     let yes : c' ≡ true = cc1 refl refl in
     rw (sa, sb, yes, sd) refl
-same-failure true true true true e a' b' c' d' f g h sa sb cc1 cc2 sd se sf sg sh =
+same-failure true true true true e m a' b' c' d' f g h sa sb cc1 cc2 sd se sf sg sh =
     let yes : c' ≡ true = cc1 refl refl in
     let shown : f ≡ true = sf refl refl in
     rw (sa, sb, yes, sd, se, shown, sg, sh) refl
+
+-- the tests of a node, but that of the first rows is this one
+abbrev pub tests_with : (known : Bool) → (ℕ → Relation) → Plan → List (Bool × Rule)
+tests_with known catalog p =
+    (sizes_match p, size_mismatch) ∷ (not_replicated p, replicated_input) ∷ (inputs_match p, inputs_not_matched) ∷ (order_given p, order_needed) ∷ (known, first_rows_open)
+    ∷ (part_shown catalog p, part_not_shown) ∷ (order_shown catalog p, order_not_shown) ∷ (keys_shown catalog p, key_not_shown) ∷ []
 
 -- the node can keep the order that it claims, and claims no part or can keep it
 record Ready (catalog : ℕ → Relation) (p : Plan) : Type 0 where
@@ -267,10 +276,10 @@ record Ready (catalog : ℕ → Relation) (p : Plan) : Type 0 where
 node-fit : (catalog : ℕ → Relation) (p : Plan) (q : Part) (order : List ℕ) (n : ℕ) → Ready catalog p → is_option (parts_at catalog p) q ≡ true
     → is_some_list (lefts_at catalog p) ≡ true → is_some_list (rights_at catalog p) ≡ true → not_replicated (placed catalog p q order) ≡ can_send catalog p
     → order_given (placed catalog p q order) ≡ can_order catalog p → order_shown catalog (placed catalog p q order) ≡ true
-    → refused_at n (node_tests catalog (placed catalog p q order)) ≡ refused_at n (fit_tests catalog p)
-node-fit catalog p q order n r h hl hr once given shown =
+    → (known : Bool) → refused_at n (tests_with known catalog (placed catalog p q order)) ≡ refused_at n (fit_tests_with known catalog p)
+node-fit catalog p q order n r h hl hr once given shown known =
     ap (λ (o : Option Rule). option_map {U = ℕ × Rule} (λ x. (n, x)) o)
-    (same-failure (sizes_match p) (can_send catalog p) (can_meet catalog p) (can_order catalog p) (can_keep catalog p) (sizes_match (placed catalog p q order))
+    (same-failure (sizes_match p) (can_send catalog p) (can_meet catalog p) (can_order catalog p) (can_keep catalog p) known (sizes_match (placed catalog p q order))
     (not_replicated (placed catalog p q order)) (inputs_match (placed catalog p q order)) (order_given (placed catalog p q order)) (part_shown catalog (placed catalog p q order))
     (order_shown catalog (placed catalog p q order)) (keys_shown catalog (placed catalog p q order)) (sizes-placed catalog p q order) once
     (λ e met. met-placed catalog p q order e met h)
@@ -329,26 +338,26 @@ bare-ready catalog (exchange n c k m p) e = record { keep = bare-keep c _ (ap cl
 ready : (catalog : ℕ → Relation) (p : Plan) → Placeable catalog p → Ready catalog p
 ready catalog p h = ⊎_elim (λ e. bare-ready catalog p e) (λ e. let f = all-fit catalog p e in record { keep = f.keep; meets = inr f.met }) h
 
-below-unary : (catalog : ℕ → Relation) (n : ℕ) (c : Claim) (op : Unary) (p : Plan) → Placeable catalog (unary n c op p) → Placeable catalog p
+pub below-unary : (catalog : ℕ → Relation) (n : ℕ) (c : Claim) (op : Unary) (p : Plan) → Placeable catalog (unary n c op p) → Placeable catalog p
 below-unary catalog n c op p h = ⊎_elim (λ e. inl (under e)) (λ e. inr (none-both (first_unfit catalog p) (refused_at n (fit_tests catalog (unary n c op p))) e).0) h
   where
     under : unary n (keyless any []) op (bare p) ≡ unary n c op p → bare p ≡ p
     under e = cc
 
-below-exchange : (catalog : ℕ → Relation) (n : ℕ) (c : Claim) (k : ExchangeKind) (m : List ℕ) (p : Plan) → Placeable catalog (exchange n c k m p) → Placeable catalog p
+pub below-exchange : (catalog : ℕ → Relation) (n : ℕ) (c : Claim) (k : ExchangeKind) (m : List ℕ) (p : Plan) → Placeable catalog (exchange n c k m p) → Placeable catalog p
 below-exchange catalog n c k m p h = ⊎_elim (λ e. inl (under e)) (λ e. inr (none-both (first_unfit catalog p) (refused_at n (fit_tests catalog (exchange n c k m p))) e).0) h
   where
     under : exchange n (keyless any []) k m (bare p) ≡ exchange n c k m p → bare p ≡ p
     under e = cc
 
-below-left : (catalog : ℕ → Relation) (n : ℕ) (c : Claim) (op : Binary) (p q : Plan) → Placeable catalog (binary n c op p q) → Placeable catalog p
+pub below-left : (catalog : ℕ → Relation) (n : ℕ) (c : Claim) (op : Binary) (p q : Plan) → Placeable catalog (binary n c op p q) → Placeable catalog p
 below-left catalog n c op p q h =
     ⊎_elim (λ e. inl (under e)) (λ e. inr (none-both (first_unfit catalog p) (or_else (first_unfit catalog q) (refused_at n (fit_tests catalog (binary n c op p q)))) e).0) h
   where
     under : binary n (keyless any []) op (bare p) (bare q) ≡ binary n c op p q → bare p ≡ p
     under e = cc
 
-below-right : (catalog : ℕ → Relation) (n : ℕ) (c : Claim) (op : Binary) (p q : Plan) → Placeable catalog (binary n c op p q) → Placeable catalog q
+pub below-right : (catalog : ℕ → Relation) (n : ℕ) (c : Claim) (op : Binary) (p q : Plan) → Placeable catalog (binary n c op p q) → Placeable catalog q
 below-right catalog n c op p q h =
     ⊎_elim (λ e. inl (under e))
     (λ e. inr (none-both (first_unfit catalog q) (refused_at n (fit_tests catalog (binary n c op p q)))
@@ -371,6 +380,7 @@ both-given : (catalog : ℕ → Relation) (n : ℕ) (c : Claim) (op : Binary) (p
     → is_chosen order (places_at catalog (binary n c op p q)) ≡ true → order_given (placed catalog (binary n c op p q) x order) ≡ can_order catalog (binary n c op p q)
 both-given catalog n c union p q x order keep h = refl
 both-given catalog n c (join false on) p q x order keep h = refl
+both-given catalog n c (semi_join matched on conditions) p q x order keep h = refl
 both-given catalog n c (join true on) p q x order keep h =
     both _ _ _ _ (ap (is_prefix (map (λ x. x.0) on)) (order-placed catalog p _ _) ∙ goes-on-same c.order (map (λ x. x.0) on) (places_at catalog p) order (full-at catalog p) keep h)
     (ap (is_prefix (map (λ x. x.1) on)) (order-placed catalog q _ _) ∙ begins-same (map (λ x. x.1) on) (places_at catalog q) (full-at catalog q))
@@ -384,6 +394,9 @@ both-shown catalog n c union p q x order keep h = ap (λ xs. is_prefix xs []) (n
 both-shown catalog n c (join true on) p q x order keep h =
     ap (is_prefix order) (order-placed catalog p _ _) ∙ kept-prefix (map (λ x. x.0) on) (places_at catalog p) order (kept-chosen c.order _ order keep h).0
 both-shown catalog n c (join false on) p q x order keep h =
+    ap (is_prefix order) (order-placed catalog p _ _)
+    ∙ (ap (is_prefix order) (chosen-along order (places_at catalog p) (kept-chosen c.order (places_at catalog p) order keep h).0) ∙ prefix-same order)
+both-shown catalog n c (semi_join matched on conditions) p q x order keep h =
     ap (is_prefix order) (order-placed catalog p _ _)
     ∙ (ap (is_prefix order) (chosen-along order (places_at catalog p) (kept-chosen c.order (places_at catalog p) order keep h).0) ∙ prefix-same order)
 
@@ -409,57 +422,55 @@ exchange-shown catalog n c k merge p q order keep h =
 
 -- ---- all nodes
 
-else-same : {X : Type 0} (o o' u u' : Option X) → o ≡ o' → (o' ≡ None → u ≡ u') → or_else o u ≡ or_else o' u'
+pub else-same : {X : Type 0} (o o' u u' : Option X) → o ≡ o' → (o' ≡ None → u ≡ u') → or_else o u ≡ or_else o' u'
 else-same o None u u' e f = rw e (f refl)
 else-same o (Some x) u u' e f = rw e refl
 
 pub left-chosen : (op : Binary) (order : List ℕ) (places : OrderChoices) → are_full places ≡ true → is_chosen (left_order op order places) places ≡ true
 left-chosen union order places f = first-chosen places f
 left-chosen (join m on) order places f = along-chosen whole_rows order places f
+left-chosen (semi_join matched on conditions) order places f = along-chosen whole_rows order places f
 
 pub right-chosen : (op : Binary) (places : OrderChoices) → are_full places ≡ true → is_chosen (right_order op places) places ≡ true
 right-chosen union places f = first-chosen places f
 right-chosen (join true on) places f = along-chosen whole_rows (map (λ x. x.1) on) places f
 right-chosen (join false on) places f = first-chosen places f
+right-chosen (semi_join matched on conditions) places f = first-chosen places f
 
 pub below-chosen : (a : OrderAfter) (k : Copying) (order : List ℕ) (places : OrderChoices) → are_full places ≡ true → is_chosen (order_below a k order places) places ≡ true
 below-chosen order_kept k order places f = along-chosen k order places f
 below-chosen (sorted_on cols) k order places f = first-chosen places f
 
-pub placed-is-fit : (s : Scope) (p : Plan) (q : Part) (order : List ℕ) → typed s p ≡ true → (bare p ≡ p) ⊎ (first_unfit (relation_at s.catalog) p ≡ None)
-    → is_option (parts_at (relation_at s.catalog) p) q ≡ true → is_chosen order (places_at (relation_at s.catalog) p) ≡ true
-    → first_refused (relation_at s.catalog) (placed (relation_at s.catalog) p q order) ≡ first_unfit (relation_at s.catalog) p
-placed-is-fit s (scan n c r m z) q order t how o h =
+-- no node below is unfit
+abbrev pub InputsFit : (ℕ → Relation) → Plan → Type 0
+InputsFit catalog (scan n c r m z) = ⊤
+InputsFit catalog (unary n c op p) = first_unfit catalog p ≡ None
+InputsFit catalog (binary n c op p q) = (first_unfit catalog p ≡ None) × (first_unfit catalog q ≡ None)
+InputsFit catalog (exchange n c k m p) = first_unfit catalog p ≡ None
+
+-- then the first test that fails is the same, whether or not the first rows are known
+pub placed-node : (s : Scope) (p : Plan) (q : Part) (order : List ℕ) → typed s p ≡ true → Placeable (relation_at s.catalog) p → InputsFit (relation_at s.catalog) p
+    → is_option (parts_at (relation_at s.catalog) p) q ≡ true → is_chosen order (places_at (relation_at s.catalog) p) ≡ true → (known : Bool) (i : ℕ)
+    → refused_at i (tests_with known (relation_at s.catalog) (placed (relation_at s.catalog) p q order)) ≡ refused_at i (fit_tests_with known (relation_at s.catalog) p)
+placed-node s (scan n c r m z) q order t how fits o h known i =
     let catalog = relation_at s.catalog in
     let here = ready catalog (scan n c r m z) how in
-    node-fit catalog (scan n c r m z) q order n here o refl refl refl refl (merged (catalog r).order c.order order here.keep h)
-placed-is-fit s (unary n c op p) q order t how o h =
+    node-fit catalog (scan n c r m z) q order i here o refl refl refl refl (merged (catalog r).order c.order order here.keep h) known
+placed-node s (unary n c op p) q order t how fits o h known i =
     let catalog = relation_at s.catalog in
     let here = ready catalog (unary n c op p) how in
-    else-same _ _ _ _
-    (placed-is-fit s p _ _ (and-left (typed s p) _ t) (below-unary catalog n c op p how) (below-in catalog (unary n c op p) q (parts_at catalog p) (rights_at catalog (unary n c op p))).0
-    (below-chosen (described op).order (described op).copying order (places_at catalog p) (full-at catalog p)))
-    (λ none. node-fit catalog (unary n c op p) q order n here o (all-fit catalog p none).met refl refl refl (unary-shown catalog n c op p q order here.keep h))
-placed-is-fit s (binary n c op p p2) q order t how o h =
+    node-fit catalog (unary n c op p) q order i here o (all-fit catalog p fits).met refl refl refl (unary-shown catalog n c op p q order here.keep h) known
+placed-node s (binary n c op p p2) q order t how fits o h known i =
     let catalog = relation_at s.catalog in
     let here = ready catalog (binary n c op p p2) how in
-    let parts = below-in catalog (binary n c op p p2) q (parts_at catalog p) (parts_at catalog p2) in
-    else-same _ _ _ _
-    (placed-is-fit s p _ _ (and-left (typed s p) _ t) (below-left catalog n c op p p2 how) parts.0 (left-chosen op order (places_at catalog p) (full-at catalog p)))
-    (λ none. else-same _ _ _ _
-    (placed-is-fit s p2 _ _ (and-left (typed s p2) _ (and-right (typed s p) _ t)) (below-right catalog n c op p p2 how) parts.1
-    (right-chosen op (places_at catalog p2) (full-at catalog p2)))
-    (λ none2. node-fit catalog (binary n c op p p2) q order n here o (all-fit catalog p none).met (all-fit catalog p2 none2).met refl
-    (both-given catalog n c op p p2 q order here.keep h) (both-shown catalog n c op p p2 q order here.keep h)))
-placed-is-fit s (exchange n c k m p) q order t how o h =
+    node-fit catalog (binary n c op p p2) q order i here o (all-fit catalog p fits.0).met (all-fit catalog p2 fits.1).met refl
+    (both-given catalog n c op p p2 q order here.keep h) (both-shown catalog n c op p p2 q order here.keep h) known
+placed-node s (exchange n c k m p) q order t how fits o h known i =
     let catalog = relation_at s.catalog in
     let here = ready catalog (exchange n c k m p) how in
     let may : may_merge k m ≡ true = and-left (may_merge k m) _ (and-right (are_columns _ m) _ (and-right (is_kind s _ k) _ (and-right (typed s p) _ t))) in
-    else-same _ _ _ _
-    (placed-is-fit s p _ _ (and-left (typed s p) _ t) (below-exchange catalog n c k m p how) (sent-in k order (parts_at catalog p))
-    (along-chosen whole_rows (order_sent k (is_one (size p)) m order) (places_at catalog p) (full-at catalog p)))
-    (λ none. let met = (all-fit catalog p none).met in
-    node-fit catalog (exchange n c k m p) q order n here o refl refl (sent-once catalog n c k m p q order met)
+    let met = (all-fit catalog p fits).met in
+    node-fit catalog (exchange n c k m p) q order i here o refl refl (sent-once catalog n c k m p q order met)
     (ap (is_prefix m) (order-placed catalog p _ _)
     ∙ sent-given k m c.order (parts_at catalog p) (places_at catalog p) order (is_one (size p)) may (full-at catalog p) here.keep h)
-    (exchange-shown catalog n c k m p q order here.keep h))
+    (exchange-shown catalog n c k m p q order here.keep h) known

@@ -4,7 +4,7 @@ use Rattle.vx_rows_values.specs.declared.value.ColType.{ColType}
 use Rattle.vx_rows_values.proofs.Booleans.{and-left, and-right, and-both}
 use Rattle.vx_catalog_relations.specs.Relation.{Relation}
 use Rattle.vx_catalog_relations.specs.Catalog.{relation_at, IsCatalog}
-use Rattle.vx_plan_nodes.specs.Plan.{Part, Aggregate, Claim, Unary, select, project, distinct, sort, group, plain, partial, final, Binary, ExchangeKind, Plan, scan, unary, binary, exchange, claim, size, is_one}
+use Rattle.vx_plan_nodes.specs.Plan.{Part, Aggregate, Claim, Unary, select, project, distinct, sort, group, limit, plain, partial, final, Binary, ExchangeKind, Plan, scan, unary, binary, exchange, claim, size, is_one}
 use Rattle.vx_plan_nodes.specs.Describe.{whole_rows, described}
 use Rattle.vx_plan_nodes.specs.Types.{unary_types, binary_types, types_of}
 use Rattle.vx_plan_nodes.specs.Typed.{Scope, are_columns, is_size, is_part, is_claim, is_unary, is_binary, is_kind, may_merge, is_output, typed}
@@ -53,6 +53,7 @@ fits-placed (sort true cols) catalog p q order = open-placed catalog p q order
 fits-placed (group plain by aggregates) catalog p q order = ap not (open-placed catalog p q order)
 fits-placed (group partial by aggregates) catalog p q order = ap not (open-placed catalog p q order)
 fits-placed (group final by aggregates) catalog p q order = opens-placed by aggregates catalog p q order
+fits-placed (limit m) catalog p q order = ap not (open-placed catalog p q order)
 
 -- that both inputs are closed
 closed-placed : (catalog : ℕ → Relation) (p p2 : Plan) (x y : Part) (order order2 : List ℕ) → both_closed (placed catalog p x order) (placed catalog p2 y order2) ≡ both_closed p p2

@@ -3,7 +3,7 @@ use Rattle.std.proofs.Common.{◌≡◌, ℕ, Bool, true, false, cond, ◌&&◌,
 use Rattle.vx_rows_values.specs.Lists.{is_some_list}
 use Rattle.vx_rows_values.proofs.Booleans.{and-left, and-right}
 use Rattle.vx_catalog_relations.specs.Relation.{Relation}
-use Rattle.vx_plan_nodes.specs.Plan.{Part, one, any, all, routed, Binary, union, join, ExchangeKind, route_to, round, broadcast, gather, concat, Plan, scan, unary, binary, exchange, claim, size, is_one}
+use Rattle.vx_plan_nodes.specs.Plan.{Part, one, any, all, routed, Binary, union, join, semi_join, ExchangeKind, route_to, round, broadcast, gather, concat, Plan, scan, unary, binary, exchange, claim, size, is_one}
 use Rattle.vx_plan_nodes.specs.Describe.{Copying, whole_rows, OrderAfter, order_kept, sorted_on, described}
 use Rattle.vx_check_rules.specs.Rules.{part_gives, sizes_match}
 use Rattle.vx_check_rules.specs.Refusal.{or_else, refused_at}
@@ -83,6 +83,7 @@ both-filled : (op : Binary) (places : OrderChoices) → are_filled places ≡ tr
 both-filled union places h = refl
 both-filled (join true on) places h = nowhere-filled (map (λ x. x.0) on) places h
 both-filled (join false on) places h = h
+both-filled (semi_join matched on conditions) places h = h
 
 -- no place of a node is empty
 pub places-filled : (catalog : ℕ → Relation) (p : Plan) → are_filled (places_at catalog p) ≡ true
@@ -108,12 +109,14 @@ below-chosen (sorted_on cols) k order places f = first-columns-chosen places f
 pub left-chosen : (op : Binary) (order : List ℕ) (places : OrderChoices) → are_filled places ≡ true → is_chosen (left_order op order places) places ≡ true
 left-chosen union order places f = first-columns-chosen places f
 left-chosen (join m on) order places f = along-chosen whole_rows order places f
+left-chosen (semi_join matched on conditions) order places f = along-chosen whole_rows order places f
 
 -- and of the right one
 pub right-chosen : (op : Binary) (places : OrderChoices) → are_filled places ≡ true → is_chosen (right_order op places) places ≡ true
 right-chosen union places f = first-columns-chosen places f
 right-chosen (join true on) places f = along-chosen whole_rows (map (λ x. x.1) on) places f
 right-chosen (join false on) places f = first-columns-chosen places f
+right-chosen (semi_join matched on conditions) places f = first-columns-chosen places f
 
 -- ---- plans
 

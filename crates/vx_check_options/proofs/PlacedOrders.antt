@@ -7,7 +7,7 @@ use Rattle.std.proofs.lemmas.List.Folds.{list_any-append}
 use Rattle.vx_rows_values.specs.Lists.{is_some_list}
 use Rattle.vx_rows_values.proofs.Booleans.{and-left, and-right, and-both}
 use Rattle.vx_plan_nodes.specs.Plan.{Part}
-use Rattle.vx_plan_nodes.specs.Describe.{Copying, whole_rows, columns_kept, left_of, right_of, source, OrderAfter, order_kept, sorted_on}
+use Rattle.vx_plan_nodes.specs.Describe.{Copying, whole_rows, columns_kept, left_of, right_of, no_columns, source, OrderAfter, order_kept, sorted_on}
 use Rattle.vx_check_rules.specs.Rules.{contains, is_prefix, cons_both, if_some}
 use Rattle.vx_check_rules.specs.Behaviour.{sources, order_after}
 use Rattle.vx_check_rules.proofs.Bools.{or-false, or-left, or-right}
@@ -98,9 +98,10 @@ copies-source (columns_kept cols) c d h =
     rw is w.2
 copies-source (left_of w) c d h = left-source w c d h
 copies-source (right_of w) c d h = right-source w c d h
+copies-source no_columns c d h = cc
 
 -- a copy of one of these columns
-copied-from : (k : Copying) (s : List ℕ) (d : ℕ) → contains (flat_map (copies k) s) d ≡ true → (c : ℕ) × (contains s c ≡ true) × (source k d ≡ Some c)
+pub copied-from : (k : Copying) (s : List ℕ) (d : ℕ) → contains (flat_map (copies k) s) d ≡ true → (c : ℕ) × (contains s c ≡ true) × (source k d ≡ Some c)
 copied-from k s d h =
     let w = any-number (λ c. contains (copies k c) d) s (sym (any-flat (λ y. d == y) (copies k) s) ∙ h) in
     (w.0, w.1, copies-source k w.0 d w.2)

@@ -7,7 +7,7 @@ use Rattle.vx_rows_values.specs.Lists.{is_some_list}
 use Rattle.vx_rows_values.proofs.Booleans.{and-left, and-right, and-both}
 use Rattle.vx_catalog_relations.specs.Relation.{Relation}
 use Rattle.vx_catalog_relations.proofs.NameFacts.{list_any-map}
-use Rattle.vx_plan_nodes.specs.Plan.{Size, one_worker, group_of, Route, by_hash, by_range, Part, one, any, all, routed, union, join, ExchangeKind, route_to, round, broadcast, gather, concat, Plan, scan, unary, binary, exchange, claim, size, is_one, size_eq, target}
+use Rattle.vx_plan_nodes.specs.Plan.{Size, one_worker, group_of, Route, by_hash, by_range, Part, one, any, all, routed, union, join, semi_join, ExchangeKind, route_to, round, broadcast, gather, concat, Plan, scan, unary, binary, exchange, claim, size, is_one, size_eq, target}
 use Rattle.vx_plan_nodes.specs.Parts.{kind_part}
 use Rattle.vx_plan_nodes.specs.Types.{width}
 use Rattle.vx_plan_nodes.specs.Describe.{Copying, whole_rows, left_of, right_of, described}
@@ -309,6 +309,13 @@ ways-each catalog (binary n c (join m on) p q) good P x y s gx gy made lone both
     rights : (b : Bool) → list_all P (if_so b (way (right_of (width catalog p)) ((false, y) ∷ []) ∷ [])) ≡ true
     rights true = and-both (P (way (right_of (width catalog p)) ((false, y) ∷ []))) true (lone (right_of (width catalog p)) y gy) refl
     rights false = refl
+ways-each catalog (binary n c (semi_join matched on conditions) p q) good P x y s gx gy made lone both =
+    list_all-append P (if_so (routed_alike on x y) (way whole_rows (bare x ∷ []) ∷ [])) (if_so (part_gives y all) (way whole_rows ((false, x) ∷ []) ∷ []))
+    ∙ and-both _ _ (lefts (routed_alike on x y)) (lefts (part_gives y all))
+  where
+    lefts : (b : Bool) → list_all P (if_so b (way whole_rows ((false, x) ∷ []) ∷ [])) ≡ true
+    lefts true = and-both (P (way whole_rows ((false, x) ∷ []))) true (lone whole_rows x gx) refl
+    lefts false = refl
 
 -- each input of a way has the part that is common to all
 abbrev is_had : Way → Bool

@@ -4,7 +4,7 @@ use Rattle.std.specs.List.{list_any, list_all}
 use Rattle.std.proofs.lemmas.List.Folds.{list_all-append}
 use Rattle.vx_rows_values.proofs.Booleans.{and-left, and-right, and-both}
 use Rattle.vx_catalog_relations.specs.Relation.{Relation}
-use Rattle.vx_plan_nodes.specs.Plan.{Route, Part, one, any, all, routed, union, join, Plan, scan, unary, binary, exchange, claim, size, is_one}
+use Rattle.vx_plan_nodes.specs.Plan.{Route, Part, one, any, all, routed, union, join, semi_join, Plan, scan, unary, binary, exchange, claim, size, is_one}
 use Rattle.vx_plan_nodes.specs.Parts.{kind_part}
 use Rattle.vx_plan_nodes.specs.Types.{width}
 use Rattle.vx_plan_nodes.specs.Describe.{Copying, whole_rows, left_of, right_of, described}
@@ -190,6 +190,11 @@ says-several catalog (binary n c union p q) s l g =
     side x y hx false e = refl
 says-several catalog (binary n c (join m on) p q) s l g =
     says-here catalog (binary n c (join m on) p q) l.0 g.0 (l.0 || g.0) s l.1 g.1 (λ x y hx hy. join-says l.0 g.0 on (width catalog p) x y hx hy)
+says-several catalog (binary n c (semi_join matched on conditions) p q) s l g =
+    says-here catalog (binary n c (semi_join matched on conditions) p q) l.0 g.0 l.0 s l.1 g.1
+    (λ x y hx hy.
+    list_all-append (way_says l.0) (if_so (routed_alike on x y) (way whole_rows (bare x ∷ []) ∷ [])) (if_so (part_gives y all) (way whole_rows ((false, x) ∷ []) ∷ []))
+    ∙ and-both _ _ (one-says l.0 (routed_alike on x y) whole_rows x hx) (one-says l.0 (part_gives y all) whole_rows x hx))
 
 says-over : (catalog : ℕ → Relation) (p : Plan) → AllSay (lefts_at catalog p) → AllSay (rights_at catalog p) → AllSay (parts_at catalog p)
 says-over catalog p l g = by (is_one (size p)) refl

@@ -7,9 +7,9 @@ use Rattle.vx_rows_values.specs.Lists.{is_some_list}
 use Rattle.vx_rows_values.proofs.Booleans.{and-left, and-right, and-both}
 use Rattle.vx_catalog_relations.specs.Relation.{Relation}
 use Rattle.vx_catalog_relations.specs.Catalog.{relation_at}
-use Rattle.vx_plan_nodes.specs.Plan.{Route, by_hash, by_range, Part, one, any, all, routed, Claim, Unary, select, project, distinct, sort, group, plain, partial, final, Binary, union, join, ExchangeKind, route_to, round, broadcast, gather, concat, Plan, scan, unary, binary, exchange, claim, size, is_one}
+use Rattle.vx_plan_nodes.specs.Plan.{Route, by_hash, by_range, Part, one, any, all, routed, Claim, Unary, select, project, distinct, sort, group, limit, plain, partial, final, Binary, union, join, semi_join, ExchangeKind, route_to, round, broadcast, gather, concat, Plan, scan, unary, binary, exchange, claim, size, is_one}
 use Rattle.vx_plan_nodes.specs.Typed.{Scope, may_merge, is_kind, are_columns, typed}
-use Rattle.vx_plan_nodes.specs.Describe.{Copying, whole_rows, columns_kept, left_of, right_of, source, OrderAfter, order_kept, sorted_on, described}
+use Rattle.vx_plan_nodes.specs.Describe.{Copying, whole_rows, columns_kept, left_of, right_of, no_columns, source, OrderAfter, order_kept, sorted_on, described}
 use Rattle.vx_check_rules.specs.Rules.{part_gives, contains, is_prefix, cons_both, if_some, rises_by, goes_on, orders}
 use Rattle.vx_check_rules.specs.Refusal.{or_else, refused_at}
 use Rattle.vx_check_rules.specs.Behaviour.{sources, Way, way, order_after, gives, ways_from, behaviour, shown_part, shown_order}
@@ -64,6 +64,7 @@ copies-some whole_rows c d s h = refl
 copies-some (columns_kept cols) c d s h = place-some 0 cols c d h
 copies-some (left_of w) c d s h = left-some w c d h
 copies-some (right_of w) c d s h = right-some w c d s h
+copies-some no_columns c d s h = cc
 
 front-some : (xs : List ℕ) (lists : List (List ℕ)) → is_some_list xs ≡ true → is_some_list lists ≡ true → is_some_list (flat_map (λ d. map (λ ds. d ∷ ds) lists) xs) ≡ true
 front-some [] lists h k = cc
@@ -232,6 +233,7 @@ unary-copies (distinct cols) c d h = place-some 0 cols c d h
 unary-copies (group plain by aggregates) c d h = place-some 0 by c d h
 unary-copies (group partial by aggregates) c d h = place-some 0 by c d h
 unary-copies (group final by aggregates) c d h = place-some 0 by c d h
+unary-copies (limit m) c d h = refl
 
 singles-self : (cols : List ℕ) → is_chosen cols (singles cols) ≡ true
 singles-self [] = refl
@@ -279,6 +281,11 @@ both-longest catalog n c (join true on) p q x order o fit h l =
     let same : length order ≡ length (or_nowhere (narrowed (map (λ y. y.0) on) (places_at catalog p))) = chosen-length order _ (kept-chosen c.order _ order fit.keep h).0 in
     omega (arith, longest, narrow, same)
 both-longest catalog n c (join false on) p q x order o fit h l =
+    let longest : length o ≤ length (places_at catalog p) =
+    input-longest catalog p _ (order_along whole_rows order (places_at catalog p)) o (along-chosen whole_rows order (places_at catalog p) (full-at catalog p)) l in
+    let same : length order ≡ length (places_at catalog p) = chosen-length order _ (kept-chosen c.order _ order fit.keep h).0 in
+    omega (arith, longest, same)
+both-longest catalog n c (semi_join matched on conditions) p q x order o fit h l =
     let longest : length o ≤ length (places_at catalog p) =
     input-longest catalog p _ (order_along whole_rows order (places_at catalog p)) o (along-chosen whole_rows order (places_at catalog p) (full-at catalog p)) l in
     let same : length order ≡ length (places_at catalog p) = chosen-length order _ (kept-chosen c.order _ order fit.keep h).0 in

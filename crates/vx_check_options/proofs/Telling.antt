@@ -6,7 +6,7 @@ use Rattle.std.proofs.lemmas.Bool.Decides.{nat_tests}
 use Rattle.std.proofs.lemmas.List.Folds.{list_any-append}
 use Rattle.vx_rows_values.proofs.Booleans.{and-left, and-right, and-both}
 use Rattle.vx_catalog_relations.specs.Relation.{Relation}
-use Rattle.vx_plan_nodes.specs.Plan.{Route, by_hash, by_range, Part, one, any, all, routed, union, join, Plan, scan, unary, binary, exchange}
+use Rattle.vx_plan_nodes.specs.Plan.{Route, by_hash, by_range, Part, one, any, all, routed, union, join, semi_join, Plan, scan, unary, binary, exchange}
 use Rattle.vx_plan_nodes.specs.Types.{width}
 use Rattle.vx_plan_nodes.specs.Describe.{Copying, whole_rows, right_of, left_of, described}
 use Rattle.vx_check_rules.specs.Rules.{numbers_eq, route_eq, part_gives, if_some, routed_alike}
@@ -197,5 +197,12 @@ shown-more catalog (binary n c (join m on) p p2) q x y u z h i k =
     (if_so (part_gives u all) (way (left_of w) ((false, x) ∷ []) ∷ [])) (if_so (part_gives x all) (way (right_of w) ((false, u) ∷ []) ∷ []))
     (any-so f (part_gives z all) (part_gives u all) (way (left_of w) ((false, y) ∷ []) ∷ []) (way (left_of w) ((false, x) ∷ []) ∷ []) (gives-more u z all i) (way-alone (left_of w) x y q h))
     (any-so f (part_gives y all) (part_gives x all) (way (right_of w) ((false, z) ∷ []) ∷ []) (way (right_of w) ((false, u) ∷ []) ∷ []) (gives-more x y all h) (way-alone (right_of w) u z q i)))
+    k
+shown-more catalog (binary n c (semi_join matched on conditions) p p2) q x y u z h i k =
+    let f = λ (w : Way). gives w q in
+    any-joined f (if_so (routed_alike on y z) (way whole_rows (bare y ∷ []) ∷ [])) (if_so (part_gives z all) (way whole_rows ((false, y) ∷ []) ∷ []))
+    (if_so (routed_alike on x u) (way whole_rows (bare x ∷ []) ∷ [])) (if_so (part_gives u all) (way whole_rows ((false, x) ∷ []) ∷ []))
+    (any-so f (routed_alike on y z) (routed_alike on x u) (way whole_rows (bare y ∷ []) ∷ []) (way whole_rows (bare x ∷ []) ∷ []) (alike-more on x y u z h i) (way-alone whole_rows x y q h))
+    (any-so f (part_gives z all) (part_gives u all) (way whole_rows ((false, y) ∷ []) ∷ []) (way whole_rows ((false, x) ∷ []) ∷ []) (gives-more u z all i) (way-alone whole_rows x y q h))
     k
 shown-more catalog (exchange n c kind m p) q x y u z h i k = k

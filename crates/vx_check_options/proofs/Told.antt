@@ -7,7 +7,7 @@ use Rattle.vx_rows_values.proofs.Booleans.{and-left, and-right, and-both}
 use Rattle.vx_catalog_relations.specs.Relation.{Relation}
 use Rattle.vx_catalog_relations.proofs.NameFacts.{list_any-map}
 use Rattle.vx_plan_nodes.specs.Plan.{Route, Part, one, any, all, routed, Plan}
-use Rattle.vx_plan_nodes.specs.Describe.{Copying, whole_rows, columns_kept, left_of, right_of, source}
+use Rattle.vx_plan_nodes.specs.Describe.{Copying, whole_rows, columns_kept, left_of, right_of, no_columns, source}
 use Rattle.vx_check_rules.specs.Rules.{numbers_eq, route_eq, part_gives, contains, cons_both}
 use Rattle.vx_check_rules.specs.Behaviour.{sources, Way, way, each_has, gives, common_part, ways_from}
 use Rattle.vx_check_rules.proofs.Bools.{or-left, or-right, any-more}
@@ -55,6 +55,7 @@ copy-is whole_rows c d l e = let is : c ≡ d = cc in rw is (or-left (d == d) fa
 copy-is (columns_kept cols) c d l e = kept-found cols c d e
 copy-is (left_of w) c d l e = left-copy w c d (nat_lt d w) refl e
 copy-is (right_of w) c d l e = right-copy w c d (nat_le w d) l refl e
+copy-is no_columns c d l e = cc
 
 -- columns that there may be
 abbrev pub are_few : List ℕ → Bool

@@ -4,7 +4,7 @@ use Rattle.vx_rows_values.specs.declared.value.ColType.{ColType}
 use Rattle.vx_rows_values.specs.Lists.{is_some_list}
 use Rattle.vx_rows_values.proofs.Booleans.{and-left, and-right, and-both}
 use Rattle.vx_catalog_relations.specs.Catalog.{relation_at, IsCatalog}
-use Rattle.vx_plan_nodes.specs.Plan.{Part, Unary, select, project, distinct, sort, group, plain, partial, final, Binary, union, join, ExchangeKind, route_to, round, broadcast, gather, concat}
+use Rattle.vx_plan_nodes.specs.Plan.{Part, Unary, select, project, distinct, sort, group, limit, plain, partial, final, Binary, union, join, semi_join, ExchangeKind, route_to, round, broadcast, gather, concat}
 use Rattle.vx_plan_nodes.specs.Describe.{Copying, whole_rows, columns_kept, described}
 use Rattle.vx_plan_nodes.specs.Types.{unary_types, binary_types}
 use Rattle.vx_plan_nodes.specs.Typed.{Scope, are_columns, is_unary}
@@ -60,6 +60,7 @@ unary-order-typed (group partial by aggregates) ts order places o h c =
     copies-typed (columns_kept by) ts (unary_types (group partial by aggregates) ts) order places (unary-types (group partial by aggregates) ts) h c
 unary-order-typed (group final by aggregates) ts order places o h c =
     copies-typed (columns_kept by) ts (unary_types (group final by aggregates) ts) order places (unary-types (group final by aggregates) ts) h c
+unary-order-typed (limit m) ts order places o h c = copies-typed whole_rows ts ts order places (unary-types (limit m) ts) h c
 
 -- of one over two
 pub binary-order-typed : (op : Binary) (ts us : List ColType) (order : List ℕ) (places : OrderChoices) → is_front order (places_over_both op places) ≡ true
@@ -68,6 +69,7 @@ binary-order-typed union ts us order places h c = none-typed (length ts) order h
 binary-order-typed (join true on) ts us order places h c =
     copies-typed whole_rows ts (ts ++ us) order places (left-types ts us) (front-whole order places (front-narrowed (map (λ x. x.0) on) order places h)) c
 binary-order-typed (join false on) ts us order places h c = copies-typed whole_rows ts (ts ++ us) order places (left-types ts us) (front-whole order places h) c
+binary-order-typed (semi_join matched on conditions) ts us order places h c = copies-typed whole_rows ts ts order places (whole-types ts) (front-whole order places h) c
 
 -- and of an exchange
 pub sent-order-typed : (k : ExchangeKind) (alone : Bool) (ts : List ColType) (merge order : List ℕ) (parts : List Part) (places : OrderChoices) → are_columns (length ts) merge ≡ true

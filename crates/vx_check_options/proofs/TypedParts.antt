@@ -10,7 +10,7 @@ use Rattle.vx_rows_values.specs.Lists.{is_some_list}
 use Rattle.vx_rows_values.proofs.Booleans.{and-left, and-right, and-both}
 use Rattle.vx_catalog_relations.specs.Relation.{Relation}
 use Rattle.vx_catalog_relations.specs.Catalog.{relation_at, all_below, are_distinct}
-use Rattle.vx_plan_nodes.specs.Plan.{Route, by_hash, by_range, Part, one, any, all, routed, Unary, select, project, distinct, sort, group, plain, partial, final, Binary, union, join, ExchangeKind, route_to, round, broadcast, gather, concat, Plan, scan, unary, binary, exchange, claim, size, is_one, Claim}
+use Rattle.vx_plan_nodes.specs.Plan.{Route, by_hash, by_range, Part, one, any, all, routed, Unary, select, project, distinct, sort, group, limit, plain, partial, final, Binary, union, join, semi_join, ExchangeKind, route_to, round, broadcast, gather, concat, Plan, scan, unary, binary, exchange, claim, size, is_one, Claim}
 use Rattle.vx_plan_nodes.specs.Parts.{kind_part}
 use Rattle.vx_plan_nodes.specs.Describe.{Copying, whole_rows, columns_kept, left_of, right_of, source, described}
 use Rattle.vx_plan_nodes.specs.Types.{unary_types, binary_types, aggregate_type, types_of, width}
@@ -110,6 +110,7 @@ unary-types (sort of_parts cols) ts = whole-types ts
 unary-types (group plain by aggregates) ts = kept-types by ts (map (aggregate_type ts) aggregates)
 unary-types (group partial by aggregates) ts = kept-types by ts (map (aggregate_type ts) aggregates)
 unary-types (group final by aggregates) ts = kept-types by ts (map (aggregate_type ts) aggregates)
+unary-types (limit m) ts = whole-types ts
 
 -- ---- copies of lists of columns
 
@@ -291,6 +292,13 @@ join-typed s w ts us x y a b c e h k =
     (way-typed s (left_of w) ts (ts ++ us) x b (left-of-types w ts us) h)
     (way-typed s (right_of w) us (ts ++ us) y c (right-of-types w ts us e) k))
 
+-- the parts of left rows that are kept come from the left input
+semi-typed : (s : Scope) (ts : List ColType) (x : Part) (a b : Bool) → is_part s ts x ≡ true
+    → list_all (is_typed_way s ts) (if_so a (way whole_rows ((false, x) ∷ []) ∷ []) ++ if_so b (way whole_rows ((false, x) ∷ []) ∷ [])) ≡ true
+semi-typed s ts x a b h =
+    all-both (is_typed_way s ts) (if_so a (way whole_rows ((false, x) ∷ []) ∷ [])) (if_so b (way whole_rows ((false, x) ∷ []) ∷ []))
+    (way-typed s whole_rows ts ts x a (whole-types ts) h) (way-typed s whole_rows ts ts x b (whole-types ts) h)
+
 -- the parts of a node, by those of its inputs
 ways-typed : (catalog : ℕ → Relation) (p : Plan) (left right here : Part → Bool) (lefts rights : List Part)
     → ((x y : Part) → left x ≡ true → right y ≡ true → list_all (λ w. list_all here (parts_of_way w)) (ways_from catalog p (false, x) (false, y)) ≡ true)
@@ -356,6 +364,7 @@ both-typed : (s : Scope) (ts us : List ColType) (op : Binary) (catalog : ℕ →
     → is_part s ts x ≡ true → is_part s us y ≡ true → list_all (is_typed_way s (binary_types op ts us)) (ways_from catalog (binary n c op p q) (false, x) (false, y)) ≡ true
 both-typed s ts us union catalog n c p q x y e h k = union-typed s ts x y _ h
 both-typed s ts us (join m on) catalog n c p q x y e h k = join-typed s (width catalog p) ts us x y _ _ _ e h k
+both-typed s ts us (semi_join matched on conditions) catalog n c p q x y e h k = semi-typed s ts x _ _ h
 
 -- each part that a typed node can claim is typed
 pub parts-typed : (s : Scope) (p : Plan) → typed s p ≡ true → list_all (is_part s (types_of (relation_at s.catalog) p)) (parts_at (relation_at s.catalog) p) ≡ true

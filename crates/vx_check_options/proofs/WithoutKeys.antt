@@ -4,12 +4,12 @@ use Rattle.std.specs.List.{list_all}
 use Rattle.vx_rows_values.proofs.Booleans.{and-left}
 use Rattle.vx_catalog_relations.specs.Relation.{Relation}
 use Rattle.vx_catalog_relations.specs.Catalog.{all_below, are_distinct}
-use Rattle.vx_plan_nodes.specs.Plan.{Size, Part, one, any, all, routed, Unary, select, project, distinct, sort, group, plain, partial, final, Binary, union, join, ExchangeKind, route_to, round, broadcast, gather, concat, Plan, scan, unary, binary, exchange, claim, size, is_one}
+use Rattle.vx_plan_nodes.specs.Plan.{Size, Part, one, any, all, routed, Unary, select, project, distinct, sort, group, limit, plain, partial, final, Binary, union, join, semi_join, ExchangeKind, route_to, round, broadcast, gather, concat, Plan, scan, unary, binary, exchange, claim, size, is_one}
 use Rattle.vx_plan_nodes.specs.Types.{width, unary_width, binary_width}
 use Rattle.vx_plan_nodes.specs.Typed.{are_columns}
 use Rattle.vx_plan_nodes.specs.Describe.{described_both}
-use Rattle.vx_check_rules.specs.Rules.{if_some, has, within, is_prefix, copied, left_columns, right_columns, through, routed_alike, alike_shows, binary_inputs_match, keeps_apart, sizes_match, not_replicated, inputs_match, order_given, unary_shows, join_shows, both_have, shows, unless_one, part_shown, unary_orders, goes_on, orders, order_shown, numbers_below, keys_shown}
-use Rattle.vx_check_rules.specs.Refusal.{Rule, size_mismatch, part_not_shown, inputs_not_matched, replicated_input, order_not_shown, order_needed, key_not_shown, node_tests, or_else, refused_at, first_refused}
+use Rattle.vx_check_rules.specs.Rules.{if_some, has, within, is_prefix, copied, left_columns, right_columns, through, routed_alike, alike_shows, binary_inputs_match, keeps_apart, sizes_match, not_replicated, inputs_match, order_given, unary_shows, join_shows, semi_join_shows, both_have, shows, unless_one, part_shown, unary_orders, goes_on, orders, order_shown, numbers_below, keys_shown}
+use Rattle.vx_check_rules.specs.Refusal.{Rule, size_mismatch, part_not_shown, inputs_not_matched, replicated_input, order_not_shown, order_needed, key_not_shown, first_rows_open}
 use Rattle.vx_check_rules.specs.Behaviour.{Keyed, keyed_over, behaviour}
 use Rattle.vx_check_rules.proofs.Bools.{all-more}
 use Rattle.vx_check_rules.proofs.ColumnFacts.{within-below}
@@ -18,7 +18,7 @@ use Rattle.vx_check_options.specs.Placed.{keyless, placed}
 use Rattle.vx_check_options.specs.Laws.{AtEach}
 use Rattle.vx_check_options.specs.FoundKeys.{show, FoundKeys}
 use Rattle.vx_check_options.specs.Claimed.{note, IsClaimed}
-use Rattle.vx_check_options.proofs.PlacedIsFit.{width-placed}
+use Rattle.vx_check_options.proofs.PlacedIsFit.{width-placed, tests_with}
 
 -- the same plan, where no node claims a key
 abbrev pub without_keys : Plan → Plan
@@ -80,10 +80,12 @@ apart-without (sort of_parts cols) p = refl
 apart-without (group plain by aggregates) p = rw (size-without p, part-without p) refl
 apart-without (group partial by aggregates) p = refl
 apart-without (group final by aggregates) p = rw (size-without p, part-without p) refl
+apart-without (limit m) p = refl
 
 both-without : (op : Binary) (p q : Plan) → binary_inputs_match op (without_keys p) (without_keys q) ≡ binary_inputs_match op p q
 both-without union p q = rw (size-without p, part-without p, size-without q, part-without q) refl
 both-without (join m on) p q = rw (size-without p, part-without p, size-without q, part-without q) refl
+both-without (semi_join matched on conditions) p q = rw (part-without p, size-without q, part-without q) refl
 
 match-without : (p : Plan) → inputs_match (without_keys p) ≡ inputs_match p
 match-without (scan n c r m z) = refl
@@ -97,6 +99,7 @@ given-without (unary n c op p) = refl
 given-without (binary n c union p q) = refl
 given-without (binary n c (join true on) p q) = rw (order-without p, order-without q) refl
 given-without (binary n c (join false on) p q) = refl
+given-without (binary n c (semi_join matched on conditions) p q) = refl
 given-without (exchange n c k m p) = ap (is_prefix m) (order-without p)
 
 -- ---- parts
@@ -123,6 +126,7 @@ unary-without (project cols) p q = through-same (has (without_keys p)) (has p) (
 unary-without (distinct cols) p q = through-same (has (without_keys p)) (has p) (copied cols) q (has-without p)
 unary-without (sort of_parts cols) p q = has-without p q
 unary-without (group phase by aggregates) p q = through-same (has (without_keys p)) (has p) (copied by) q (has-without p)
+unary-without (limit m) p q = has-without p q
 
 have-without : (p q : Plan) (x : Part) → both_have (without_keys p) (without_keys q) x ≡ both_have p q x
 have-without p q one = refl
@@ -140,12 +144,16 @@ join-without on v w p q x e =
         → ((routed_alike on y z && alike_shows w y z x) || (b && t) || (a && u)) ≡ ((routed_alike on y' z' && alike_shows w y' z' x) || (b' && t') || (a' && u'))
     same d e f g h k = cc
 
+semi-without : (on : List (ℕ × ℕ)) (p q : Plan) (x : Part) → semi_join_shows on (without_keys p) (without_keys q) x ≡ semi_join_shows on p q x
+semi-without on p q x = rw (size-without p, part-without p, size-without q, part-without q) refl
+
 shows-without : (catalog : ℕ → Relation) (p : Plan) (q : Part) → shows catalog (without_keys p) q ≡ shows catalog p q
 shows-without catalog (scan n c r true z) q = refl
 shows-without catalog (scan n c r false z) q = refl
 shows-without catalog (unary n c op p) q = unary-without op p q
 shows-without catalog (binary n c union p p2) q = have-without p p2 q
 shows-without catalog (binary n c (join m on) p p2) q = join-without on _ _ p p2 q (width-without catalog p)
+shows-without catalog (binary n c (semi_join matched on conditions) p p2) q = semi-without on p p2 q
 shows-without catalog (exchange n c k m p) q = refl
 
 shown-without : (catalog : ℕ → Relation) (p : Plan) → part_shown catalog (without_keys p) ≡ part_shown catalog p
@@ -168,6 +176,7 @@ orders-without catalog (scan n c r m z) order = refl
 orders-without catalog (unary n c op p) order = ap (λ below. unary_orders op below order) (order-without p)
 orders-without catalog (binary n c union p q) order = refl
 orders-without catalog (binary n c (join m on) p q) order = ap (is_prefix order) (order-without p)
+orders-without catalog (binary n c (semi_join matched on conditions) p q) order = ap (is_prefix order) (order-without p)
 orders-without catalog (exchange n c k m p) order = same (size-without p) (goes-without k p) (order-without p)
   where
     same : {z z' : Size} {a a' : Bool} {below below' : List ℕ} → z ≡ z' → a ≡ a' → below ≡ below'
@@ -186,15 +195,15 @@ keys-without catalog (unary n c op p) = refl
 keys-without catalog (binary n c op p q) = refl
 keys-without catalog (exchange n c k m p) = refl
 
--- where the keys of a node are shown, the same tests fail without them
-tests-without : (catalog : ℕ → Relation) (p : Plan) → keys_shown catalog p ≡ true → node_tests catalog (without_keys p) ≡ node_tests catalog p
-tests-without catalog p h =
+-- where the keys of a node are shown, the same tests fail without them, but that of the first rows, which looks at keys
+pub tests-without : (known : Bool) (catalog : ℕ → Relation) (p : Plan) → keys_shown catalog p ≡ true → tests_with known catalog (without_keys p) ≡ tests_with known catalog p
+tests-without known catalog p h =
     same (sizes-without p) (once-without p) (match-without p) (given-without p) (shown-without catalog p) (ordered-without catalog p) (keys-without catalog p ∙ sym h)
   where
     same : {a a' b b' c c' d d' e e' f f' g g' : Bool} → a ≡ a' → b ≡ b' → c ≡ c' → d ≡ d' → e ≡ e' → f ≡ f' → g ≡ g'
         → ◌≡◌ {A = List (Bool × Rule)}
-        ((a, size_mismatch) ∷ (b, replicated_input) ∷ (c, inputs_not_matched) ∷ (d, order_needed) ∷ (e, part_not_shown) ∷ (f, order_not_shown) ∷ (g, key_not_shown) ∷ [])
-        ((a', size_mismatch) ∷ (b', replicated_input) ∷ (c', inputs_not_matched) ∷ (d', order_needed) ∷ (e', part_not_shown) ∷ (f', order_not_shown) ∷ (g', key_not_shown) ∷ [])
+        ((a, size_mismatch) ∷ (b, replicated_input) ∷ (c, inputs_not_matched) ∷ (d, order_needed) ∷ (known, first_rows_open) ∷ (e, part_not_shown) ∷ (f, order_not_shown) ∷ (g, key_not_shown) ∷ [])
+        ((a', size_mismatch) ∷ (b', replicated_input) ∷ (c', inputs_not_matched) ∷ (d', order_needed) ∷ (known, first_rows_open) ∷ (e', part_not_shown) ∷ (f', order_not_shown) ∷ (g', key_not_shown) ∷ [])
     same h1 h2 h3 h4 h5 h6 h7 = cc
 
 -- at a node, the keys are shown and name its columns
@@ -202,16 +211,12 @@ pub record HasShownKeys (catalog : ℕ → Relation) (p : Plan) : Type 0 where
   pub shown : keys_shown catalog p ≡ true
   pub columns : list_all (are_columns (width catalog p)) (claim p).keys ≡ true
 
-else-both : {X : Type 0} {o o' u u' : Option X} → o ≡ o' → u ≡ u' → or_else o u ≡ or_else o' u'
-else-both e f = cc
-
--- the first refused node is the same
-pub refused-without : (catalog : ℕ → Relation) (p : Plan) → AtEach (HasShownKeys catalog) p → first_refused catalog (without_keys p) ≡ first_refused catalog p
-refused-without catalog (scan n c r m z) h = ap (refused_at n) (tests-without catalog (scan n c r m z) h.shown)
-refused-without catalog (unary n c op p) h = else-both (refused-without catalog p h.0) (ap (refused_at n) (tests-without catalog (unary n c op p) h.1.shown))
-refused-without catalog (binary n c op p q) h =
-    else-both (refused-without catalog p h.0) (else-both (refused-without catalog q h.1) (ap (refused_at n) (tests-without catalog (binary n c op p q) h.2.shown)))
-refused-without catalog (exchange n c k m p) h = else-both (refused-without catalog p h.0) (ap (refused_at n) (tests-without catalog (exchange n c k m p) h.1.shown))
+-- what holds at each node holds at the top
+pub at-top : (P : Plan → Type 0) (p : Plan) → AtEach P p → P p
+at-top P (scan n c r m z) h = h
+at-top P (unary n c op p) h = h.1
+at-top P (binary n c op p q) h = h.2
+at-top P (exchange n c k m p) h = h.1
 
 -- ---- claims with the keys that are found
 
@@ -257,7 +262,7 @@ claimed-keys catalog (binary n c op p p2) q order x h =
       claimed-keys catalog p2 _ _ h.2 h.5,
       keys-here catalog (binary n (note q order h.0) op h.1 h.2) _ _ _
           (ap (λ w. binary_width op w (width catalog h.2)) wide ∙ ap (binary_width op (width catalog p)) (claimed-width catalog p2 _ _ h.2 h.5))
-          (ap (λ w. keyed_over (described_both w op).pairs (described_both w op) (claim h.1).keys (claim h.2).keys) wide) h.6,
+          (ap (λ w. keyed_over (described_both w op).meeting (described_both w op) (claim h.1).keys (claim h.2).keys) wide) h.6,
     )
 claimed-keys catalog (exchange n c k m p) q order x h =
     subst (AtEach (HasShownKeys catalog)) (sym h.2)

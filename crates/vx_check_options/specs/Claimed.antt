@@ -7,10 +7,10 @@ use Rattle.vx_plan_nodes.specs.Plan.{Part, Claim, Plan, scan, unary, binary, exc
 use Rattle.vx_plan_nodes.specs.Types.{width, types_of}
 use Rattle.vx_plan_nodes.specs.Describe.{whole_rows, described}
 use Rattle.vx_plan_nodes.specs.Typed.{Scope, typed, are_columns}
-use Rattle.vx_check_rules.specs.Rules.{covers, allowed}
-use Rattle.vx_check_rules.specs.Refusal.{first_refused}
+use Rattle.vx_check_rules.specs.Rules.{sizes_match, first_rows_known, covers, allowed}
+use Rattle.vx_check_rules.specs.Refusal.{Rule, size_mismatch, inputs_not_matched, replicated_input, order_not_shown, order_needed, first_rows_open, or_else, refused_at, first_refused}
 use Rattle.vx_check_rules.specs.Behaviour.{behaviour, shown_key, keyed_from}
-use Rattle.vx_check_options.specs.Options.{no_input, parts_at, places_at, first_unfit}
+use Rattle.vx_check_options.specs.Options.{no_input, parts_at, places_at, can_send, can_meet, can_order, can_keep, first_unfit}
 use Rattle.vx_check_options.specs.Placed.{is_chosen, order_along, order_below, left_order, right_order, order_sent, parts_below, part_sent, bare}
 use Rattle.vx_check_options.specs.Laws.{Keeps, is_option, IsStrongest, AtEach}
 use Rattle.vx_check_options.specs.FoundKeys.{are_apart, show, FoundKeys}
@@ -47,10 +47,36 @@ abbrev pub IsReady : Scope → Plan → Part → List ℕ → Type 0
 IsReady s p q order =
     IsCatalog s.catalog × (typed s p ≡ true) × (is_option (parts_at (relation_at s.catalog) p) q ≡ true) × (is_chosen order (places_at (relation_at s.catalog) p) ≡ true)
 
--- the checker refuses such claims exactly where no claims fit
+-- the tests that no claims can pass, and between them whether the first rows of a limit's input are known
+abbrev pub fit_tests_with : (known : Bool) → (ℕ → Relation) → Plan → List (Bool × Rule)
+fit_tests_with known catalog p =
+    (sizes_match p, size_mismatch) ∷ (can_send catalog p, replicated_input) ∷ (can_meet catalog p, inputs_not_matched) ∷ (can_order catalog p, order_needed)
+    ∷ (known, first_rows_open) ∷ (can_keep catalog p, order_not_shown) ∷ []
+
+-- the inputs of a node, itself where it has none
+abbrev pub first_input : Plan → Plan
+first_input (scan n c r m z) = scan n c r m z
+first_input (unary n c op p) = p
+first_input (binary n c op p q) = p
+first_input (exchange n c k m p) = p
+
+abbrev pub second_input : Plan → Plan
+second_input (binary n c op p q) = q
+second_input p = p
+
+-- the first node in post-order that no claims can save, or that is a limit of which these claims, those of the second plan, do not make the first rows known
+abbrev pub unfit_in : (ℕ → Relation) → Plan → Plan → Option (ℕ × Rule)
+unfit_in catalog (scan n c r m z) x = refused_at n (fit_tests_with (first_rows_known catalog x) catalog (scan n c r m z))
+unfit_in catalog (unary n c op p) x = or_else (unfit_in catalog p (first_input x)) (refused_at n (fit_tests_with (first_rows_known catalog x) catalog (unary n c op p)))
+unfit_in catalog (binary n c op p q) x =
+    or_else (unfit_in catalog p (first_input x))
+    (or_else (unfit_in catalog q (second_input x)) (refused_at n (fit_tests_with (first_rows_known catalog x) catalog (binary n c op p q))))
+unfit_in catalog (exchange n c k m p) x = or_else (unfit_in catalog p (first_input x)) (refused_at n (fit_tests_with (first_rows_known catalog x) catalog (exchange n c k m p)))
+
+-- the checker refuses such claims exactly where no claims fit, or where they do not make the first rows of a limit's input known
 abbrev pub ClaimedIsFit : Type 0
 ClaimedIsFit = (s : Scope) (p : Plan) (q : Part) (order : List ℕ) (x : Plan) → IsReady s p q order → (bare p ≡ p) ⊎ (first_unfit (relation_at s.catalog) p ≡ None)
-    → IsClaimed (relation_at s.catalog) p q order x → first_refused (relation_at s.catalog) x ≡ first_unfit (relation_at s.catalog) p
+    → IsClaimed (relation_at s.catalog) p q order x → first_refused (relation_at s.catalog) x ≡ unfit_in (relation_at s.catalog) p x
 
 -- they are typed, at the same nodes
 abbrev pub ClaimedIsTyped : Type 0

@@ -3,8 +3,8 @@ use Rattle.std.specs.Prelude.{ℕ, suc, ◌+◌, ◌==◌, nat_lt, nat_le, Bool,
 use Rattle.std.specs.List.{list_all, list_any}
 use Rattle.vx_rows_values.specs.Lists.{is_some_list}
 use Rattle.vx_catalog_relations.specs.Relation.{Relation}
-use Rattle.vx_plan_nodes.specs.Plan.{Route, Part, one, any, all, routed, Binary, union, join, ExchangeKind, concat, Plan, scan, unary, binary, exchange, claim, size, is_one}
-use Rattle.vx_plan_nodes.specs.Describe.{Copying, whole_rows, columns_kept, left_of, right_of, OrderAfter, order_kept, sorted_on, described}
+use Rattle.vx_plan_nodes.specs.Plan.{Route, Part, one, any, all, routed, Binary, union, join, semi_join, ExchangeKind, concat, Plan, scan, unary, binary, exchange, claim, size, is_one}
+use Rattle.vx_plan_nodes.specs.Describe.{Copying, whole_rows, columns_kept, left_of, right_of, no_columns, OrderAfter, order_kept, sorted_on, described}
 use Rattle.vx_check_rules.specs.Rules.{part_gives, contains, rises_by, sizes_match}
 use Rattle.vx_check_rules.specs.Behaviour.{Way, gives, common_part, ways_from}
 use Rattle.vx_check_rules.specs.Refusal.{Rule, size_mismatch, replicated_input, inputs_not_matched, order_needed, order_not_shown, or_else, refused_at}
@@ -23,6 +23,7 @@ copies whole_rows c = c ∷ []
 copies (columns_kept cols) c = places_from 0 cols c
 copies (left_of w) c = cond (nat_lt c w) (c ∷ []) []
 copies (right_of w) c = cond (nat_lt c max_columns) ((w + c) ∷ []) []
+copies no_columns c = []
 
 -- a copy of the first column in front of each of these lists
 abbrev pub in_front : Copying → ℕ → List (List ℕ) → List (List ℕ)
@@ -170,6 +171,7 @@ abbrev pub places_over_both : Binary → OrderChoices → OrderChoices
 places_over_both union places = []
 places_over_both (join true on) places = or_nowhere (narrowed (map (λ x. x.0) on) places)
 places_over_both (join false on) places = places
+places_over_both (semi_join matched on conditions) places = places
 
 -- the order begins with a column by whose ranges the rows can be routed
 abbrev pub rising : List Part → OrderChoices → OrderChoices

@@ -1,7 +1,7 @@
 -- The claims that are placed at all nodes, from the top down: under the part and the order of a node its inputs get those with which they are shown.
 use Rattle.std.specs.Prelude.{ℕ, Bool, true, false, cond, ◌&&◌, ◌||◌, List, [], ◌∷◌, map, find, Option, Some, None, option_map, unwrap_or, slice_get}
 use Rattle.vx_catalog_relations.specs.Relation.{Relation}
-use Rattle.vx_plan_nodes.specs.Plan.{Part, any, Claim, Binary, union, join, ExchangeKind, concat, Plan, scan, unary, binary, exchange, size, is_one}
+use Rattle.vx_plan_nodes.specs.Plan.{Part, any, Claim, Binary, union, join, semi_join, ExchangeKind, concat, Plan, scan, unary, binary, exchange, size, is_one}
 use Rattle.vx_plan_nodes.specs.Describe.{Copying, whole_rows, source, OrderAfter, order_kept, sorted_on, described}
 use Rattle.vx_check_rules.specs.Rules.{contains, rises_by}
 use Rattle.vx_check_rules.specs.Refusal.{or_else}
@@ -40,6 +40,7 @@ order_below (sorted_on cols) k order places = first_columns places
 abbrev pub left_order : Binary → List ℕ → OrderChoices → List ℕ
 left_order union order places = first_columns places
 left_order (join m on) order places = order_along whole_rows order places
+left_order (semi_join matched on conditions) order places = order_along whole_rows order places
 
 abbrev pub right_order : Binary → OrderChoices → List ℕ
 right_order (join true on) places = order_along whole_rows (map (λ x. x.1) on) places

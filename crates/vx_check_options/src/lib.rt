@@ -24,7 +24,8 @@ pub fn only_options()
     ensures { OnlyOptions }
 {}
 
-/// The checker refuses claims that are placed, with the keys that are found, exactly where no claims fit.
+/// The checker refuses claims that are placed, with the keys that are found, exactly where no claims fit, or where they do not
+/// make the first rows of a limit's input known.
 pub fn claimed_is_fit()
     ensures { ClaimedIsFit }
 {}

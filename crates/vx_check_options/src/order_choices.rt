@@ -107,6 +107,8 @@ fn choices_over_both(
     match operator {
         Binary::Union => Ok(Vec::new(alloc)),
         Binary::HashJoin(_) => copied(alloc, choices),
+        Binary::SemiJoin(_, _) => copied(alloc, choices),
+        Binary::AntiJoin(_, _) => copied(alloc, choices),
         Binary::MergeJoin(on) => narrowed(alloc, ColumnsSeen::Lefts(on.as_slice()), choices),
     }
 }

@@ -186,6 +186,7 @@ pub fn wanted_left<'p>(operator: &Binary, order: &'p [usize]) -> ColumnsSeen<'p>
     match operator {
         Binary::Union => ColumnsSeen::Listed(&[]),
         Binary::HashJoin(_) | Binary::MergeJoin(_) => ColumnsSeen::Listed(order),
+        Binary::SemiJoin(_, _) | Binary::AntiJoin(_, _) => ColumnsSeen::Listed(order),
     }
 }
 
@@ -196,5 +197,6 @@ pub fn wanted_right(operator: &Binary) -> ColumnsSeen<'_>
     match operator {
         Binary::MergeJoin(on) => ColumnsSeen::Rights(on.as_slice()),
         Binary::Union | Binary::HashJoin(_) => ColumnsSeen::Listed(&[]),
+        Binary::SemiJoin(_, _) | Binary::AntiJoin(_, _) => ColumnsSeen::Listed(&[]),
     }
 }

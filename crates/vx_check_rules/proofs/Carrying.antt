@@ -7,18 +7,18 @@ use Rattle.std.proofs.lemmas.List.Folds.{list_any-append, list_all-append}
 use Rattle.std.proofs.lemmas.List.Quantifiers.{position-Some}
 use Rattle.vx_rows_values.proofs.Booleans.{and-left, and-right, and-both}
 use Rattle.vx_catalog_relations.specs.Relation.{Relation}
-use Rattle.vx_plan_nodes.specs.Plan.{Route, by_hash, by_range, Part, one, any, all, routed, Claim, Unary, select, project, distinct, sort, group, plain, partial, final, union, join, Plan, scan, unary, binary, exchange, claim, size, is_one, Size, one_worker, group_of, size_eq}
+use Rattle.vx_plan_nodes.specs.Plan.{Route, by_hash, by_range, Part, one, any, all, routed, Claim, Unary, select, project, distinct, sort, group, limit, plain, partial, final, union, join, semi_join, Plan, scan, unary, binary, exchange, claim, size, is_one, Size, one_worker, group_of, size_eq}
 use Rattle.vx_plan_nodes.specs.Parts.{kind_part}
 use Rattle.vx_plan_nodes.specs.Phases.{first_columns}
 use Rattle.vx_plan_nodes.specs.Types.{width}
-use Rattle.vx_plan_nodes.specs.Describe.{Copying, whole_rows, columns_kept, left_of, right_of, source, place, described, described_both}
-use Rattle.vx_check_rules.specs.Rules.{numbers_eq, route_eq, part_gives, has, contains, within, is_prefix, cons_both, copied, if_some, unless_one, sizes_match, not_replicated, inputs_match, order_given, shows, orders, covers, numbers_below, keys_of, routed_alike, goes_on}
-use Rattle.vx_check_rules.specs.Refusal.{size_mismatch, replicated_input, inputs_not_matched, order_needed, part_not_shown, order_not_shown, key_not_shown, first_failure, node_tests}
+use Rattle.vx_plan_nodes.specs.Describe.{Copying, whole_rows, columns_kept, left_of, right_of, no_columns, source, place, described, described_both}
+use Rattle.vx_check_rules.specs.Rules.{numbers_eq, route_eq, part_gives, has, contains, within, is_prefix, cons_both, copied, if_some, unless_one, sizes_match, not_replicated, inputs_match, order_given, first_rows_known, shows, orders, covers, numbers_below, keys_of, routed_alike, goes_on}
+use Rattle.vx_check_rules.specs.Refusal.{size_mismatch, replicated_input, inputs_not_matched, order_needed, part_not_shown, order_not_shown, key_not_shown, first_rows_open, first_failure, node_tests}
 use Rattle.vx_check_rules.specs.Behaviour.{sources, places, place_then, front_places, Way, Sorted, Keyed, way, sorted_by, order_after, order_over, if_so, own, bare, meet, behaviour, each_has, gives, sorts, is_column, has_copy, has_key, keys_give, shown_part, shown_order, shown_key, routed_at, part_up, first_part, first_order, kept_keys, first_pair, together, keys_up, node_part, node_order, node_keys}
 use Rattle.vx_check_rules.specs.Carried.{CopiesBack, OrdersCarried, KeysCarried, PartsCarried, with_claim, carried, CarriedIsShown}
 use Rattle.vx_check_rules.proofs.Bools.{or-left, or-right, all-more, any-more}
 use Rattle.vx_check_rules.proofs.ColumnFacts.{list_all-ext}
-use Rattle.vx_check_rules.proofs.Exact.{sources-kept, slice-at, orders-exactly, parts-exactly, key-whole, key-first, join-keys, all-first}
+use Rattle.vx_check_rules.proofs.Exact.{sources-kept, slice-at, orders-exactly, parts-exactly, key-whole, key-first, limit-key, join-keys, all-first}
 
 -- ---- columns
 
@@ -56,6 +56,7 @@ copies-back whole_rows c d e = cc
 copies-back (columns_kept cols) c d e = kept-back cols c d e
 copies-back (left_of w) c d e = left-back w c d e
 copies-back (right_of w) c d e = right-back w c d e
+copies-back no_columns c d e = cc
 
 -- all columns come back
 pub places-back : (k : Copying) (cs ds : List ℕ) → places k cs ≡ Some ds → sources k ds ≡ Some cs
@@ -95,7 +96,7 @@ moved-order false s t = first-order t []
 order-carried : (catalog : ℕ → Relation) (p : Plan) → shown_order (behaviour catalog p) (node_order catalog p) ≡ true
 order-carried catalog (scan n c r m z) = first-order (sorted_by whole_rows (catalog r).order) []
 order-carried catalog (unary n c op p) = first-order (sorted_by (described op).copying (order_after (described op).order (claim p).order)) []
-order-carried catalog (binary n c op p q) = first-order (sorted_by whole_rows (order_over (described_both (width catalog p) op).pairs (claim p).order)) []
+order-carried catalog (binary n c op p q) = first-order (sorted_by whole_rows (order_over (described_both (width catalog p) op).meeting (claim p).order)) []
 order-carried catalog (exchange n c k merge p) = moved-order (is_one (size p) || goes_on k (claim p)) (sorted_by whole_rows (claim p).order) (sorted_by whole_rows merge)
 
 -- ---- keys
@@ -224,12 +225,14 @@ unary-keys-carried (distinct cols) catalog n c p = distinct-first (length cols)
 unary-keys-carried (group plain by aggregates) catalog n c p = by-exact catalog (unary n c (group plain by aggregates) p) (key-first (length by))
 unary-keys-carried (group partial by aggregates) catalog n c p = refl
 unary-keys-carried (group final by aggregates) catalog n c p = by-exact catalog (unary n c (group final by aggregates) p) (key-first (length by))
+unary-keys-carried (limit m) catalog n c p = by-exact catalog (unary n c (limit m) p) (limit-key (nat_le m 1) (claim p).keys)
 
 table-keys : (catalog : ℕ → Relation) (p : Plan) → list_all (keys_of catalog p) (node_keys catalog p) ≡ true
 table-keys catalog (scan n c r m z) = by-exact catalog (scan n c r m z) (key-whole (catalog r).keys)
 table-keys catalog (unary n c op p) = unary-keys-carried op catalog n c p
 table-keys catalog (binary n c union p q) = refl
 table-keys catalog (binary n c (join m on) p q) = by-exact catalog (binary n c (join m on) p q) (join-keys on (width catalog p) (claim p).keys (claim q).keys)
+table-keys catalog (binary n c (semi_join matched on conditions) p q) = by-exact catalog (binary n c (semi_join matched on conditions) p q) (key-whole (claim p).keys)
 table-keys catalog (exchange n c k m p) = by-exact catalog (exchange n c k m p) (key-whole (claim p).keys)
 
 -- ---- parts
@@ -280,6 +283,12 @@ alone-of true b c ku kl kr p q x s t v e = alone ku false p x (v ∷ (if_so b (w
 alone-of false true c ku kl kr p q x s t v e = alone kl s p x (if_so c (way kr ((t, q) ∷ []) ∷ [])) e
 alone-of false false true ku kl kr p q x s t v e = alone kr t q x [] e
 alone-of false false false ku kl kr p q x s t v e = cc
+
+alone-kept : (a b : Bool) (p x : Part) (s : Bool) → first_part (if_so a (way whole_rows (bare p ∷ []) ∷ []) ++ if_so b (way whole_rows ((s, p) ∷ []) ∷ [])) ≡ Some x
+    → list_any (λ w. gives w x) (if_so a (way whole_rows (bare p ∷ []) ∷ []) ++ if_so b (way whole_rows ((s, p) ∷ []) ∷ [])) ≡ true
+alone-kept true b p x s e = alone whole_rows false p x (if_so b (way whole_rows ((s, p) ∷ []) ∷ [])) e
+alone-kept false true p x s e = alone whole_rows s p x [] e
+alone-kept false false p x s e = cc
 
 -- a part of both inputs that stand side by side
 record Common (p q x : Part) : Type 0 where
@@ -336,6 +345,8 @@ several catalog (binary n c union p q) x s h k e =
 several catalog (binary n c (join m on) p q) x s h k e =
     alone-of (routed_alike on (claim p).part (claim q).part) (has q all) (has p all) whole_rows (left_of (width catalog p)) (right_of (width catalog p)) (claim p).part (claim q).part x
     (is_one (size p)) (is_one (size q)) (way (right_of (width catalog p)) (bare (claim q).part ∷ [])) e
+several catalog (binary n c (semi_join matched on conditions) p q) x s h k e =
+    alone-kept (routed_alike on (claim p).part (claim q).part) (has q all) (claim p).part x (is_one (size p)) e
 several catalog (exchange n c kind m p) q s h k e = alone whole_rows false (kind_part kind) q [] e
 
 table-part : (catalog : ℕ → Relation) (p : Plan) (q : Part) → sizes_match p ≡ true → inputs_match p ≡ true → node_part catalog p ≡ Some q → (is_one (size p) || unless_one (shows catalog p) q) ≡ true
@@ -347,22 +358,29 @@ table-part catalog p q h k e = parts-exactly catalog p q k ∙ by (is_one (size 
 
 -- ---- claims
 
-tests-pass : (s r i o t u k : Bool) → s ≡ true → r ≡ true → i ≡ true → o ≡ true → t ≡ true → u ≡ true → k ≡ true
-    → first_failure ((s, size_mismatch) ∷ (r, replicated_input) ∷ (i, inputs_not_matched) ∷ (o, order_needed) ∷ (t, part_not_shown) ∷ (u, order_not_shown) ∷ (k, key_not_shown) ∷ []) ≡ None
-tests-pass s r i o t u k hs hr hi ho ht hu hk = rw (hs, hr, hi, ho, ht, hu, hk) refl
+tests-pass : (s r i o f t u k : Bool) → s ≡ true → r ≡ true → i ≡ true → o ≡ true → f ≡ true → t ≡ true → u ≡ true → k ≡ true
+    → first_failure ((s, size_mismatch) ∷ (r, replicated_input) ∷ (i, inputs_not_matched) ∷ (o, order_needed) ∷ (f, first_rows_open) ∷ (t, part_not_shown) ∷ (u, order_not_shown) ∷ (k, key_not_shown) ∷ []) ≡ None
+tests-pass s r i o f t u k hs hr hi ho hf ht hu hk = rw (hs, hr, hi, ho, hf, ht, hu, hk) refl
 
 -- the tests of the operator do not depend on the claim
 claim-passes : (catalog : ℕ → Relation) (p : Plan) (c : Claim) → sizes_match p ≡ true → not_replicated p ≡ true → inputs_match p ≡ true → order_given p ≡ true
+    → first_rows_known catalog p ≡ true
     → (is_one (size p) || unless_one (shows catalog p) c.part) ≡ true → orders catalog p c.order ≡ true → list_all (keys_of catalog p) c.keys ≡ true
     → first_failure (node_tests catalog (with_claim c p)) ≡ None
-claim-passes catalog (scan n d r true z) c s o i g h k l = tests-pass _ _ _ _ _ _ _ s o i g h k l
-claim-passes catalog (scan n d r false z) c s o i g h k l = tests-pass _ _ _ _ _ _ _ s o i g h k l
-claim-passes catalog (unary n d op p) c s o i g h k l = tests-pass _ _ _ _ _ _ _ s o i g h k l
-claim-passes catalog (binary n d union p q) c s o i g h k l = tests-pass _ _ _ _ _ _ _ s o i g h k l
-claim-passes catalog (binary n d (join true on) p q) c s o i g h k l = tests-pass _ _ _ _ _ _ _ s o i g h k l
-claim-passes catalog (binary n d (join false on) p q) c s o i g h k l = tests-pass _ _ _ _ _ _ _ s o i g h k l
-claim-passes catalog (exchange n d kind m p) c s o i g h k l = tests-pass _ _ _ _ _ _ _ s o i g h k l
+claim-passes catalog (scan n d r true z) c s o i g f h k l = tests-pass _ _ _ _ _ _ _ _ s o i g f h k l
+claim-passes catalog (scan n d r false z) c s o i g f h k l = tests-pass _ _ _ _ _ _ _ _ s o i g f h k l
+claim-passes catalog (unary n d (select cs) p) c s o i g f h k l = tests-pass _ _ _ _ _ _ _ _ s o i g f h k l
+claim-passes catalog (unary n d (project cols) p) c s o i g f h k l = tests-pass _ _ _ _ _ _ _ _ s o i g f h k l
+claim-passes catalog (unary n d (distinct cols) p) c s o i g f h k l = tests-pass _ _ _ _ _ _ _ _ s o i g f h k l
+claim-passes catalog (unary n d (sort of_parts cols) p) c s o i g f h k l = tests-pass _ _ _ _ _ _ _ _ s o i g f h k l
+claim-passes catalog (unary n d (group phase by aggregates) p) c s o i g f h k l = tests-pass _ _ _ _ _ _ _ _ s o i g f h k l
+claim-passes catalog (unary n d (limit m) p) c s o i g f h k l = tests-pass _ _ _ _ _ _ _ _ s o i g f h k l
+claim-passes catalog (binary n d union p q) c s o i g f h k l = tests-pass _ _ _ _ _ _ _ _ s o i g f h k l
+claim-passes catalog (binary n d (join true on) p q) c s o i g f h k l = tests-pass _ _ _ _ _ _ _ _ s o i g f h k l
+claim-passes catalog (binary n d (join false on) p q) c s o i g f h k l = tests-pass _ _ _ _ _ _ _ _ s o i g f h k l
+claim-passes catalog (binary n d (semi_join matched on conditions) p q) c s o i g f h k l = tests-pass _ _ _ _ _ _ _ _ s o i g f h k l
+claim-passes catalog (exchange n d kind m p) c s o i g f h k l = tests-pass _ _ _ _ _ _ _ _ s o i g f h k l
 
 pub carried-is-shown : CarriedIsShown
-carried-is-shown catalog p q s o i g e =
-    claim-passes catalog p (carried catalog p q) s o i g (table-part catalog p q s i e) (orders-exactly catalog p (node_order catalog p) ∙ order-carried catalog p) (table-keys catalog p)
+carried-is-shown catalog p q s o i g f e =
+    claim-passes catalog p (carried catalog p q) s o i g f (table-part catalog p q s i e) (orders-exactly catalog p (node_order catalog p) ∙ order-carried catalog p) (table-keys catalog p)

@@ -4,7 +4,7 @@ use Rattle.std.specs.List.{list_any, list_all}
 use Rattle.std.proofs.lemmas.Bool.Decides.{nat_tests}
 use Rattle.vx_rows_values.proofs.Booleans.{and-left, and-right}
 use Rattle.vx_catalog_relations.specs.Catalog.{all_below}
-use Rattle.vx_plan_nodes.specs.Plan.{Part, one, any, all, routed, Unary, select, project, distinct, sort, group, plain, partial, final}
+use Rattle.vx_plan_nodes.specs.Plan.{Part, one, any, all, routed, Unary, select, project, distinct, sort, group, limit, plain, partial, final}
 use Rattle.vx_plan_nodes.specs.Types.{part_columns}
 use Rattle.vx_plan_nodes.specs.Phases.{columns_from, first_columns}
 use Rattle.vx_plan_nodes.specs.Describe.{Copying, source, described}
@@ -16,7 +16,7 @@ use Rattle.vx_plan_facts.specs.Asking.{Reaches}
 use Rattle.vx_check_rules.specs.Rules.{route_eq}
 use Rattle.vx_check_rules.specs.Behaviour.{input_has}
 use Rattle.vx_check_rules.specs.Derived.{part_matches, within_equally, routed_within_equally, has_pair_equally, all_pairs_equally, routed_alike_equally, unary_meets_equally, stands_for, stand_for, routed_as, is_any}
-use Rattle.vx_check_rules.specs.DerivedView.{meet_equally, join_part}
+use Rattle.vx_check_rules.specs.DerivedView.{meet_equally, join_part, kept_part}
 
 -- of the first w columns the same ones are equal
 abbrev pub SameBelow : ℕ → Equality → Equality → Type 0
@@ -74,6 +74,7 @@ meets-same w e f h (sort of_parts cols) q n l = refl
 meets-same w e f h (group plain by aggregates) q n l = routed-same w e f h q by l n
 meets-same w e f h (group partial by aggregates) q n l = refl
 meets-same w e f h (group final by aggregates) q n l = routed-same w e f h q by l n
+meets-same w e f h (limit m) q n l = refl
 
 -- ---- pairs
 
@@ -152,3 +153,15 @@ pub join-same : (u v w : ℕ) (k l : Copying) → Reaches w k u → Reaches w l 
 join-same u v w k l rk rl e e' f f' g g' se sf sg on named h i x hl il xl =
     join-parts (routed_alike_equally e f on h.1 i.1) _ (routed_as w k e g h.1 x) _ (routed_as w l f g i.1 x) _ (is_any x) (input_has h all) (input_has i all)
     (alike-same u v e e' f f' se sf on named h.1 i.1 hl il) (routed-as-same u w k rk e e' g g' se sg h.1 x hl xl) (routed-as-same v w l rl f f' g g' sf sg i.1 x il xl)
+
+kept-parts : (a a' b b' x i : Bool) → a ≡ a' → b ≡ b' → ((x && a) || ((i || a) && b)) ≡ ((x && a') || ((i || a') && b'))
+kept-parts a a' b b' x i e f = rw (e, f) refl
+
+-- the parts of left rows that are kept as they meet right ones
+pub kept-same : (u v w : ℕ) (k : Copying) → Reaches w k u → (e e' f f' g g' : Equality) → SameBelow u e e' → SameBelow v f f' → SameBelow w g g'
+    → (on : List (ℕ × ℕ)) → list_all (pair_within u v) on ≡ true → (h i : Bool × Part) (x : Part)
+    → all_below u (part_columns h.1) ≡ true → all_below v (part_columns i.1) ≡ true → all_below w (part_columns x) ≡ true
+    → kept_part w k e f g on h i x ≡ kept_part w k e' f' g' on h i x
+kept-same u v w k rk e e' f f' g g' se sf sg on named h i x hl il xl =
+    kept-parts (routed_alike_equally e f on h.1 i.1) _ (routed_as w k e g h.1 x) _ (is_any x) (input_has i all) (alike-same u v e e' f f' se sf on named h.1 i.1 hl il)
+    (routed-as-same u w k rk e e' g g' se sg h.1 x hl xl)

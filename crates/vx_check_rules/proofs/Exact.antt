@@ -6,14 +6,14 @@ use Rattle.std.proofs.lemmas.List.Folds.{list_any-append, list_all-append, list_
 use Rattle.vx_rows_values.proofs.Booleans.{and-left, and-right}
 use Rattle.vx_catalog_relations.specs.Relation.{Relation}
 use Rattle.vx_catalog_relations.proofs.NameFacts.{list_any-map}
-use Rattle.vx_plan_nodes.specs.Plan.{Route, Part, one, any, all, routed, Claim, Unary, select, project, distinct, sort, group, plain, partial, final, union, join, ExchangeKind, route_to, round, broadcast, gather, concat, Plan, scan, unary, binary, exchange, claim, size, is_one, target}
+use Rattle.vx_plan_nodes.specs.Plan.{Route, Part, one, any, all, routed, Claim, Unary, select, project, distinct, sort, group, limit, plain, partial, final, union, join, semi_join, ExchangeKind, route_to, round, broadcast, gather, concat, Plan, scan, unary, binary, exchange, claim, size, is_one, target}
 use Rattle.vx_plan_nodes.specs.Parts.{kind_part}
 use Rattle.vx_plan_nodes.specs.Phases.{first_columns}
 use Rattle.vx_plan_nodes.specs.Types.{width}
-use Rattle.vx_plan_nodes.specs.Describe.{Copying, whole_rows, columns_kept, left_of, right_of, source, described}
-use Rattle.vx_check_rules.specs.Rules.{part_gives, has, contains, within, is_prefix, cons_both, if_some, unless_one, through, copied, left_columns, right_columns, routed_within, routed_alike, alike_shows, join_shows, both_have, kind_shows, unary_shows, keeps_apart, shows, sizes_match, not_replicated, inputs_match, order_given, part_shown, order_shown, covers, numbers_below, shifted, goes_on, orders, keys_of, keys_shown, join_keys}
-use Rattle.vx_check_rules.specs.Refusal.{size_mismatch, part_not_shown, inputs_not_matched, replicated_input, order_not_shown, order_needed, key_not_shown, first_failure}
-use Rattle.vx_check_rules.specs.Behaviour.{sources, Way, way, sorted_by, keyed_by, if_so, own, bare, over, ways_over, ways_if_fit, keyed_held, behaviour, fits, each_has, gives, sorts, is_column, has_copy, has_key, keys_give, shown_part, shown_order, shown_key}
+use Rattle.vx_plan_nodes.specs.Describe.{Copying, whole_rows, columns_kept, left_of, right_of, no_columns, source, keys_kept, key_of_first, paired_on, matched_on, described}
+use Rattle.vx_check_rules.specs.Rules.{part_gives, has, contains, within, is_prefix, cons_both, if_some, unless_one, through, copied, left_columns, right_columns, routed_within, routed_alike, alike_shows, join_shows, semi_join_shows, both_have, kind_shows, unary_shows, keeps_apart, shows, sizes_match, not_replicated, inputs_match, order_given, first_rows_known, part_shown, order_shown, covers, numbers_below, shifted, goes_on, orders, keys_of, keys_shown, join_keys}
+use Rattle.vx_check_rules.specs.Refusal.{size_mismatch, part_not_shown, inputs_not_matched, replicated_input, order_not_shown, order_needed, key_not_shown, first_rows_open, first_failure}
+use Rattle.vx_check_rules.specs.Behaviour.{sources, Way, way, sorted_by, keyed_by, if_so, own, bare, over, ways_over, ways_if_fit, keyed_after, keyed_held, behaviour, fits, each_has, gives, sorts, is_column, has_copy, has_key, keys_give, shown_part, shown_order, shown_key}
 use Rattle.vx_check_rules.specs.Exactly.{FitsExactly, PartsExactly, OrdersExactly, KeysExactly, VerdictsExactly}
 use Rattle.vx_check_rules.proofs.Bools.{or-false, or-true, and-true, or-assoc, or-swap, or-again, any-if}
 use Rattle.vx_check_rules.proofs.ColumnFacts.{list_all-ext, list_any-ext, contains-below, first-suc}
@@ -63,6 +63,7 @@ unary-orders (distinct cols) catalog n c p order = order-kept cols (claim p).ord
 unary-orders (group plain by aggregates) catalog n c p order = order-kept by (claim p).order order
 unary-orders (group partial by aggregates) catalog n c p order = order-kept by (claim p).order order
 unary-orders (group final by aggregates) catalog n c p order = order-kept by (claim p).order order
+unary-orders (limit m) catalog n c p order = order-whole (claim p).order order
 
 moved-orders : (b : Bool) (below merge order : List ℕ)
     → (is_prefix order merge || (b && is_prefix order below)) ≡ list_any (λ s. sorts s order) (if_so b (sorted_by whole_rows below ∷ []) ++ sorted_by whole_rows merge ∷ [])
@@ -76,6 +77,7 @@ orders-exactly catalog (scan n c r m z) order = order-whole (catalog r).order or
 orders-exactly catalog (unary n c op p) order = unary-orders op catalog n c p order
 orders-exactly catalog (binary n c union p q) order = order-whole [] order
 orders-exactly catalog (binary n c (join m on) p q) order = order-whole (claim p).order order
+orders-exactly catalog (binary n c (semi_join matched on conditions) p q) order = order-whole (claim p).order order
 orders-exactly catalog (exchange n c k merge p) order = moved-orders (is_one (size p) || goes_on k (claim p)) (claim p).order merge order
 
 -- ---- parts
@@ -145,6 +147,7 @@ unary-parts (group plain by aggregates) p q e =
 unary-parts (group partial by aggregates) p q e = here (is_one (size p)) (way (columns_kept by) (own p ∷ [])) q (unless_one (through (has p) (copied by)) q) (own-kept by p q)
 unary-parts (group final by aggregates) p q e =
     if-there (is_one (size p)) (is_one (size p) || (has p all || routed_within (claim p).part by)) (way (columns_kept by) (own p ∷ [])) q (unless_one (through (has p) (copied by)) q) e (own-kept by p q)
+unary-parts (limit m) p q e = here (is_one (size p)) (way whole_rows (own p ∷ [])) q (unless_one (has p) q) (gives-whole (own p ∷ []) (has p) (each-own p) q)
 
 -- the way of an operator over one input gives what the operator shows
 pub unary-gives : (op : Unary) (p : Plan) (q : Part) → gives (way (described op).copying (own p ∷ [])) q ≡ unless_one (unary_shows op p) q
@@ -155,6 +158,7 @@ unary-gives (distinct cols) p q = own-kept cols p q
 unary-gives (group plain by aggregates) p q = own-kept by p q
 unary-gives (group partial by aggregates) p q = own-kept by p q
 unary-gives (group final by aggregates) p q = own-kept by p q
+unary-gives (limit m) p q = gives-whole (own p ∷ []) (has p) (each-own p) q
 
 both-unless : (p q : Plan) (x : Part) → unless_one (both_have p q) x ≡ unless_one (λ y. has p y && has q y) x
 both-unless p q one = refl
@@ -202,7 +206,7 @@ join-unless on w p q all = refl
 join-unless on w p q (routed r cs) = refl
 
 pub join-parts : (on : List (ℕ × ℕ)) (w : ℕ) (p q : Plan) (x : Part)
-    → join_shows on w p q x ≡ list_any (λ v. gives v x) (ways_over (Some on) (record { left = left_of w; right = right_of w; pairs = Some on }) (own p) (own q))
+    → join_shows on w p q x ≡ list_any (λ v. gives v x) (ways_over (paired_on on) (record { left = left_of w; right = right_of w; meeting = paired_on on }) (own p) (own q))
 join-parts on w p q x =
     let f = λ (v : Way). gives v x in
     let a : Bool = routed_alike on (claim p).part (claim q).part in
@@ -224,6 +228,31 @@ join-parts on w p q x =
     ∙ ap (λ b. A || b) (list_any-append f (if_so (has q all) (l ∷ [])) (if_so (has p all) (r ∷ [])) ∙ (ap (λ b. b || list_any f (if_so (has p all) (r ∷ []))) eb ∙ ap (λ b. B || b) ec))) in
     or-assoc A B C ∙ sym split
 
+-- left rows that are kept as they meet right ones
+unless-two : (a b : Bool) (f g : Part → Bool) (x : Part) → unless_one (λ y. (a && f y) || (b && g y)) x ≡ ((a && unless_one f x) || (b && unless_one g x))
+unless-two true true f g one = refl
+unless-two true false f g one = refl
+unless-two false true f g one = refl
+unless-two false false f g one = refl
+unless-two a b f g any = refl
+unless-two a b f g all = refl
+unless-two a b f g (routed r cs) = refl
+
+pub semi-parts : (on : List (ℕ × ℕ)) (p q : Plan) (x : Part)
+    → unless_one (semi_join_shows on p q) x ≡ list_any (λ v. gives v x) (ways_over (matched_on on) (record { left = whole_rows; right = no_columns; meeting = matched_on on }) (own p) (own q))
+semi-parts on p q x =
+    let f = λ (v : Way). gives v x in
+    let a : Bool = routed_alike on (claim p).part (claim q).part in
+    let u : Way = way whole_rows (bare (claim p).part ∷ []) in
+    let l : Way = way whole_rows (own p ∷ []) in
+    let A : Bool = a && unless_one (part_gives (claim p).part) x in
+    let B : Bool = has q all && unless_one (has p) x in
+    let ea : list_any f (if_so a (u ∷ [])) ≡ A = any-if f a (u ∷ []) ∙ ap (λ b. a && b) (or-false (gives u x) ∙ bare-whole (claim p).part x) in
+    let eb : list_any f (if_so (has q all) (l ∷ [])) ≡ B
+    = any-if f (has q all) (l ∷ []) ∙ ap (λ b. has q all && b) (or-false (gives l x) ∙ gives-whole (own p ∷ []) (has p) (each-own p) x) in
+    unless-two a (has q all) (part_gives (claim p).part) (has p) x
+    ∙ sym (list_any-append f (if_so a (u ∷ [])) (if_so (has q all) (l ∷ [])) ∙ (ap (λ b. b || list_any f (if_so (has q all) (l ∷ []))) ea ∙ ap (λ b. A || b) eb))
+
 kind-parts : (k : ExchangeKind) (q : Part) → kind_shows k q ≡ part_gives (kind_part k) q
 kind-parts (route_to z r cols) q = refl
 kind-parts (round z) q = refl
@@ -238,6 +267,7 @@ parts-exactly catalog (unary n c op p) q e = unary-parts op p q e
 parts-exactly catalog (binary n c union p q) x e =
     if-there (is_one (size p)) (is_one (size p) || ((has p any && has q any) || (has p all && has q all))) (way whole_rows (own p ∷ own q ∷ [])) x (unless_one (both_have p q) x) e (gives-both p q x)
 parts-exactly catalog (binary n c (join m on) p q) x e = ap (λ b. is_one (size p) || b) (join-unless on (width catalog p) p q x ∙ join-parts on (width catalog p) p q x)
+parts-exactly catalog (binary n c (semi_join matched on conditions) p q) x e = ap (λ b. is_one (size p) || b) (semi-parts on p q x)
 parts-exactly catalog (exchange n c k m p) q e =
     here (is_one (target k)) (way whole_rows (bare (kind_part k) ∷ [])) q (unless_one (kind_shows k) q)
     (bare-whole (kind_part k) q ∙ sym (unless-same (kind_shows k) (part_gives (kind_part k)) (kind-parts k) q))
@@ -248,6 +278,7 @@ parts-if-fit catalog (scan n c r m z) q = parts-exactly catalog (scan n c r m z)
 parts-if-fit catalog (unary n c op p) q = here (is_one (size p)) (way (described op).copying (own p ∷ [])) q (unless_one (unary_shows op p) q) (unary-gives op p q)
 parts-if-fit catalog (binary n c union p q) x = here (is_one (size p)) (way whole_rows (own p ∷ own q ∷ [])) x (unless_one (both_have p q) x) (gives-both p q x)
 parts-if-fit catalog (binary n c (join m on) p q) x = ap (λ b. is_one (size p) || b) (join-unless on (width catalog p) p q x ∙ join-parts on (width catalog p) p q x)
+parts-if-fit catalog (binary n c (semi_join matched on conditions) p q) x = ap (λ b. is_one (size p) || b) (semi-parts on p q x)
 parts-if-fit catalog (exchange n c k m p) q = parts-exactly catalog (exchange n c k m p) q refl
 
 -- ---- fits
@@ -268,6 +299,12 @@ unary-fits (distinct cols) p = again-if (is_one (size p)) (has p all || routed_w
 unary-fits (group plain by aggregates) p = again-if (is_one (size p)) (has p all || routed_within (claim p).part by) (way (columns_kept by) (own p ∷ []))
 unary-fits (group partial by aggregates) p = refl
 unary-fits (group final by aggregates) p = again-if (is_one (size p)) (has p all || routed_within (claim p).part by) (way (columns_kept by) (own p ∷ []))
+unary-fits (limit m) p = refl
+
+semi-fits : (a b : Bool) (u l : Way) → (a || b) ≡ list_any (λ x. true) (if_so a (u ∷ []) ++ if_so b (l ∷ []))
+semi-fits true b u l = refl
+semi-fits false true u l = refl
+semi-fits false false u l = refl
 
 join-fits : (a b c : Bool) (u v l r : Way) → (a || b || c) ≡ list_any (λ x. true) (if_so a (u ∷ v ∷ []) ++ (if_so b (l ∷ []) ++ if_so c (r ∷ [])))
 join-fits true b c u v l r = refl
@@ -283,6 +320,9 @@ fits-exactly catalog (binary n c (join m on) p q) =
     ap (λ b. is_one (size p) || b)
     (join-fits (routed_alike on (claim p).part (claim q).part) (has q all) (has p all) (way whole_rows (bare (claim p).part ∷ [])) (way (right_of (width catalog p)) (bare (claim q).part ∷ []))
     (way (left_of (width catalog p)) (own p ∷ [])) (way (right_of (width catalog p)) (own q ∷ [])))
+fits-exactly catalog (binary n c (semi_join matched on conditions) p q) =
+    ap (λ b. is_one (size p) || b)
+    (semi-fits (routed_alike on (claim p).part (claim q).part) (has q all) (way whole_rows (bare (claim p).part ∷ [])) (way whole_rows (own p ∷ [])))
 fits-exactly catalog (exchange n c k m p) = sym (or-true (is_one (target k)))
 
 -- ---- keys
@@ -395,6 +435,12 @@ all-first test (suc n) =
 pub key-first : (n : ℕ) (cols : List ℕ) → within (numbers_below n) cols ≡ list_any (λ k. keys_give k cols) (keyed_by ((whole_rows, first_columns n ∷ []) ∷ []) ∷ [])
 key-first n cols = all-first (contains cols) n ∙ (sym (or-false (within (first_columns n) cols)) ∙ key-whole (first_columns n ∷ []) cols)
 
+-- of so few first rows no column is a key
+pub limit-key : (b : Bool) (keys : List (List ℕ)) (cols : List ℕ)
+    → (b || covers keys cols) ≡ list_any (λ k. keys_give k cols) (keyed_after (cond b (key_of_first 0) keys_kept) whole_rows keys)
+limit-key true keys cols = key-first 0 cols
+limit-key false keys cols = key-whole keys cols
+
 unary-key : (op : Unary) (catalog : ℕ → Relation) (n : ℕ) (c : Claim) (p : Plan) (cols : List ℕ) → within cols (numbers_below (width catalog (unary n c op p))) ≡ true
     → keys_of catalog (unary n c op p) cols ≡ shown_key (behaviour catalog (unary n c op p)) cols
 unary-key (select cs) catalog n c p cols e = key-whole (claim p).keys cols
@@ -406,12 +452,14 @@ unary-key (distinct kept) catalog n c p cols e =
 unary-key (group plain by aggregates) catalog n c p cols e = key-first (length by) cols
 unary-key (group partial by aggregates) catalog n c p cols e = refl
 unary-key (group final by aggregates) catalog n c p cols e = key-first (length by) cols
+unary-key (limit m) catalog n c p cols e = limit-key (nat_le m 1) (claim p).keys cols
 
 pub keys-exactly : KeysExactly
 keys-exactly catalog (scan n c r m z) cols e = key-whole (catalog r).keys cols
 keys-exactly catalog (unary n c op p) cols e = unary-key op catalog n c p cols e
 keys-exactly catalog (binary n c union p q) cols e = refl
 keys-exactly catalog (binary n c (join m on) p q) cols e = join-keys on (width catalog p) (claim p).keys (claim q).keys cols
+keys-exactly catalog (binary n c (semi_join matched on conditions) p q) cols e = key-whole (claim p).keys cols
 keys-exactly catalog (exchange n c k m p) cols e = key-whole (claim p).keys cols
 
 -- ---- the verdict
@@ -424,21 +472,22 @@ keys-all catalog p (k ∷ keys) h =
     let b : Bool = list_all (λ x. within x (numbers_below (width catalog p))) keys in
     ap (λ x. x && list_all (keys_of catalog p) keys) (keys-exactly catalog p k (and-left a b h)) ∙ ap (λ x. shown_key (behaviour catalog p) k && x) (keys-all catalog p keys (and-right a b h))
 
-cascade : (a b c d e e' f f' g g' : Bool) → (c ≡ true → e ≡ e') → f ≡ f' → g ≡ g'
-    → first_failure ((a, size_mismatch) ∷ (b, replicated_input) ∷ (c, inputs_not_matched) ∷ (d, order_needed) ∷ (e, part_not_shown) ∷ (f, order_not_shown) ∷ (g, key_not_shown) ∷ [])
-    ≡ first_failure ((a, size_mismatch) ∷ (b, replicated_input) ∷ (c, inputs_not_matched) ∷ (d, order_needed) ∷ (e', part_not_shown) ∷ (f', order_not_shown) ∷ (g', key_not_shown) ∷ [])
-cascade a b true d e e' f f' g g' h k l = rw (h refl, k, l) refl
-cascade a b false d e e' f f' g g' h k l = refl
+cascade : (a b c d m e e' f f' g g' : Bool) → (c ≡ true → e ≡ e') → f ≡ f' → g ≡ g'
+    → first_failure ((a, size_mismatch) ∷ (b, replicated_input) ∷ (c, inputs_not_matched) ∷ (d, order_needed) ∷ (m, first_rows_open) ∷ (e, part_not_shown) ∷ (f, order_not_shown) ∷ (g, key_not_shown) ∷ [])
+    ≡ first_failure ((a, size_mismatch) ∷ (b, replicated_input) ∷ (c, inputs_not_matched) ∷ (d, order_needed) ∷ (m, first_rows_open) ∷ (e', part_not_shown) ∷ (f', order_not_shown) ∷ (g', key_not_shown) ∷ [])
+cascade a b true d m e e' f f' g g' h k l = rw (h refl, k, l) refl
+cascade a b false d m e e' f f' g g' h k l = refl
 
 pub verdicts-exactly : VerdictsExactly
 verdicts-exactly catalog p h =
     let a : Bool = sizes_match p in
     let b : Bool = not_replicated p in
     let d : Bool = order_given p in
+    let m : Bool = first_rows_known catalog p in
     let e' : Bool = is_one (size p) || shown_part (behaviour catalog p) (claim p).part in
     let f' : Bool = shown_order (behaviour catalog p) (claim p).order in
     let g' : Bool = list_all (shown_key (behaviour catalog p)) (claim p).keys in
-    cascade a b (inputs_match p) d (part_shown catalog p) e' (order_shown catalog p) f' (keys_shown catalog p) g' (parts-exactly catalog p (claim p).part)
+    cascade a b (inputs_match p) d m (part_shown catalog p) e' (order_shown catalog p) f' (keys_shown catalog p) g' (parts-exactly catalog p (claim p).part)
     (orders-exactly catalog p (claim p).order) (keys-all catalog p (claim p).keys h)
-    ∙ ap (λ c. first_failure ((a, size_mismatch) ∷ (b, replicated_input) ∷ (c, inputs_not_matched) ∷ (d, order_needed) ∷ (e', part_not_shown) ∷ (f', order_not_shown) ∷ (g', key_not_shown) ∷ []))
+    ∙ ap (λ c. first_failure ((a, size_mismatch) ∷ (b, replicated_input) ∷ (c, inputs_not_matched) ∷ (d, order_needed) ∷ (m, first_rows_open) ∷ (e', part_not_shown) ∷ (f', order_not_shown) ∷ (g', key_not_shown) ∷ []))
     (fits-exactly catalog p)

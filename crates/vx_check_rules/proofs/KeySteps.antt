@@ -7,7 +7,7 @@ use Rattle.vx_rows_values.specs.Limits.{max_columns}
 use Rattle.vx_rows_values.proofs.Booleans.{and-left, and-right, and-both}
 use Rattle.vx_catalog_relations.specs.Relation.{Relation}
 use Rattle.vx_catalog_relations.specs.Catalog.{all_below}
-use Rattle.vx_plan_nodes.specs.Plan.{Claim, Unary, select, project, distinct, sort, group, Plan, unary, claim}
+use Rattle.vx_plan_nodes.specs.Plan.{Claim, Unary, select, project, distinct, sort, group, limit, Plan, unary, claim}
 use Rattle.vx_plan_nodes.specs.Phases.{columns_from, first_columns}
 use Rattle.vx_plan_nodes.specs.Types.{width}
 use Rattle.vx_plan_nodes.specs.Describe.{Copying, source}
@@ -23,8 +23,8 @@ use Rattle.vx_plan_facts.proofs.ColumnSets.{any-at}
 use Rattle.vx_plan_facts.proofs.Searching.{wide-enough, known-aside, aside-same, width-same}
 use Rattle.vx_plan_facts.proofs.Tests.{or-left, or-right, any-first}
 use Rattle.vx_plan_facts.proofs.KnownFacts.{known-under}
-use Rattle.vx_check_rules.specs.Derived.{members, key_below, key_derived, key_derived_by}
-use Rattle.vx_check_rules.specs.KnownNode.{IsKeyOf, IsKeyOver, projected_below}
+use Rattle.vx_check_rules.specs.Derived.{first_rows_known_derived, members, key_below, key_derived, key_derived_by}
+use Rattle.vx_check_rules.specs.KnownNode.{IsKeyOf, IsKeyOver, projected_below, first_known_below}
 use Rattle.vx_check_rules.specs.Rules.{keys_of}
 use Rattle.vx_check_rules.specs.Behaviour.{behaviour, shown_key}
 use Rattle.vx_check_rules.proofs.ColumnFacts.{within-below}
@@ -213,6 +213,16 @@ projected-is catalog n c (project cols) p key = refl
 projected-is catalog n c (distinct cols) p key = refl
 projected-is catalog n c (sort of_parts cols) p key = refl
 projected-is catalog n c (group phase by aggregates) p key = refl
+projected-is catalog n c (limit m) p key = refl
+
+-- of a limit, by its operator
+pub first-is : (catalog : ℕ → Relation) (n : ℕ) (c : Claim) (op : Unary) (p : Plan) → first_rows_known_derived catalog (unary n c op p) ≡ first_known_below catalog op p
+first-is catalog n c (select cs) p = refl
+first-is catalog n c (project cols) p = refl
+first-is catalog n c (distinct cols) p = refl
+first-is catalog n c (sort of_parts cols) p = refl
+first-is catalog n c (group phase by aggregates) p = refl
+first-is catalog n c (limit m) p = refl
 
 pub known-in : (catalog : ℕ → Relation) (k : rust_known.KnownColumns) (x : Plan) (n : ℕ) (c : Claim) (op : Unary) (p : Plan) → x ≡ unary n c op p → IsKnownOf catalog k x
     → IsKnownOf catalog k p

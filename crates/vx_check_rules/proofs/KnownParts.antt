@@ -7,13 +7,13 @@ use Rattle.vx_rows_values.specs.Lists.{is_some_list}
 use Rattle.vx_rows_values.proofs.Booleans.{and-left, and-right}
 use Rattle.vx_catalog_relations.specs.Relation.{Relation}
 use Rattle.vx_catalog_relations.specs.Catalog.{relation_at, all_below, are_distinct}
-use Rattle.vx_plan_nodes.specs.Plan.{Route, by_hash, by_range, Claim, Unary, Binary, union, join, ExchangeKind, route_to, round, broadcast, gather, concat, Plan, scan, unary, binary, exchange, claim}
+use Rattle.vx_plan_nodes.specs.Plan.{Route, by_hash, by_range, Claim, Unary, Binary, union, join, semi_join, ExchangeKind, route_to, round, broadcast, gather, concat, Plan, scan, unary, binary, exchange, claim}
 use Rattle.vx_plan_nodes.specs.declared.typed.TypedNode.{TypedNode}
 use Rattle.vx_plan_nodes.specs.Outline.{plan_of}
 use Rattle.vx_plan_nodes.specs.Parts.{kind_part}
 use Rattle.vx_plan_nodes.specs.Types.{types_of, width, part_columns}
 use Rattle.vx_plan_nodes.specs.Typed.{Scope, typed, is_size, is_kind, is_routed, are_columns}
-use Rattle.vx_plan_nodes.specs.Describe.{described, described_both, left_of, right_of}
+use Rattle.vx_plan_nodes.specs.Describe.{described, described_both, whole_rows, left_of, right_of}
 use Rattle.vx_plan_facts.specs.declared.facts.ColumnFacts.{ColumnFacts}
 use Rattle.vx_plan_facts.specs.declared.known.KnownColumns.{KnownColumns}
 use Rattle.vx_plan_facts.specs.FactsView.{facts_of, width_of}
@@ -27,10 +27,10 @@ use Rattle.vx_plan_facts.proofs.Searching.{known-left, known-right}
 use Rattle.vx_check_rules.specs.Rules.{inputs_match}
 use Rattle.vx_check_rules.specs.Behaviour.{own}
 use Rattle.vx_check_rules.specs.Derived.{part_matches, routed_as, inputs_match_derived, part_derived}
-use Rattle.vx_check_rules.specs.DerivedView.{equality_of, meet_equally, meet_both_equally, meets_derived, join_part, both_part}
+use Rattle.vx_check_rules.specs.DerivedView.{equality_of, meet_equally, meet_both_equally, meets_derived, join_part, kept_part, both_part}
 use Rattle.vx_check_rules.specs.KnownNode.{IsKnownTyped}
 use Rattle.vx_check_rules.proofs.NamedNodes.{part-below}
-use Rattle.vx_check_rules.proofs.EqualBelow.{SameBelow, matches-same, meets-same, alike-same, routed-as-same, join-same}
+use Rattle.vx_check_rules.proofs.EqualBelow.{SameBelow, matches-same, meets-same, alike-same, routed-as-same, join-same, kept-same}
 
 -- the facts of a node that the program has, where it is known
 abbrev pub FactsAt : (ℕ → Relation) → KnownColumns → ColumnFacts → TypedNode → Type 0
@@ -98,13 +98,19 @@ unary-meets catalog known n c op p k h facts =
 pub both-meet : (catalog : List Relation) (known : KnownColumns) (n : ℕ) (c : Claim) (op : Binary) (p q : Plan) (k l : ColumnFacts) (v : ℕ) → IsKnownTyped catalog known (binary n c op p q)
     → (IsKnownOf (relation_at catalog) known p → AreFactsOf (relation_at catalog) p (facts_of k))
     → (IsKnownOf (relation_at catalog) known q → AreFactsOf (relation_at catalog) q (facts_of l))
-    → meet_both_equally (equality_of k) (equality_of l) (described_both v op).pairs (claim p).part (claim q).part ≡ meets_derived (relation_at catalog) (binary n c op p q)
+    → meet_both_equally (equality_of k) (equality_of l) (described_both v op).meeting (claim p).part (claim q).part ≡ meets_derived (relation_at catalog) (binary n c op p q)
 both-meet catalog known n c union p q k l v h lefts rights = refl
 both-meet catalog known n c (join m on) p q k l v h lefts rights =
     let at = relation_at catalog in
     let below = known-both at known n c (join m on) p q h.known in
     alike-same (width at p) (width at q) (equality_of k) (equal_at at p) (equality_of l) (equal_at at q) (equal-same at p k (lefts below.0)) (equal-same at q l (rights below.1)) on
     (typed-both catalog (binary n c (join m on) p q) n c (join m on) p q refl h.typed).2 (claim p).part (claim q).part (part-below at known p below.0) (part-below at known q below.1)
+both-meet catalog known n c (semi_join matched on conditions) p q k l v h lefts rights =
+    let at = relation_at catalog in
+    let op : Binary = semi_join matched on conditions in
+    let below = known-both at known n c op p q h.known in
+    alike-same (width at p) (width at q) (equality_of k) (equal_at at p) (equality_of l) (equal_at at q) (equal-same at p k (lefts below.0)) (equal-same at q l (rights below.1)) on
+    (typed-both catalog (binary n c op p q) n c op p q refl h.typed).2 (claim p).part (claim q).part (part-below at known p below.0) (part-below at known q below.1)
 
 -- ---- K3
 
@@ -122,7 +128,7 @@ unary-part catalog known n c op p k o h facts out =
 pub both-part : (catalog : List Relation) (known : KnownColumns) (n : ℕ) (c : Claim) (op : Binary) (p q : Plan) (k l o : ColumnFacts) → IsKnownTyped catalog known (binary n c op p q)
     → (IsKnownOf (relation_at catalog) known p → AreFactsOf (relation_at catalog) p (facts_of k))
     → (IsKnownOf (relation_at catalog) known q → AreFactsOf (relation_at catalog) q (facts_of l)) → AreFactsOf (relation_at catalog) (binary n c op p q) (facts_of o)
-    → both_part (width_of o) (described_both (width (relation_at catalog) p) op).pairs (described_both (width (relation_at catalog) p) op) (equality_of k) (equality_of l) (equality_of o) (own p) (own q) c.part
+    → both_part (width_of o) (described_both (width (relation_at catalog) p) op).meeting (described_both (width (relation_at catalog) p) op) (equality_of k) (equality_of l) (equality_of o) (own p) (own q) c.part
     ≡ part_derived (relation_at catalog) (binary n c op p q) c.part
 both-part catalog known n c union p q k l o h lefts rights out =
     let at = relation_at catalog in
@@ -140,6 +146,15 @@ both-part catalog known n c (join m on) p q k l o h lefts rights out =
     ∙ join-same (width at p) (width at q) (width at top) (left_of (width at p)) (right_of (width at p)) (known-left at _ top h.known.known).reaches (known-right at _ top h.known.known).reaches
     (equality_of k) (equal_at at p) (equality_of l) (equal_at at q) (equality_of o) (equal_at at top) (equal-same at p k (lefts below.0)) (equal-same at q l (rights below.1)) (equal-same at top o out)
     on (typed-both catalog top n c (join m on) p q refl h.typed).2 (own p) (own q) c.part (part-below at known p below.0) (part-below at known q below.1) (part-below at known top h.known)
+both-part catalog known n c (semi_join matched on conditions) p q k l o h lefts rights out =
+    let at = relation_at catalog in
+    let op : Binary = semi_join matched on conditions in
+    let top = binary n c op p q in
+    let below = known-both at known n c op p q h.known in
+    ap (λ w. kept_part w whole_rows (equality_of k) (equality_of l) (equality_of o) on (own p) (own q) c.part) out.wide
+    ∙ kept-same (width at p) (width at q) (width at top) whole_rows (known-left at _ top h.known.known).reaches
+    (equality_of k) (equal_at at p) (equality_of l) (equal_at at q) (equality_of o) (equal_at at top) (equal-same at p k (lefts below.0)) (equal-same at q l (rights below.1)) (equal-same at top o out)
+    on (typed-both catalog top n c op p q refl h.typed).2 (own p) (own q) c.part (part-below at known p below.0) (part-below at known q below.1) (part-below at known top h.known)
 
 pub sent-part : (catalog : List Relation) (known : KnownColumns) (n : ℕ) (c : Claim) (x : ExchangeKind) (m : List ℕ) (p : Plan) (k : ColumnFacts) → IsKnownTyped catalog known (exchange n c x m p)
     → (IsKnownOf (relation_at catalog) known p → AreFactsOf (relation_at catalog) p (facts_of k))

@@ -5,7 +5,7 @@ use Rattle.std.specs.List.{list_all}
 use Rattle.vx_rows_values.proofs.Booleans.{and-left, and-right, and-both}
 use Rattle.vx_catalog_relations.specs.Relation.{Relation}
 use Rattle.vx_catalog_relations.specs.Catalog.{relation_at, all_below, are_distinct}
-use Rattle.vx_plan_nodes.specs.Plan.{Part, Claim, claim, Binary, union, join, ExchangeKind, Plan, scan, unary, binary, exchange}
+use Rattle.vx_plan_nodes.specs.Plan.{Part, Claim, claim, Binary, union, join, semi_join, ExchangeKind, Plan, scan, unary, binary, exchange}
 use Rattle.vx_plan_nodes.specs.Phases.{phase_fits, both_closed}
 use Rattle.vx_plan_nodes.specs.Typed.{is_kind, are_columns, typed}
 use Rattle.vx_plan_nodes.specs.Types.{types_of, width, part_columns, names_columns, well_formed}
@@ -30,6 +30,10 @@ claim-named catalog (binary n c union p q) h =
     (and-right (well_formed catalog q) (both_closed p q && (wide && named)) (and-right (well_formed catalog p) (well_formed catalog q && (both_closed p q && (wide && named))) h)))
 claim-named catalog (binary n c (join m on) p q) h =
     let named = names_columns (width catalog p + width catalog q) c in
+    and-right (both_closed p q) named
+    (and-right (well_formed catalog q) (both_closed p q && named) (and-right (well_formed catalog p) (well_formed catalog q && (both_closed p q && named)) h))
+claim-named catalog (binary n c (semi_join matched on conditions) p q) h =
+    let named = names_columns (width catalog p) c in
     and-right (both_closed p q) named
     (and-right (well_formed catalog q) (both_closed p q && named) (and-right (well_formed catalog p) (well_formed catalog q && (both_closed p q && named)) h))
 claim-named catalog (exchange n c k m p) h = and-right (well_formed catalog p) (names_columns (width catalog p) c) h
@@ -87,6 +91,7 @@ pub pairs-are : (catalog : ℕ → Relation) (n : ℕ) (c : Claim) (op : Binary)
 pairs-are catalog n c union p q = refl
 pairs-are catalog n c (join true on) p q = refl
 pairs-are catalog n c (join false on) p q = refl
+pairs-are catalog n c (semi_join matched on conditions) p q = refl
 
 module _ (catalog : List Relation) (k : rust_known.KnownColumns) (x : Plan) (h : IsKnownTyped catalog k x) (n : ℕ) (c : Claim) where
   pub joined-by : (op : Binary) (p q : Plan) → x ≡ binary n c op p q → AreJoined (relation_at catalog) k op p q

@@ -6,11 +6,11 @@ use Rattle.vx_rows_values.specs.Lists.{is_some_list}
 use Rattle.vx_rows_values.proofs.Booleans.{and-left, and-right, and-both}
 use Rattle.vx_catalog_relations.specs.Relation.{Relation}
 use Rattle.vx_catalog_relations.specs.Catalog.{relation_at, all_below, are_distinct, IsRelation}
-use Rattle.vx_plan_nodes.specs.Plan.{Claim, claim, Size, Unary, select, project, distinct, sort, group, plain, partial, final, Binary, union, join, ExchangeKind, Plan, scan, unary, binary, exchange}
+use Rattle.vx_plan_nodes.specs.Plan.{Claim, claim, Size, Unary, select, project, distinct, sort, group, limit, plain, partial, final, Binary, union, join, semi_join, ExchangeKind, Plan, scan, unary, binary, exchange}
 use Rattle.vx_plan_nodes.specs.Phases.{phase_fits}
 use Rattle.vx_plan_nodes.specs.Typed.{are_columns, is_unary, typed}
 use Rattle.vx_plan_nodes.specs.Types.{types_of, width}
-use Rattle.vx_plan_nodes.specs.Describe.{Copying, whole_rows, columns_kept, left_of, right_of, OrderAfter, described}
+use Rattle.vx_plan_nodes.specs.Describe.{Copying, whole_rows, columns_kept, left_of, right_of, no_columns, OrderAfter, described}
 use Rattle.vx_plan_facts.specs.Determined.{Columns}
 use Rattle.vx_plan_facts.specs.Equal.{Equality}
 use Rattle.vx_plan_facts.specs.FactsView.{facts_of}
@@ -37,6 +37,7 @@ unary-order-by w (sort of_parts cols) e det below = refl
 unary-order-by w (group plain by aggregates) e det below = refl
 unary-order-by w (group partial by aggregates) e det below = refl
 unary-order-by w (group final by aggregates) e det below = refl
+unary-order-by w (limit m) e det below = refl
 
 -- where rows stay whole, and where they do not
 pub whole-by : (k : Copying) → is_whole k ≡ true → (w : ℕ) (after : OrderAfter) (e : Equality) (det : Columns → Columns) (below : List ℕ)
@@ -45,6 +46,7 @@ whole-by whole_rows h w after e det below = refl
 whole-by (columns_kept cols) h w after e det below = absurd (true≢false (sym h))
 whole-by (left_of v) h w after e det below = absurd (true≢false (sym h))
 whole-by (right_of v) h w after e det below = absurd (true≢false (sym h))
+whole-by no_columns h w after e det below = absurd (true≢false (sym h))
 
 pub carried-by : (k : Copying) → is_whole k ≡ false → (w : ℕ) (after : OrderAfter) (e : Equality) (det : Columns → Columns) (below : List ℕ)
     → order_by w k after e det below ≡ front_copies w k e (short det below)
@@ -52,6 +54,7 @@ carried-by whole_rows h w after e det below = absurd (true≢false h)
 carried-by (columns_kept cols) h w after e det below = refl
 carried-by (left_of v) h w after e det below = refl
 carried-by (right_of v) h w after e det below = refl
+carried-by no_columns h w after e det below = refl
 
 kept-whole : {A : Type 0} (cols : List ℕ) → is_whole (columns_kept cols) ≡ true → A
 kept-whole cols e = absurd (true≢false (sym e))
@@ -86,6 +89,7 @@ module _ (catalog : List Relation) (k : rust_known.KnownColumns) where
   sorted-below n c (group plain by aggregates) p h under whole = kept-whole by whole
   sorted-below n c (group partial by aggregates) p h under whole = kept-whole by whole
   sorted-below n c (group final by aggregates) p h under whole = kept-whole by whole
+  sorted-below n c (limit m) p h under whole = order-below (relation_at catalog) k p under
 
   has-input : (n : ℕ) (c : Claim) (op : Unary) (p : Plan) → IsKnownTyped catalog k (unary n c op p)
       → HasInput (relation_at catalog) k (unary n c op p) p (described op).copying (described op).order
@@ -116,6 +120,7 @@ module _ (catalog : List Relation) (k : rust_known.KnownColumns) where
   both-below n c union p q under = refl
   both-below n c (join m on) p q under =
       longer-below (width (relation_at catalog) p) (width (relation_at catalog) p + width (relation_at catalog) q) (claim p).order (omega arith) (order-below (relation_at catalog) k p under)
+  both-below n c (semi_join matched on conditions) p q under = order-below (relation_at catalog) k p under
 
   pub both-orders : (x : Plan) → IsKnownTyped catalog k x → (n : ℕ) (c : Claim) (op : Binary) (p q : Plan) → x ≡ binary n c op p q
       → AreOrdersOf (relation_at catalog) k x (binary_order op (claim p).order) (claim x).order

@@ -9,46 +9,50 @@ use Rattle.vx_plan_facts.proofs.NamedColumns.{typed-unary, typed-both, typed-sen
 use Rattle.vx_check_rules.specs.declared.table.Table.{Table}
 use Rattle.vx_check_rules.specs.declared.table.Table.TheVariants.{First, Second}
 use Rattle.vx_check_rules.specs.KnownNode.{StaysKnown}
-use Rattle.vx_check_rules.specs.Refusal.{Rule, size_mismatch, part_not_shown, inputs_not_matched, replicated_input, order_not_shown, order_needed, key_not_shown, first_failure}
+use Rattle.vx_check_rules.specs.Refusal.{Rule, size_mismatch, part_not_shown, inputs_not_matched, replicated_input, order_not_shown, order_needed, key_not_shown, first_rows_open, first_failure}
 use Rattle.vx_check_rules.specs.TableView.{Judges, StaysTable}
 
 -- ---- tests in their order
 
--- the tests of sizes, exchanges' inputs, inputs, needed orders, the part, the order and the keys
-abbrev pub in_order : (a b c d e f g : Bool) → List (Bool × Rule)
-in_order a b c d e f g =
-    (a, size_mismatch) ∷ (b, replicated_input) ∷ (c, inputs_not_matched) ∷ (d, order_needed) ∷ (e, part_not_shown) ∷ (f, order_not_shown) ∷ (g, key_not_shown) ∷ []
+-- the tests of sizes, exchanges' inputs, inputs, needed orders, first rows, the part, the order and the keys
+abbrev pub in_order : (a b c d e f g h : Bool) → List (Bool × Rule)
+in_order a b c d e f g h =
+    (a, size_mismatch) ∷ (b, replicated_input) ∷ (c, inputs_not_matched) ∷ (d, order_needed) ∷ (e, first_rows_open) ∷ (f, part_not_shown) ∷ (g, order_not_shown) ∷ (h, key_not_shown) ∷ []
 
-pub no-sizes : (a b c d e f g : Bool) → a ≡ false → Some size_mismatch ≡ first_failure (in_order a b c d e f g)
-no-sizes a b c d e f g h = rw h refl
+pub no-sizes : (a b c d e f g h : Bool) → a ≡ false → Some size_mismatch ≡ first_failure (in_order a b c d e f g h)
+no-sizes a b c d e f g h i = rw i refl
 
-pub not-once : (a b c d e f g : Bool) → a ≡ true → b ≡ false → Some replicated_input ≡ first_failure (in_order a b c d e f g)
-not-once a b c d e f g h i = rw (h, i) refl
+pub not-once : (a b c d e f g h : Bool) → a ≡ true → b ≡ false → Some replicated_input ≡ first_failure (in_order a b c d e f g h)
+not-once a b c d e f g h i j = rw (i, j) refl
 
-pub no-inputs : (a b c d e f g : Bool) → a ≡ true → b ≡ true → c ≡ false → Some inputs_not_matched ≡ first_failure (in_order a b c d e f g)
-no-inputs a b c d e f g h i j = rw (h, i, j) refl
+pub no-inputs : (a b c d e f g h : Bool) → a ≡ true → b ≡ true → c ≡ false → Some inputs_not_matched ≡ first_failure (in_order a b c d e f g h)
+no-inputs a b c d e f g h i j k = rw (i, j, k) refl
 
-pub not-given : (a b c d e f g : Bool) → a ≡ true → b ≡ true → c ≡ true → d ≡ false → Some order_needed ≡ first_failure (in_order a b c d e f g)
-not-given a b c d e f g h i j k = rw (h, i, j, k) refl
+pub not-given : (a b c d e f g h : Bool) → a ≡ true → b ≡ true → c ≡ true → d ≡ false → Some order_needed ≡ first_failure (in_order a b c d e f g h)
+not-given a b c d e f g h i j k l = rw (i, j, k, l) refl
+
+pub not-first : (a b c d e f g h : Bool) → a ≡ true → b ≡ true → c ≡ true → d ≡ true → e ≡ false → Some first_rows_open ≡ first_failure (in_order a b c d e f g h)
+not-first a b c d e f g h i j k l m = rw (i, j, k, l, m) refl
 
 -- the tests of the operator pass
-pub record Fits (a b c d : Bool) : Type 0 where
+pub record Fits (a b c d e : Bool) : Type 0 where
   sizes : a ≡ true
   once : b ≡ true
   inputs : c ≡ true
   order : d ≡ true
+  first : e ≡ true
 
-pub no-part : (a b c d e f g : Bool) → Fits a b c d → e ≡ false → Some part_not_shown ≡ first_failure (in_order a b c d e f g)
-no-part a b c d e f g h i = rw (h.sizes, h.once, h.inputs, h.order, i) refl
+pub no-part : (a b c d e f g h : Bool) → Fits a b c d e → f ≡ false → Some part_not_shown ≡ first_failure (in_order a b c d e f g h)
+no-part a b c d e f g h i j = rw (i.sizes, i.once, i.inputs, i.order, i.first, j) refl
 
-pub no-order : (a b c d e f g : Bool) → Fits a b c d → e ≡ true → f ≡ false → Some order_not_shown ≡ first_failure (in_order a b c d e f g)
-no-order a b c d e f g h i j = rw (h.sizes, h.once, h.inputs, h.order, i, j) refl
+pub no-order : (a b c d e f g h : Bool) → Fits a b c d e → f ≡ true → g ≡ false → Some order_not_shown ≡ first_failure (in_order a b c d e f g h)
+no-order a b c d e f g h i j k = rw (i.sizes, i.once, i.inputs, i.order, i.first, j, k) refl
 
-pub no-keys : (a b c d e f g : Bool) → Fits a b c d → e ≡ true → f ≡ true → g ≡ false → Some key_not_shown ≡ first_failure (in_order a b c d e f g)
-no-keys a b c d e f g h i j k = rw (h.sizes, h.once, h.inputs, h.order, i, j, k) refl
+pub no-keys : (a b c d e f g h : Bool) → Fits a b c d e → f ≡ true → g ≡ true → h ≡ false → Some key_not_shown ≡ first_failure (in_order a b c d e f g h)
+no-keys a b c d e f g h i j k l = rw (i.sizes, i.once, i.inputs, i.order, i.first, j, k, l) refl
 
-pub no-failure : (a b c d e f g : Bool) → Fits a b c d → e ≡ true → f ≡ true → g ≡ true → None ≡ first_failure (in_order a b c d e f g)
-no-failure a b c d e f g h i j k = rw (h.sizes, h.once, h.inputs, h.order, i, j, k) refl
+pub no-failure : (a b c d e f g h : Bool) → Fits a b c d e → f ≡ true → g ≡ true → h ≡ true → None ≡ first_failure (in_order a b c d e f g h)
+no-failure a b c d e f g h i j k l = rw (i.sizes, i.once, i.inputs, i.order, i.first, j, k, l) refl
 
 -- ---- what a table still judges
 

@@ -43,6 +43,12 @@ met true b false u v l r = refl
 met false b true u v l r = refl
 met false b false u v l r = refl
 
+pub kept-met : (a b : Bool) (u l : Way) → if_so a (u ∷ []) ++ (if_so b (l ∷ []) ++ []) ≡ if_so a (u ∷ []) ++ if_so b (l ∷ [])
+kept-met true true u l = refl
+kept-met true false u l = refl
+kept-met false true u l = refl
+kept-met false false u l = refl
+
 -- ---- ways of two inputs
 
 both_true : (a b : Bool) → (a && (b && true)) ≡ ((a && true) && (b && true))

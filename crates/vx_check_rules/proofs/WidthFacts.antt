@@ -4,7 +4,7 @@ use Rattle.std.proofs.lemmas.List.{length-map}
 use Rattle.vx_rows_values.specs.declared.value.ColType.{ColType}
 use Rattle.vx_rows_values.specs.Types.{type_at}
 use Rattle.vx_catalog_relations.specs.Relation.{Relation}
-use Rattle.vx_plan_nodes.specs.Plan.{Unary, select, project, distinct, sort, group, Binary, union, join, Plan, scan, unary, binary, exchange}
+use Rattle.vx_plan_nodes.specs.Plan.{Unary, select, project, distinct, sort, group, limit, Binary, union, join, semi_join, Plan, scan, unary, binary, exchange}
 use Rattle.vx_plan_nodes.specs.Types.{aggregate_type, unary_types, unary_width, binary_types, binary_width, types_of, width}
 
 unary_types-width : (op : Unary) (types : List ColType) → length (unary_types op types) ≡ unary_width op (length types)
@@ -16,10 +16,12 @@ unary_types-width (group phase by aggregates) types =
     length-append (map (type_at types) by) (map (aggregate_type types) aggregates)
     ∙ ap (λ k. k + length (map (aggregate_type types) aggregates)) (length-map by (type_at types))
     ∙ ap (λ k. length by + k) (length-map aggregates (aggregate_type types))
+unary_types-width (limit n) types = refl
 
 binary_types-width : (op : Binary) (ts us : List ColType) → length (binary_types op ts us) ≡ binary_width op (length ts) (length us)
 binary_types-width union ts us = refl
 binary_types-width (join m on) ts us = length-append ts us
+binary_types-width (semi_join matched on conditions) ts us = refl
 
 pub types_of-width : (catalog : ℕ → Relation) (p : Plan) → length (types_of catalog p) ≡ width catalog p
 types_of-width catalog (scan n c r m z) = refl

@@ -6,7 +6,7 @@ use Rattle.vx_plan_nodes.specs.Plan.{Route, Part, one, any, all, routed, Exchang
 use Rattle.vx_plan_nodes.specs.Parts.{kind_part}
 use Rattle.vx_plan_nodes.specs.Phases.{first_columns}
 use Rattle.vx_plan_nodes.specs.Types.{width}
-use Rattle.vx_plan_nodes.specs.Describe.{Copying, whole_rows, source, place, OrderAfter, order_kept, sorted_on, KeysAfter, keys_kept, key_of_first, no_key, Described, described, DescribedBoth, described_both}
+use Rattle.vx_plan_nodes.specs.Describe.{Copying, whole_rows, source, place, OrderAfter, order_kept, sorted_on, KeysAfter, keys_kept, key_of_first, no_key, Described, described, Meeting, side_by_side, paired_on, matched_on, DescribedBoth, described_both}
 use Rattle.vx_check_rules.specs.Rules.{part_gives, is_prefix, cons_both, if_some, routed_within, routed_alike, covers, goes_on}
 
 -- ---- columns, all of them or up to the first
@@ -105,34 +105,38 @@ over d p = record {
 }
 
 -- of one over two inputs. Rows side by side have the parts that both inputs have, if both have each row once or both have all on each worker.
--- Rows that have to meet do where both inputs are routed alike, and where each worker has one of them whole. An input of one worker has every part, so that
--- there a left column is tested to be one; a left input's own route and order name left columns, which stand where they stood
-abbrev pub ways_over : Option (List (ℕ × ℕ)) → DescribedBoth → Bool × Part → Bool × Part → List Way
-ways_over None d h g = if_so (h.0 || ((input_has h any && input_has g any) || (input_has h all && input_has g all))) (way d.left (h ∷ g ∷ []) ∷ [])
-ways_over (Some on) d h g =
+-- Rows that have to meet do where both inputs are routed alike, and where each worker has one of them whole; where left rows are kept that are matched, only the
+-- right one counts. An input of one worker has every part, so that there a left column is tested to be one; a left input's own route and order name left columns,
+-- which stand where they stood
+abbrev pub ways_over : Meeting → DescribedBoth → Bool × Part → Bool × Part → List Way
+ways_over side_by_side d h g = if_so (h.0 || ((input_has h any && input_has g any) || (input_has h all && input_has g all))) (way d.left (h ∷ g ∷ []) ∷ [])
+ways_over (matched_on on) d h g = if_so (routed_alike on h.1 g.1) (way whole_rows (bare h.1 ∷ []) ∷ []) ++ if_so (input_has g all) (way d.left (h ∷ []) ∷ [])
+ways_over (paired_on on) d h g =
     if_so (routed_alike on h.1 g.1) (way whole_rows (bare h.1 ∷ []) ∷ way d.right (bare g.1 ∷ []) ∷ [])
     ++ (if_so (input_has g all) (way d.left (h ∷ []) ∷ []) ++ if_so (input_has h all) (way d.right (g ∷ []) ∷ []))
 
 -- the left input's order goes on where rows meet, and is lost where they stand side by side
-abbrev pub order_over : Option (List (ℕ × ℕ)) → List ℕ → List ℕ
-order_over None left = []
-order_over (Some on) left = left
+abbrev pub order_over : Meeting → List ℕ → List ℕ
+order_over side_by_side left = []
+order_over (paired_on on) left = left
+order_over (matched_on on) left = left
 
 -- an input's keys where the rows of the other one meet one row each; else a key of each input together
 abbrev pub keyed_held : (right_held left_held : Bool) → (lefts rights : Copying × List (List ℕ)) → List Keyed
 keyed_held right_held left_held lefts rights =
     if_so right_held (keyed_by (lefts ∷ []) ∷ []) ++ (if_so left_held (keyed_by (rights ∷ []) ∷ []) ++ if_so (not (right_held || left_held)) (keyed_by (lefts ∷ rights ∷ []) ∷ []))
 
-abbrev pub keyed_over : Option (List (ℕ × ℕ)) → DescribedBoth → (lefts rights : List (List ℕ)) → List Keyed
-keyed_over None d lefts rights = []
-keyed_over (Some on) d lefts rights =
+abbrev pub keyed_over : Meeting → DescribedBoth → (lefts rights : List (List ℕ)) → List Keyed
+keyed_over side_by_side d lefts rights = []
+keyed_over (matched_on on) d lefts rights = keyed_by ((whole_rows, lefts) ∷ []) ∷ []
+keyed_over (paired_on on) d lefts rights =
     keyed_held (covers rights (map (λ p. p.1) on)) (covers lefts (map (λ p. p.0) on)) (whole_rows, lefts) (d.right, rights)
 
 abbrev pub over_both : DescribedBoth → Plan → Plan → Behaviour
 over_both d p q = record {
-  ways = ways_over d.pairs d (own p) (own q);
-  sortings = sorted_by whole_rows (order_over d.pairs (claim p).order) ∷ [];
-  keyed = keyed_over d.pairs d (claim p).keys (claim q).keys;
+  ways = ways_over d.meeting d (own p) (own q);
+  sortings = sorted_by whole_rows (order_over d.meeting (claim p).order) ∷ [];
+  keyed = keyed_over d.meeting d (claim p).keys (claim q).keys;
 }
 
 -- the way to a part that is there whatever the inputs have
@@ -165,25 +169,26 @@ behaviour catalog (exchange n c kind merge p) = moved kind merge p
 abbrev pub ways_from : (ℕ → Relation) → Plan → (left right : Bool × Part) → List Way
 ways_from catalog (scan n c r shared z) h g = ways_made (cond shared any all)
 ways_from catalog (unary n c op p) h g = ways_along (described op) h
-ways_from catalog (binary n c op p q) h g = ways_over (described_both (width catalog p) op).pairs (described_both (width catalog p) op) h g
+ways_from catalog (binary n c op p q) h g = ways_over (described_both (width catalog p) op).meeting (described_both (width catalog p) op) h g
 ways_from catalog (exchange n c kind merge p) h g = ways_made (kind_part kind)
 
 -- the ways of a node if its operator fits its inputs, which is not tested
-abbrev pub both_if_fit : Option (List (ℕ × ℕ)) → DescribedBoth → Bool × Part → Bool × Part → List Way
-both_if_fit None d h g = way d.left (h ∷ g ∷ []) ∷ []
-both_if_fit (Some on) d h g = ways_over (Some on) d h g
+abbrev pub both_if_fit : Meeting → DescribedBoth → Bool × Part → Bool × Part → List Way
+both_if_fit side_by_side d h g = way d.left (h ∷ g ∷ []) ∷ []
+both_if_fit (paired_on on) d h g = ways_over (paired_on on) d h g
+both_if_fit (matched_on on) d h g = ways_over (matched_on on) d h g
 
 abbrev pub ways_if_fit : (ℕ → Relation) → Plan → List Way
 ways_if_fit catalog (scan n c r shared z) = ways_made (cond shared any all)
 ways_if_fit catalog (unary n c op p) = way (described op).copying (own p ∷ []) ∷ []
-ways_if_fit catalog (binary n c op p q) = both_if_fit (described_both (width catalog p) op).pairs (described_both (width catalog p) op) (own p) (own q)
+ways_if_fit catalog (binary n c op p q) = both_if_fit (described_both (width catalog p) op).meeting (described_both (width catalog p) op) (own p) (own q)
 ways_if_fit catalog (exchange n c kind merge p) = ways_made (kind_part kind)
 
 -- the keys of a node whose inputs have these in place of those that they claim
 abbrev pub keyed_from : (ℕ → Relation) → Plan → (lefts rights : List (List ℕ)) → List Keyed
 keyed_from catalog (scan n c r shared z) lefts rights = keyed_by ((whole_rows, (catalog r).keys) ∷ []) ∷ []
 keyed_from catalog (unary n c op p) lefts rights = keyed_after (described op).keys (described op).copying lefts
-keyed_from catalog (binary n c op p q) lefts rights = keyed_over (described_both (width catalog p) op).pairs (described_both (width catalog p) op) lefts rights
+keyed_from catalog (binary n c op p q) lefts rights = keyed_over (described_both (width catalog p) op).meeting (described_both (width catalog p) op) lefts rights
 keyed_from catalog (exchange n c kind merge p) lefts rights = keyed_by ((whole_rows, lefts) ∷ []) ∷ []
 
 -- ---- downwards: what is shown

@@ -4,7 +4,7 @@ use Rattle.std.specs.List.{list_all}
 use Rattle.vx_catalog_relations.specs.Relation.{Relation}
 use Rattle.vx_plan_nodes.specs.Plan.{Part, Claim, Plan, scan, unary, binary, exchange}
 use Rattle.vx_plan_nodes.specs.Describe.{Copying, source, place}
-use Rattle.vx_check_rules.specs.Rules.{sizes_match, not_replicated, inputs_match, order_given}
+use Rattle.vx_check_rules.specs.Rules.{sizes_match, not_replicated, inputs_match, order_given, first_rows_known}
 use Rattle.vx_check_rules.specs.Refusal.{first_failure, node_tests}
 use Rattle.vx_check_rules.specs.Behaviour.{Sorted, Keyed, way, gives, sorts, keys_give, front_places, keys_up, part_up, node_part, node_order, node_keys}
 
@@ -39,7 +39,7 @@ Shows catalog p c = first_failure (node_tests catalog (with_claim c p)) ≡ None
 abbrev pub carried : (ℕ → Relation) → Plan → Part → Claim
 carried catalog p q = record { part = q; order = node_order catalog p; keys = node_keys catalog p }
 
--- where an operator fits its inputs, no test of the node fails with what is carried up in place of its claim
+-- where an operator fits its inputs, and the first rows that a limit takes are known, no test of the node fails with what is carried up in place of its claim
 abbrev pub CarriedIsShown : Type 0
 CarriedIsShown = (catalog : ℕ → Relation) (p : Plan) (q : Part) → sizes_match p ≡ true → not_replicated p ≡ true → inputs_match p ≡ true → order_given p ≡ true
-    → node_part catalog p ≡ Some q → Shows catalog p (carried catalog p q)
+    → first_rows_known catalog p ≡ true → node_part catalog p ≡ Some q → Shows catalog p (carried catalog p q)

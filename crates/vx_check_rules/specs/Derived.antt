@@ -3,16 +3,16 @@
 use Rattle.std.specs.Prelude.{ℕ, Bool, true, false, not, ◌&&◌, ◌||◌, List, [], ◌∷◌, map, filter, Option, Some, None}
 use Rattle.std.specs.List.{list_all, list_any}
 use Rattle.vx_catalog_relations.specs.Relation.{Relation}
-use Rattle.vx_plan_nodes.specs.Plan.{by_range, Part, any, all, routed, Unary, select, project, distinct, sort, group, plain, final, Binary, union, join, ExchangeKind, concat, Plan, scan, unary, binary, exchange, claim, size, is_one}
+use Rattle.vx_plan_nodes.specs.Plan.{by_range, Part, any, all, routed, Unary, select, project, distinct, sort, group, limit, plain, final, Binary, union, join, semi_join, ExchangeKind, concat, Plan, scan, unary, binary, exchange, claim, size, is_one}
 use Rattle.vx_plan_nodes.specs.Parts.{kind_part}
 use Rattle.vx_plan_nodes.specs.Phases.{first_columns}
 use Rattle.vx_plan_nodes.specs.Types.{width}
-use Rattle.vx_plan_nodes.specs.Describe.{Copying, source, left_of, right_of, described}
+use Rattle.vx_plan_nodes.specs.Describe.{Copying, whole_rows, source, left_of, right_of, described}
 use Rattle.vx_plan_facts.specs.Equal.{Equality, equal_at}
 use Rattle.vx_plan_facts.specs.Determined.{Columns, column_in, sources_in, determined, determined_aside}
 use Rattle.vx_plan_facts.specs.Following.{set_of, equal_lists, short, order_follows, total_follows}
 use Rattle.vx_check_rules.specs.Behaviour.{Keyed, keys_give}
-use Rattle.vx_check_rules.specs.Rules.{route_eq, has, sizes_match, not_replicated, inputs_match, order_given, part_shown, order_shown, keys_of, is_total_order}
+use Rattle.vx_check_rules.specs.Rules.{route_eq, has, sizes_match, not_replicated, inputs_match, order_given, first_rows_known, part_shown, order_shown, keys_of, is_total_order}
 
 -- ---- parts
 
@@ -54,6 +54,7 @@ unary_meets_equally e op q = false
 abbrev pub binary_meets_equally : (left right : Equality) → Binary → Part → Part → Bool
 binary_meets_equally e f union p q = false
 binary_meets_equally e f (join m on) p q = routed_alike_equally e f on p q
+binary_meets_equally e f (semi_join matched on conditions) p q = routed_alike_equally e f on p q
 
 abbrev pub inputs_match_derived : (ℕ → Relation) → Plan → Bool
 inputs_match_derived catalog (unary n c op p) = inputs_match (unary n c op p) || unary_meets_equally (equal_at catalog p) op (claim p).part
@@ -83,6 +84,9 @@ join_routed v w e f g on p q x =
     ((has q all || routed_alike_equally e f on (claim p).part (claim q).part) && routed_as w (left_of v) e g (claim p).part x)
     || ((has p all || routed_alike_equally e f on (claim p).part (claim q).part) && routed_as w (right_of v) f g (claim q).part x)
 
+abbrev pub semi_join_routed : (w : ℕ) → (left right output : Equality) → List (ℕ × ℕ) → Plan → Plan → Part → Bool
+semi_join_routed w e f g on p q x = (has q all || routed_alike_equally e f on (claim p).part (claim q).part) && routed_as w whole_rows e g (claim p).part x
+
 -- a join of inputs that are routed alike has each row once
 abbrev pub is_any : Part → Bool
 is_any any = true
@@ -97,6 +101,9 @@ part_derived catalog (binary n c union p q) x =
 part_derived catalog (binary n c (join m on) p q) x =
     (is_any x && routed_alike_equally (equal_at catalog p) (equal_at catalog q) on (claim p).part (claim q).part)
     || join_routed (width catalog p) (width catalog (binary n c (join m on) p q)) (equal_at catalog p) (equal_at catalog q) (equal_at catalog (binary n c (join m on) p q)) on p q x
+part_derived catalog (binary n c (semi_join matched on conditions) p q) x =
+    (is_any x && routed_alike_equally (equal_at catalog p) (equal_at catalog q) on (claim p).part (claim q).part)
+    || semi_join_routed (width catalog p) (equal_at catalog p) (equal_at catalog q) (equal_at catalog (binary n c (semi_join matched on conditions) p q)) on p q x
 part_derived catalog (exchange n c k m p) x = part_matches (equal_at catalog p) (kind_part k) x
 
 abbrev pub part_shown_derived : (ℕ → Relation) → Plan → Bool
@@ -114,6 +121,15 @@ needed_follows catalog p = false
 
 abbrev pub order_given_derived : (ℕ → Relation) → Plan → Bool
 order_given_derived catalog p = order_given p || needed_follows catalog p
+
+-- K9 and K11: the order is total by the table, or it determines a claimed key or all columns
+abbrev pub is_total_derived : (ℕ → Relation) → Plan → Bool
+is_total_derived catalog p = is_total_order catalog p || total_follows (width catalog p) (determined catalog p) (claim p).keys (claim p).order
+
+-- K11: the first rows of a limit's input are known
+abbrev pub first_rows_known_derived : (ℕ → Relation) → Plan → Bool
+first_rows_known_derived catalog (unary n c (limit m) p) = is_one (size p) && is_total_derived catalog p
+first_rows_known_derived catalog p = first_rows_known catalog p
 
 -- of the first w output columns the first one that is a copy of a column that is equal to this input column
 abbrev pub first_of : List ℕ → Option ℕ
@@ -152,10 +168,12 @@ unary_order w (sort of_parts cols) e det below = cols
 unary_order w (project cols) e det below = front_copies w (described (project cols)).copying e (short det below)
 unary_order w (distinct cols) e det below = front_copies w (described (distinct cols)).copying e (short det below)
 unary_order w (group phase by aggregates) e det below = front_copies w (described (group phase by aggregates)).copying e (short det below)
+unary_order w (limit m) e det below = below
 
 abbrev pub binary_order : Binary → List ℕ → List ℕ
 binary_order union left = []
 binary_order (join m on) left = left
+binary_order (semi_join matched on conditions) left = left
 
 -- an order follows from one that a node has
 abbrev pub follows_at : (ℕ → Relation) → Plan → (given order : List ℕ) → Bool
@@ -205,7 +223,7 @@ keys_shown_derived catalog p = list_all (key_derived catalog p) (claim p).keys
 abbrev pub allowed_here_derived : (ℕ → Relation) → Plan → Bool
 allowed_here_derived catalog p =
     sizes_match p && (not_replicated p && (inputs_match_derived catalog p && (order_given_derived catalog p
-    && (part_shown_derived catalog p && (order_shown_derived catalog p && keys_shown_derived catalog p)))))
+    && (first_rows_known_derived catalog p && (part_shown_derived catalog p && (order_shown_derived catalog p && keys_shown_derived catalog p))))))
 
 -- every node passes its tests
 abbrev pub allowed_derived : (ℕ → Relation) → Plan → Bool
@@ -213,10 +231,6 @@ allowed_derived catalog (scan n c r m z) = allowed_here_derived catalog (scan n 
 allowed_derived catalog (unary n c op p) = allowed_derived catalog p && allowed_here_derived catalog (unary n c op p)
 allowed_derived catalog (binary n c op p q) = allowed_derived catalog p && (allowed_derived catalog q && allowed_here_derived catalog (binary n c op p q))
 allowed_derived catalog (exchange n c k m p) = allowed_derived catalog p && allowed_here_derived catalog (exchange n c k m p)
-
--- K9: the order is total by the table, or it determines a claimed key or all columns
-abbrev pub is_total_derived : (ℕ → Relation) → Plan → Bool
-is_total_derived catalog p = is_total_order catalog p || total_follows (width catalog p) (determined catalog p) (claim p).keys (claim p).order
 
 -- K2 and K9: the root has one worker, and where the plan says total, its order is
 abbrev pub root_allowed_derived : (ℕ → Relation) → (total : Bool) → Plan → Bool

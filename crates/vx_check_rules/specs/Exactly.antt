@@ -4,8 +4,8 @@ use Rattle.std.specs.List.{list_all}
 use Rattle.vx_catalog_relations.specs.Relation.{Relation}
 use Rattle.vx_plan_nodes.specs.Plan.{Part, Plan, scan, unary, binary, exchange, claim, size, is_one}
 use Rattle.vx_plan_nodes.specs.Types.{width}
-use Rattle.vx_check_rules.specs.Rules.{sizes_match, not_replicated, order_given, inputs_match, unless_one, shows, orders, keys_of, within, numbers_below}
-use Rattle.vx_check_rules.specs.Refusal.{Rule, size_mismatch, part_not_shown, inputs_not_matched, replicated_input, order_not_shown, order_needed, key_not_shown, first_failure, node_tests}
+use Rattle.vx_check_rules.specs.Rules.{sizes_match, not_replicated, order_given, first_rows_known, inputs_match, unless_one, shows, orders, keys_of, within, numbers_below}
+use Rattle.vx_check_rules.specs.Refusal.{Rule, size_mismatch, part_not_shown, inputs_not_matched, replicated_input, order_not_shown, order_needed, key_not_shown, first_rows_open, first_failure, node_tests}
 use Rattle.vx_check_rules.specs.Behaviour.{behaviour, fits, shown_part, shown_order, shown_key}
 
 -- an operator fits its inputs where there is a way
@@ -30,7 +30,7 @@ KeysExactly = (catalog : ℕ → Relation) (p : Plan) (cols : List ℕ) → with
 abbrev pub behaviour_tests : (ℕ → Relation) → Plan → List (Bool × Rule)
 behaviour_tests catalog p =
     (sizes_match p, size_mismatch) ∷ (not_replicated p, replicated_input) ∷ (is_one (size p) || fits (behaviour catalog p), inputs_not_matched) ∷ (order_given p, order_needed)
-    ∷ (is_one (size p) || shown_part (behaviour catalog p) (claim p).part, part_not_shown) ∷ (shown_order (behaviour catalog p) (claim p).order, order_not_shown)
+    ∷ (first_rows_known catalog p, first_rows_open) ∷ (is_one (size p) || shown_part (behaviour catalog p) (claim p).part, part_not_shown) ∷ (shown_order (behaviour catalog p) (claim p).order, order_not_shown)
     ∷ (list_all (shown_key (behaviour catalog p)) (claim p).keys, key_not_shown) ∷ []
 
 -- the claimed keys of a node name its columns

@@ -3,7 +3,7 @@ use Rattle.std.specs.Prelude.{◌≡◌, ◌&&◌, ℕ, Bool, true, false, List,
 use Rattle.std.specs.List.{list_all, list_any}
 use Rattle.vx_catalog_relations.specs.Relation.{Relation}
 use Rattle.vx_catalog_relations.specs.Catalog.{relation_at, all_below}
-use Rattle.vx_plan_nodes.specs.Plan.{Part, Unary, project, Binary, join, Plan, claim}
+use Rattle.vx_plan_nodes.specs.Plan.{Part, Unary, project, limit, Binary, join, Plan, claim, size, is_one}
 use Rattle.vx_plan_nodes.specs.Types.{width, unary_width, part_columns}
 use Rattle.vx_plan_facts.specs.declared.known.KnownColumns as rust_known
 use Rattle.vx_plan_facts.specs.KnownView.{IsKnownOf}
@@ -14,7 +14,7 @@ use Rattle.vx_plan_facts.specs.Equal.{Equality, equal_at}
 use Rattle.vx_plan_facts.specs.Following.{set_of, short, order_follows}
 use Rattle.vx_plan_nodes.specs.Describe.{Copying, whole_rows, columns_kept, OrderAfter}
 use Rattle.vx_check_rules.specs.Behaviour.{order_after}
-use Rattle.vx_check_rules.specs.Derived.{front_copies}
+use Rattle.vx_check_rules.specs.Derived.{is_total_derived, front_copies}
 
 -- a typed node of whose columns is known
 pub record IsKnownTyped (catalog : List Relation) (k : rust_known.KnownColumns) (p : Plan) : Type 0 where
@@ -98,3 +98,8 @@ projected_below catalog op p key = false
 pub record IsKeyOver (catalog : ℕ → Relation) (k : rust_known.KnownColumns) (op : Unary) (p : Plan) (key : List ℕ) : Type 0 where
   pub known : IsKnownOf catalog k p
   pub key_below : all_below (unary_width op (width catalog p)) key ≡ true
+
+-- a limit over this input takes known rows
+abbrev pub first_known_below : (ℕ → Relation) → Unary → Plan → Bool
+first_known_below catalog (limit m) p = is_one (size p) && is_total_derived catalog p
+first_known_below catalog op p = true

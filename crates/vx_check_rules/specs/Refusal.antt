@@ -2,9 +2,9 @@
 use Rattle.std.specs.Prelude.{ℕ, Bool, cond, not, ◌||◌, List, [], ◌∷◌, Option, Some, None, option_map}
 use Rattle.vx_catalog_relations.specs.Relation.{Relation}
 use Rattle.vx_plan_nodes.specs.Plan.{Plan, scan, unary, binary, exchange, number, size, is_one}
-use Rattle.vx_check_rules.specs.Rules.{sizes_match, not_replicated, inputs_match, order_given, part_shown, order_shown, keys_shown, is_total_order}
+use Rattle.vx_check_rules.specs.Rules.{sizes_match, not_replicated, inputs_match, order_given, first_rows_known, part_shown, order_shown, keys_shown, is_total_order}
 
--- what was not shown: the codes K1 to K9
+-- what was not shown: the codes K1 to K9, and K11
 pub data Rule : Type 0 where
   size_mismatch : Rule
   root_not_one : Rule
@@ -15,17 +15,18 @@ pub data Rule : Type 0 where
   order_needed : Rule
   key_not_shown : Rule
   total_not_shown : Rule
+  first_rows_open : Rule
 
 -- the first test that fails
 abbrev pub first_failure : List (Bool × Rule) → Option Rule
 first_failure [] = None
 first_failure (t ∷ ts) = cond t.0 (first_failure ts) (Some t.1)
 
--- a node's tests, in their order: K1, K5, K4, K7, K3, K6, K8
+-- a node's tests, in their order: K1, K5, K4, K7, K11, K3, K6, K8
 abbrev pub node_tests : (ℕ → Relation) → Plan → List (Bool × Rule)
 node_tests catalog p =
     (sizes_match p, size_mismatch) ∷ (not_replicated p, replicated_input) ∷ (inputs_match p, inputs_not_matched) ∷ (order_given p, order_needed)
-    ∷ (part_shown catalog p, part_not_shown) ∷ (order_shown catalog p, order_not_shown) ∷ (keys_shown catalog p, key_not_shown) ∷ []
+    ∷ (first_rows_known catalog p, first_rows_open) ∷ (part_shown catalog p, part_not_shown) ∷ (order_shown catalog p, order_not_shown) ∷ (keys_shown catalog p, key_not_shown) ∷ []
 
 -- the root's own: K2, K9
 abbrev pub root_tests : (ℕ → Relation) → Bool → Plan → List (Bool × Rule)

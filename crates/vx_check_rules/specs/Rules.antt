@@ -1,7 +1,7 @@
 -- The rule table (our own): what a node may claim, from size names, claims and columns alone, and at a scan from what the catalog declares. Every rule is a test that computes.
 use Rattle.std.specs.Prelude.{ℕ, zero, suc, ◌+◌, ◌-◌, ◌==◌, nat_lt, nat_le, Bool, true, false, cond, not, ◌&&◌, ◌||◌, List, [], ◌∷◌, map, length, Option, Some, None, slice_get}
 use Rattle.std.specs.List.{list_all, list_any}
-use Rattle.vx_plan_nodes.specs.Plan.{Route, by_hash, by_range, Part, one, any, all, routed, Unary, select, project, distinct, sort, group, Binary, union, join, ExchangeKind, route_to, round, broadcast, gather, Plan, scan, unary, binary, exchange, claim, size, size_eq, is_one, Claim, plain, partial, final, concat}
+use Rattle.vx_plan_nodes.specs.Plan.{Route, by_hash, by_range, Part, one, any, all, routed, Unary, select, project, distinct, sort, group, limit, Binary, union, join, semi_join, ExchangeKind, route_to, round, broadcast, gather, Plan, scan, unary, binary, exchange, claim, size, size_eq, is_one, Claim, plain, partial, final, concat}
 use Rattle.vx_catalog_relations.specs.Relation.{Relation}
 use Rattle.vx_plan_nodes.specs.Types.{width}
 
@@ -105,10 +105,12 @@ abbrev pub not_replicated : Plan → Bool
 not_replicated (exchange n c k m p) = has p any
 not_replicated _ = true
 
--- a union's inputs both have any, or both have all; a join's are routed alike, or one of them has all
+-- a union's inputs both have any, or both have all; a join's are routed alike, or one of them has all, of a semi or an anti join the right one. A left row that
+-- every worker has would be kept by several of them, or by those that do not see what it matches
 abbrev pub binary_inputs_match : Binary → Plan → Plan → Bool
 binary_inputs_match union p q = (has p any && has q any) || (has p all && has q all)
 binary_inputs_match (join m on) p q = routed_alike on (claim p).part (claim q).part || has q all || has p all
+binary_inputs_match (semi_join matched on conditions) p q = routed_alike on (claim p).part (claim q).part || has q all
 
 -- the rows of a distinct or a group that belong together are on one worker
 abbrev pub keeps_apart : Unary → Plan → Bool
@@ -131,6 +133,21 @@ order_given (binary n c (join true on) p q) =
 order_given (exchange n c k merge p) = is_prefix merge (claim p).order
 order_given _ = true
 
+-- the numbers below n
+abbrev pub numbers_below : ℕ → List ℕ
+numbers_below zero = []
+numbers_below (suc n) = n ∷ numbers_below n
+
+-- K9 and K11: the order contains all columns of a claimed key, or all output columns
+abbrev pub is_total_order : (ℕ → Relation) → Plan → Bool
+is_total_order catalog p =
+    list_any (λ k. within k (claim p).order) (claim p).keys || within (numbers_below (width catalog p)) (claim p).order
+
+-- K11: the rows of which a limit takes the first ones are at one worker, in a total order
+abbrev pub first_rows_known : (ℕ → Relation) → Plan → Bool
+first_rows_known catalog (unary n c (limit m) p) = is_one (size p) && is_total_order catalog p
+first_rows_known catalog _ = true
+
 -- the parts that an operator shows of its input's
 abbrev pub unary_shows : Unary → Plan → Part → Bool
 unary_shows (select cs) p q = has p q
@@ -138,6 +155,7 @@ unary_shows (sort of_parts cols) p q = has p q
 unary_shows (project cols) p q = through (has p) (copied cols) q
 unary_shows (distinct cols) p q = through (has p) (copied cols) q
 unary_shows (group phase by aggregates) p q = through (has p) (copied by) q
+unary_shows (limit m) p q = has p q
 
 -- from two inputs that are routed alike: any, the left route, and the right route at the output's columns
 abbrev pub alike_shows : ℕ → Part → Part → Part → Bool
@@ -152,6 +170,11 @@ join_shows on w p q x =
     (routed_alike on (claim p).part (claim q).part && alike_shows w (claim p).part (claim q).part x)
     || (has q all && through (has p) (left_columns w) x)
     || (has p all && through (has q) (right_columns w) x)
+
+-- a semi and an anti join show the left input's parts: the claimed one where the inputs are routed alike, and each that it has over a whole right input
+abbrev pub semi_join_shows : List (ℕ × ℕ) → Plan → Plan → Part → Bool
+semi_join_shows on p q x =
+    (routed_alike on (claim p).part (claim q).part && part_gives (claim p).part x) || (has q all && has p x)
 
 -- a part that both inputs have; the one part is not shown
 abbrev pub both_have : Plan → Plan → Part → Bool
@@ -173,6 +196,7 @@ shows catalog (scan n c r false z) q = part_gives all q
 shows catalog (unary n c op p) q = unary_shows op p q
 shows catalog (binary n c union p q) x = both_have p q x
 shows catalog (binary n c (join m on) p q) x = join_shows on (width catalog p) p q x
+shows catalog (binary n c (semi_join matched on conditions) p q) x = semi_join_shows on p q x
 shows catalog (exchange n c k m p) q = kind_shows k q
 
 -- the test of the part, which the part of one worker never passes
@@ -191,6 +215,7 @@ unary_orders (sort of_parts cols) below order = is_prefix order cols
 unary_orders (project cols) below order = if_some (copied cols order) (λ cs. is_prefix cs below)
 unary_orders (distinct cols) below order = if_some (copied cols order) (λ cs. is_prefix cs below)
 unary_orders (group phase by aggregates) below order = if_some (copied by order) (λ cs. is_prefix cs below)
+unary_orders (limit m) below order = is_prefix order below
 
 -- the rows are routed by a range on a column, and the order begins with it
 abbrev pub rises_by : Part → List ℕ → Bool
@@ -208,6 +233,7 @@ orders catalog (scan n c r m z) order = is_prefix order (catalog r).order
 orders catalog (unary n c op p) order = unary_orders op (claim p).order order
 orders catalog (binary n c union p q) order = is_prefix order []
 orders catalog (binary n c (join m on) p q) order = is_prefix order (claim p).order
+orders catalog (binary n c (semi_join matched on conditions) p q) order = is_prefix order (claim p).order
 orders catalog (exchange n c k merge p) order =
     is_prefix order merge || ((is_one (size p) || goes_on k (claim p)) && is_prefix order (claim p).order)
 
@@ -219,11 +245,6 @@ order_shown catalog p = orders catalog p (claim p).order
 abbrev pub covers : List (List ℕ) → List ℕ → Bool
 covers keys x = list_any (λ k. within k x) keys
 
--- the numbers below n
-abbrev pub numbers_below : ℕ → List ℕ
-numbers_below zero = []
-numbers_below (suc n) = n ∷ numbers_below n
-
 -- the keys that an operator shows, as sets of columns
 abbrev pub unary_keys : Unary → List (List ℕ) → List ℕ → Bool
 unary_keys (select cs) keys x = covers keys x
@@ -233,6 +254,7 @@ unary_keys (distinct cols) keys x = within (numbers_below (length cols)) x && wi
 unary_keys (group plain by aggregates) keys x = within (numbers_below (length by)) x
 unary_keys (group partial by aggregates) keys x = false
 unary_keys (group final by aggregates) keys x = within (numbers_below (length by)) x
+unary_keys (limit m) keys x = nat_le m 1 || covers keys x
 
 -- the columns of a join's right input, where they stand in its output
 abbrev pub shifted : ℕ → List ℕ → List ℕ
@@ -251,6 +273,7 @@ keys_of catalog (scan n c r m z) x = covers (catalog r).keys x
 keys_of catalog (unary n c op p) x = unary_keys op (claim p).keys x
 keys_of catalog (binary n c union p q) x = false
 keys_of catalog (binary n c (join m on) p q) x = join_keys on (width catalog p) (claim p).keys (claim q).keys x
+keys_of catalog (binary n c (semi_join matched on conditions) p q) x = covers (claim p).keys x
 keys_of catalog (exchange n c k m p) x = covers (claim p).keys x
 
 -- K8: each claimed key is shown
@@ -260,7 +283,8 @@ keys_shown catalog p = list_all (keys_of catalog p) (claim p).keys
 -- the tests at one node, in their order
 abbrev pub allowed_here : (ℕ → Relation) → Plan → Bool
 allowed_here catalog p =
-    sizes_match p && (not_replicated p && (inputs_match p && (order_given p && (part_shown catalog p && (order_shown catalog p && keys_shown catalog p)))))
+    sizes_match p && (not_replicated p && (inputs_match p && (order_given p && (first_rows_known catalog p
+    && (part_shown catalog p && (order_shown catalog p && keys_shown catalog p))))))
 
 -- every node passes its tests
 abbrev pub allowed : (ℕ → Relation) → Plan → Bool
@@ -268,11 +292,6 @@ allowed catalog (scan n c r m z) = allowed_here catalog (scan n c r m z)
 allowed catalog (unary n c op p) = allowed catalog p && allowed_here catalog (unary n c op p)
 allowed catalog (binary n c op p q) = allowed catalog p && (allowed catalog q && allowed_here catalog (binary n c op p q))
 allowed catalog (exchange n c k m p) = allowed catalog p && allowed_here catalog (exchange n c k m p)
-
--- K9: the order contains all columns of a claimed key, or all output columns
-abbrev pub is_total_order : (ℕ → Relation) → Plan → Bool
-is_total_order catalog p =
-    list_any (λ k. within k (claim p).order) (claim p).keys || within (numbers_below (width catalog p)) (claim p).order
 
 -- K2 and K9: the root has one worker, and where the plan says total, its order is
 abbrev pub root_allowed : (ℕ → Relation) → (total : Bool) → Plan → Bool

@@ -2,11 +2,11 @@
 use Rattle.std.specs.Prelude.{◌≡◌, ◌↔◌, ℕ, Bool, true, false, not, ◌||◌, List, [], ◌∷◌, Option, None}
 use Rattle.vx_catalog_relations.specs.Relation.{Relation}
 use Rattle.vx_plan_nodes.specs.Plan.{Plan, size, is_one}
-use Rattle.vx_check_rules.specs.Rules.{sizes_match, not_replicated, inputs_match, order_given, part_shown, order_shown, keys_shown, is_total_order, allowed, root_allowed}
-use Rattle.vx_check_rules.specs.Refusal.{Rule, size_mismatch, root_not_one, part_not_shown, inputs_not_matched, replicated_input, order_not_shown, order_needed, key_not_shown, total_not_shown, refusal_of_tests, refusal}
-use Rattle.vx_check_rules.specs.Derived.{inputs_match_derived, order_given_derived, part_shown_derived, order_shown_derived, keys_shown_derived, is_total_derived, allowed_derived, root_allowed_derived}
+use Rattle.vx_check_rules.specs.Rules.{sizes_match, not_replicated, inputs_match, order_given, first_rows_known, part_shown, order_shown, keys_shown, is_total_order, allowed, root_allowed}
+use Rattle.vx_check_rules.specs.Refusal.{Rule, size_mismatch, root_not_one, part_not_shown, inputs_not_matched, replicated_input, order_not_shown, order_needed, key_not_shown, total_not_shown, first_rows_open, refusal_of_tests, refusal}
+use Rattle.vx_check_rules.specs.Derived.{inputs_match_derived, order_given_derived, first_rows_known_derived, part_shown_derived, order_shown_derived, keys_shown_derived, is_total_derived, allowed_derived, root_allowed_derived}
 
--- K4, K7, K3, K6, K8 and K9
+-- K4, K7, K11, K3, K6, K8 and K9
 abbrev pub inputs_match_by : (derives : Bool) → (ℕ → Relation) → Plan → Bool
 inputs_match_by false catalog p = inputs_match p
 inputs_match_by true catalog p = inputs_match_derived catalog p
@@ -14,6 +14,10 @@ inputs_match_by true catalog p = inputs_match_derived catalog p
 abbrev pub order_given_by : (derives : Bool) → (ℕ → Relation) → Plan → Bool
 order_given_by false catalog p = order_given p
 order_given_by true catalog p = order_given_derived catalog p
+
+abbrev pub first_rows_known_by : (derives : Bool) → (ℕ → Relation) → Plan → Bool
+first_rows_known_by false catalog p = first_rows_known catalog p
+first_rows_known_by true catalog p = first_rows_known_derived catalog p
 
 abbrev pub part_shown_by : (derives : Bool) → (ℕ → Relation) → Plan → Bool
 part_shown_by false catalog p = part_shown catalog p
@@ -35,7 +39,7 @@ is_total_by true catalog p = is_total_derived catalog p
 abbrev pub tests_by : (derives : Bool) → (ℕ → Relation) → Plan → List (Bool × Rule)
 tests_by derives catalog p =
     (sizes_match p, size_mismatch) ∷ (not_replicated p, replicated_input) ∷ (inputs_match_by derives catalog p, inputs_not_matched) ∷ (order_given_by derives catalog p, order_needed)
-    ∷ (part_shown_by derives catalog p, part_not_shown) ∷ (order_shown_by derives catalog p, order_not_shown) ∷ (keys_shown_by derives catalog p, key_not_shown) ∷ []
+    ∷ (first_rows_known_by derives catalog p, first_rows_open) ∷ (part_shown_by derives catalog p, part_not_shown) ∷ (order_shown_by derives catalog p, order_not_shown) ∷ (keys_shown_by derives catalog p, key_not_shown) ∷ []
 
 -- the root's own
 abbrev pub root_tests_by : (derives : Bool) → (ℕ → Relation) → (total : Bool) → Plan → List (Bool × Rule)

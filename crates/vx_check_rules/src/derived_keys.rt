@@ -16,14 +16,14 @@ ghost use Rattle.vx_plan_facts.specs.Determined.{is_copy_of, determined, determi
 ghost use Rattle.vx_plan_facts.specs.Following.{set_of, total_follows};
 ghost use Rattle.vx_plan_facts.specs.KnownView.{IsKnownOf};
 ghost use Rattle.vx_check_rules.specs.Behaviour.{keys_give};
-ghost use Rattle.vx_check_rules.specs.Derived.{members, key_below, key_derived_by, keys_shown_derived};
+ghost use Rattle.vx_check_rules.specs.Derived.{first_rows_known_derived, members, key_below, key_derived_by, keys_shown_derived};
 ghost use Rattle.vx_check_rules.specs.KeyedView.{all_keyed_in};
-ghost use Rattle.vx_check_rules.specs.KnownNode.{IsKeyOf, IsKeyOver, projected_below, StaysKnown};
+ghost use Rattle.vx_check_rules.specs.KnownNode.{IsKeyOf, IsKeyOver, projected_below, first_known_below, StaysKnown};
 ghost use Rattle.vx_check_rules.specs.Rules.{is_total_order};
 
 use crate::column_list::members;
 use crate::keyed::{Keyed, node_keyed, show_key};
-use crate::nodes::{claimed_keys, claimed_order};
+use crate::nodes::{claimed_keys, claimed_order, has_one_worker};
 use crate::orders::is_order_total;
 use vx_catalog_relations::Catalog;
 use vx_plan_facts::{ColumnSet, KnownColumns};
@@ -63,6 +63,38 @@ pub fn is_order_total_derived(node: &TypedNode, known: &mut KnownColumns<'_>) ->
         return true;
     }
     does_total_follow(node, known)
+}
+
+// Whether the first rows of an operator's input are known, if it is a limit.
+fn are_first_known(operator: &Unary, input: &TypedNode, known: &mut KnownColumns<'_>) -> bool
+    requires { (catalog : ℕ → Relation) × IsKnownOf catalog known.old (plan_of input.now) × HasOutputs catalog (outline_of input.now) }
+    ensures first { (catalog : ℕ → Relation) → IsKnownOf catalog known.old (plan_of input.now) → HasOutputs catalog (outline_of input.now)
+        → result ≡ first_known_below catalog (unary_of operator.now) (plan_of input.now) }
+    ensures kept { StaysKnown known.old known.new (plan_of input.now) }
+{
+    match operator {
+        Unary::Limit(_) => has_one_worker(input) && is_order_total_derived(input, known),
+        Unary::Select(_) => true,
+        Unary::Project(_) => true,
+        Unary::Distinct(_) => true,
+        Unary::Sort(_, _) => true,
+        Unary::Group(_, _, _) => true,
+    }
+}
+
+/// Whether a limit's input has one worker and an order that is total, or from which that follows: K11.
+pub fn are_first_rows_known_derived(node: &TypedNode, known: &mut KnownColumns<'_>) -> bool
+    requires { (catalog : ℕ → Relation) × IsKnownOf catalog known.old (plan_of node.now) × HasOutputs catalog (outline_of node.now) }
+    ensures first { (catalog : ℕ → Relation) → IsKnownOf catalog known.old (plan_of node.now) → HasOutputs catalog (outline_of node.now)
+        → result ≡ first_rows_known_derived catalog (plan_of node.now) }
+    ensures kept { StaysKnown known.old known.new (plan_of node.now) }
+{
+    match node {
+        TypedNode::Unary(_, operator, input) => are_first_known(operator, input, known),
+        TypedNode::Scan(_, _) => true,
+        TypedNode::Binary(_, _, _, _) => true,
+        TypedNode::Exchange(_, _, _) => true,
+    }
 }
 
 // Puts the input column in that a column is a copy of.
@@ -107,6 +139,7 @@ fn is_projected_below(
         Unary::Distinct(_) => false,
         Unary::Sort(_, _) => false,
         Unary::Group(_, _, _) => false,
+        Unary::Limit(_) => false,
     }
 }
 

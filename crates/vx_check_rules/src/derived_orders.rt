@@ -136,6 +136,8 @@ fn do_pairs_follow(
             follows_claimed(right, known, ColumnsSeen::Rights(on))
         }
         Binary::HashJoin(_) => false,
+        Binary::SemiJoin(_, _) => false,
+        Binary::AntiJoin(_, _) => false,
         Binary::Union => false,
     }
 }

@@ -1,18 +1,18 @@
 //! The second table's tests of parts: those of the first one, or what follows from them by equal columns.
 
-ghost use Rattle.std.specs.Prelude.{◌≡◌, ℕ, List, option_map};
+ghost use Rattle.std.specs.Prelude.{◌≡◌, ℕ, List};
 ghost use Rattle.vx_catalog_relations.specs.Relation.{Relation};
 ghost use Rattle.vx_catalog_relations.specs.Catalog.{relation_at};
 ghost use Rattle.vx_plan_nodes.specs.Plan.{claim};
 ghost use Rattle.vx_plan_nodes.specs.Outline.{outline_of, plan_of};
 ghost use Rattle.vx_plan_nodes.specs.Outputs.{HasOutputs};
-ghost use Rattle.vx_plan_nodes.specs.DescribeView.{copying_of, described_both_of};
+ghost use Rattle.vx_plan_nodes.specs.DescribeView.{copying_of, meeting_of, described_both_of};
 ghost use Rattle.vx_plan_facts.specs.Facts.{AreFactsOf};
 ghost use Rattle.vx_plan_facts.specs.FactsView.{facts_of, width_of};
 ghost use Rattle.vx_plan_facts.specs.KnownView.{IsKnownOf};
 ghost use Rattle.vx_check_rules.specs.Behaviour.{own};
 ghost use Rattle.vx_check_rules.specs.Derived.{inputs_match_derived, part_derived, part_shown_derived};
-ghost use Rattle.vx_check_rules.specs.DerivedView.{equality_of, meet_both_equally, meets_derived, join_part, both_part};
+ghost use Rattle.vx_check_rules.specs.DerivedView.{equality_of, meet_both_equally, meets_derived, join_part, kept_part, both_part};
 ghost use Rattle.vx_check_rules.specs.KnownNode.{IsKnownTyped};
 ghost use Rattle.vx_check_rules.specs.WayView.{part_seen, had_of};
 
@@ -23,7 +23,7 @@ use crate::routed::{are_alike_equally, do_meet_equally, is_routed_as, is_same_eq
 use crate::shown::is_part_shown;
 use crate::ways::{Had, claimed, made};
 use vx_plan_facts::{ColumnFacts, KnownColumns};
-use vx_plan_nodes::{DescribedBoth, Part, TypedNode, output_types};
+use vx_plan_nodes::{Copying, DescribedBoth, Meeting, Part, TypedNode, output_types};
 
 // An input of a node: the part that it has, and what is known of its columns.
 #[derive(Clone, Copy)]
@@ -44,17 +44,19 @@ fn known_input<'k, 'p>(known: &'k KnownColumns<'p>, input: &'k TypedNode) -> Kno
     }
 }
 
-// Whether rows of both inputs that have to meet on these pairs, if on any, do by equal columns.
-fn do_both_meet(
-    pairs: Option<&[(usize, usize)]>,
-    left: KnownInput<'_, '_>,
-    right: KnownInput<'_, '_>,
-) -> bool
-    ensures { result ≡ meet_both_equally (equality_of left.entry.facts.now) (equality_of right.entry.facts.now) (option_map (λ on. on.now) pairs.entry) (had_of left.entry.had).1 (had_of right.entry.had).1 }
+// Whether rows of both inputs that have to meet, if they have, do by equal columns.
+fn do_both_meet(meeting: Meeting<'_>, left: KnownInput<'_, '_>, right: KnownInput<'_, '_>) -> bool
+    ensures { result ≡ meet_both_equally (equality_of left.entry.facts.now) (equality_of right.entry.facts.now) (meeting_of meeting.entry) (had_of left.entry.had).1 (had_of right.entry.had).1 }
 {
-    match pairs {
-        Some(on) => are_alike_equally(left.facts, right.facts, on, left.had.part, right.had.part),
-        None => false,
+    match meeting {
+        Meeting::PairedOn(on) | Meeting::MatchedOn(on) => are_alike_equally(
+            left.facts,
+            right.facts,
+            on,
+            left.had.part,
+            right.had.part,
+        ),
+        Meeting::SideBySide => false,
     }
 }
 
@@ -71,7 +73,7 @@ fn do_rows_meet(node: &TypedNode, known: &KnownColumns<'_>) -> bool
             seen(claimed_part(input)),
         ),
         TypedNode::Binary(_, operator, left, right) => do_both_meet(
-            operator.described(output_types(left)).pairs,
+            operator.described(output_types(left)).meeting,
             known_input(known, left),
             known_input(known, right),
         ),
@@ -108,6 +110,24 @@ fn is_part_of_join(
             && is_routed_as(described.right, right.facts, output, right.had.part, wanted))
 }
 
+// Whether left rows that are kept as they meet right ones have the part.
+fn is_part_of_kept(
+    on: &[(usize, usize)],
+    copying: Copying<'_>,
+    left: KnownInput<'_, '_>,
+    right: KnownInput<'_, '_>,
+    output: &ColumnFacts<'_>,
+    wanted: PartSeen<'_>,
+) -> bool
+    ensures { result ≡ kept_part (width_of output.now) (copying_of copying.entry) (equality_of left.entry.facts.now) (equality_of right.entry.facts.now) (equality_of output.now)
+        on.now (had_of left.entry.had) (had_of right.entry.had) (part_seen wanted.entry) }
+{
+    let are_alike = are_alike_equally(left.facts, right.facts, on, left.had.part, right.had.part);
+    (matches!(wanted, PartSeen::Any) && are_alike)
+        || ((right.had.has(&Part::All) || are_alike)
+            && is_routed_as(copying, left.facts, output, left.had.part, wanted))
+}
+
 // Whether an operator over these two inputs has the part: where rows stand side by side one that both inputs have.
 fn is_part_of_both(
     described: DescribedBoth<'_>,
@@ -116,12 +136,13 @@ fn is_part_of_both(
     output: &ColumnFacts<'_>,
     wanted: PartSeen<'_>,
 ) -> bool
-    ensures { result ≡ both_part (width_of output.now) (described_both_of described.entry).pairs (described_both_of described.entry) (equality_of left.entry.facts.now) (equality_of right.entry.facts.now)
+    ensures { result ≡ both_part (width_of output.now) (described_both_of described.entry).meeting (described_both_of described.entry) (equality_of left.entry.facts.now) (equality_of right.entry.facts.now)
         (equality_of output.now) (had_of left.entry.had) (had_of right.entry.had) (part_seen wanted.entry) }
 {
-    match described.pairs {
-        Some(on) => is_part_of_join(on, described, left, right, output, wanted),
-        None => {
+    match described.meeting {
+        Meeting::PairedOn(on) => is_part_of_join(on, described, left, right, output, wanted),
+        Meeting::MatchedOn(on) => is_part_of_kept(on, described.left, left, right, output, wanted),
+        Meeting::SideBySide => {
             is_same_equally(left.facts, left.had.part, wanted)
                 && is_same_equally(right.facts, right.had.part, wanted)
         }

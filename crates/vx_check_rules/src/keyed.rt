@@ -5,7 +5,7 @@ ghost use Rattle.std.specs.List.{list_any};
 ghost use Rattle.vx_catalog_relations.specs.Catalog.{relation_at};
 ghost use Rattle.vx_plan_nodes.specs.Outline.{outline_of, plan_of};
 ghost use Rattle.vx_plan_nodes.specs.Outputs.{HasOutputs};
-ghost use Rattle.vx_plan_nodes.specs.Describe.{whole_rows};
+ghost use Rattle.vx_plan_nodes.specs.Describe.{whole_rows, paired_on};
 ghost use Rattle.vx_plan_nodes.specs.DescribeView.{described_of, described_both_of};
 ghost use Rattle.vx_check_rules.specs.Rules.{covers};
 ghost use Rattle.vx_check_rules.specs.Behaviour.{if_so, keyed_by, keyed_after, keyed_held, keyed_over, keyed_from, behaviour, has_key, keys_give};
@@ -16,7 +16,9 @@ use crate::columns::ColumnsSeen;
 use crate::copied::CopiedColumns;
 use crate::nodes::claimed_keys;
 use vx_catalog_relations::{Catalog, Relation};
-use vx_plan_nodes::{Copying, Described, DescribedBoth, KeysAfter, TypedNode, output_types};
+use vx_plan_nodes::{
+    Copying, Described, DescribedBoth, KeysAfter, Meeting, TypedNode, output_types,
+};
 
 /// Keys of one input, which are borrowed.
 #[derive(Clone, Copy)]
@@ -185,17 +187,15 @@ fn keyed_held<'p>(
     }
 }
 
-// The keys of an operator over two inputs with these keys. There is none where rows stand side by side.
-fn keyed_over<'p>(
+// The keys of rows that meet on these pairs, and make a row each two, over inputs with these keys.
+fn keyed_met<'p>(
+    on: &'p [(usize, usize)],
     described: DescribedBoth<'p>,
     lefts: &'p [Vec<usize>],
     rights: &'p [Vec<usize>],
 ) -> [Option<Keyed<'p>>; 2]
-    ensures { all_keyed_in result ≡ keyed_over (described_both_of described.entry).pairs (described_both_of described.entry) (map (λ k. k.items) lefts.now) (map (λ k. k.items) rights.now) }
+    ensures { all_keyed_in result ≡ keyed_over (paired_on on.now) (described_both_of described.entry) (map (λ k. k.items) lefts.now) (map (λ k. k.items) rights.now) }
 {
-    let Some(on) = described.pairs else {
-        return [None, None];
-    };
     let is_right_held = are_covered(KeysSeen::Listed(rights), ColumnsSeen::Rights(on));
     let is_left_held = are_covered(KeysSeen::Listed(lefts), ColumnsSeen::Lefts(on));
     let behind = CopiedKeys {
@@ -208,6 +208,22 @@ fn keyed_over<'p>(
         whole(KeysSeen::Listed(lefts)),
         behind,
     )
+}
+
+// The keys of an operator over two inputs with these keys. There is none where rows stand side by side, and left rows that are
+// kept have the left ones.
+fn keyed_over<'p>(
+    described: DescribedBoth<'p>,
+    lefts: &'p [Vec<usize>],
+    rights: &'p [Vec<usize>],
+) -> [Option<Keyed<'p>>; 2]
+    ensures { all_keyed_in result ≡ keyed_over (described_both_of described.entry).meeting (described_both_of described.entry) (map (λ k. k.items) lefts.now) (map (λ k. k.items) rights.now) }
+{
+    match described.meeting {
+        Meeting::SideBySide => [None, None],
+        Meeting::PairedOn(on) => keyed_met(on, described, lefts, rights),
+        Meeting::MatchedOn(_) => alone(whole(KeysSeen::Listed(lefts))),
+    }
 }
 
 /// The keys of a node whose inputs have these keys in place of those that they claim. A node with fewer inputs looks at

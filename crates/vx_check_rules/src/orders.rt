@@ -4,15 +4,15 @@ ghost use Rattle.std.specs.Prelude.{◌≡◌, ◌||◌, ℕ};
 ghost use Rattle.vx_catalog_relations.specs.Relation.{Relation};
 ghost use Rattle.vx_catalog_relations.specs.Catalog.{relation_at};
 ghost use Rattle.vx_plan_nodes.specs.Outline.{claim_of, outline_of, plan_of};
-ghost use Rattle.vx_check_rules.specs.Rules.{covers, within, numbers_below, order_given, order_shown, is_total_order};
+ghost use Rattle.vx_check_rules.specs.Rules.{covers, within, numbers_below, order_given, first_rows_known, order_shown, is_total_order};
 ghost use Rattle.vx_plan_nodes.specs.Outputs.{HasOutputs};
 
 use crate::columns::ColumnsSeen;
 use crate::keyed::{KeysSeen, are_covered};
-use crate::nodes::{claimed_order, width_of};
+use crate::nodes::{claimed_order, has_one_worker, width_of};
 use crate::sortings::{node_sortings, show_order};
 use vx_catalog_relations::Catalog;
-use vx_plan_nodes::{Binary, Claim, TypedNode};
+use vx_plan_nodes::{Binary, Claim, TypedNode, Unary};
 
 /// Whether a merge join's inputs begin with the columns that it joins on, and a merging exchange's with those that it
 /// merges on: K7.
@@ -52,4 +52,16 @@ pub fn is_order_total(node: &TypedNode) -> bool
     ensures { (catalog : ℕ → Relation) → HasOutputs catalog (outline_of node.now) → result ≡ is_total_order catalog (plan_of node.now) }
 {
     is_total(&node.head().claim, width_of(node))
+}
+
+/// Whether a limit's input has one worker and a total order, so that its first rows are known: K11.
+pub fn are_first_rows_known(node: &TypedNode) -> bool
+    ensures { (catalog : ℕ → Relation) → HasOutputs catalog (outline_of node.now) → result ≡ first_rows_known catalog (plan_of node.now) }
+{
+    match node {
+        TypedNode::Unary(_, Unary::Limit(_), input) => {
+            has_one_worker(input) && is_order_total(input)
+        }
+        _ => true,
+    }
 }

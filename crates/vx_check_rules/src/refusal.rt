@@ -40,6 +40,9 @@ pub fn failure_at(catalog: &Catalog, table: &mut Table<'_>, node: &TypedNode) ->
     if !table.is_order_given(node) {
         return Some(Rule::OrderNeeded);
     }
+    if !table.are_first_rows_known(node) {
+        return Some(Rule::FirstRowsOpen);
+    }
     if !table.is_part_shown(node) {
         return Some(Rule::PartNotShown);
     }

@@ -27,6 +27,8 @@ pub enum Rule {
     KeyNotShown,
     /// The plan says total, and the order that the root claims is not total.
     TotalNotShown,
+    /// A limit over rows of several workers, or over an order that is not total.
+    FirstRowsOpen,
 }
 
 impl Rule {
@@ -44,6 +46,7 @@ impl Rule {
             Rule::OrderNeeded => "K7 OrderNeeded",
             Rule::KeyNotShown => "K8 KeyNotShown",
             Rule::TotalNotShown => "K9 TotalNotShown",
+            Rule::FirstRowsOpen => "K11 FirstRowsOpen",
         }
     }
 }

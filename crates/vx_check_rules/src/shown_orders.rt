@@ -44,6 +44,7 @@ fn is_whole(copying: Copying<'_>) -> bool
         Copying::Kept(_) => false,
         Copying::Left(_) => false,
         Copying::Right(_) => false,
+        Copying::NoColumns => false,
     }
 }
 
@@ -101,6 +102,8 @@ pub fn order_over<'p>(operator: &Binary, left: &'p [usize]) -> &'p [usize]
         Binary::Union => &[],
         Binary::HashJoin(_) => left,
         Binary::MergeJoin(_) => left,
+        Binary::SemiJoin(_, _) => left,
+        Binary::AntiJoin(_, _) => left,
     }
 }
 

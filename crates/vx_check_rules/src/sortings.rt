@@ -16,8 +16,8 @@ use crate::nodes::{claimed_order, claimed_part, has_one_worker};
 use crate::sources::begin_with_copies;
 use vx_catalog_relations::Catalog;
 use vx_plan_nodes::{
-    Copying, Described, DescribedBoth, Exchange, ExchangeKind, OrderAfter, Part, Route, TypedNode,
-    output_types,
+    Copying, Described, DescribedBoth, Exchange, ExchangeKind, Meeting, OrderAfter, Part, Route,
+    TypedNode, output_types,
 };
 
 /// An order, on the columns that are copied.
@@ -83,11 +83,11 @@ fn sorted_over<'p>(described: Described<'p>, below: &'p [usize]) -> Sorted<'p>
 // The order of an operator over two inputs, where the left one is sorted on `left`. It is lost where rows stand side by
 // side.
 fn sorted_over_both<'p>(described: DescribedBoth<'p>, left: &'p [usize]) -> Sorted<'p>
-    ensures { sorted_of result ≡ sorted_by whole_rows (order_over (described_both_of described.entry).pairs left.now) }
+    ensures { sorted_of result ≡ sorted_by whole_rows (order_over (described_both_of described.entry).meeting left.now) }
 {
-    match described.pairs {
-        Some(_) => whole(left),
-        None => whole(&[]),
+    match described.meeting {
+        Meeting::PairedOn(_) | Meeting::MatchedOn(_) => whole(left),
+        Meeting::SideBySide => whole(&[]),
     }
 }
 

@@ -9,12 +9,14 @@ ghost use Rattle.vx_plan_nodes.specs.TypedView.{scope, plan as whole_plan, resol
 ghost use Rattle.vx_check_rules.specs.Exactly.{keys_name_columns};
 ghost use Rattle.vx_check_rules.specs.TableView.{derives, Judges};
 
-use crate::derived_keys::{are_keys_shown_derived, is_order_total_derived};
+use crate::derived_keys::{
+    are_first_rows_known_derived, are_keys_shown_derived, is_order_total_derived,
+};
 use crate::derived_orders::is_order_given_derived;
 use crate::derived_parts::{do_inputs_match_derived, is_part_shown_derived};
 use crate::inputs::do_inputs_match;
 use crate::keys::are_keys_shown;
-use crate::orders::{is_order_given, is_order_shown, is_order_total};
+use crate::orders::{are_first_rows_known, is_order_given, is_order_shown, is_order_total};
 use crate::shown::is_part_shown;
 use crate::shown_orders::is_order_shown_derived;
 use std::alloc::{AllocError, Global};
@@ -45,7 +47,7 @@ pub fn table_of<'p>(alloc: Global, plan: &'p TypedPlan) -> Result<Table<'p>, All
 }
 
 impl Table<'_> {
-    ghost use Rattle.vx_check_rules.specs.Tables.{inputs_match_by, order_given_by, part_shown_by, order_shown_by, keys_shown_by, is_total_by};
+    ghost use Rattle.vx_check_rules.specs.Tables.{inputs_match_by, order_given_by, first_rows_known_by, part_shown_by, order_shown_by, keys_shown_by, is_total_by};
     ghost use Rattle.vx_check_rules.specs.TableView.{StaysTable};
 
     /// Whether the inputs' parts are those that the operator needs: K4.
@@ -69,6 +71,19 @@ impl Table<'_> {
         match self {
             Table::First => is_order_given(node),
             Table::Second(known) => is_order_given_derived(node, known),
+        }
+    }
+
+    /// Whether the first rows of a limit's input are known: K11.
+    pub(crate) fn are_first_rows_known(&mut self, node: &TypedNode) -> bool
+        requires { (catalog : List Relation) × Judges catalog self.old (plan_of node.now) × HasOutputs (relation_at catalog) (outline_of node.now) }
+        ensures first { (catalog : List Relation) → Judges catalog self.old (plan_of node.now) → HasOutputs (relation_at catalog) (outline_of node.now)
+            → result ≡ first_rows_known_by (derives self.old) (relation_at catalog) (plan_of node.now) }
+        ensures stays { StaysTable self.old self.new (plan_of node.now) }
+    {
+        match self {
+            Table::First => are_first_rows_known(node),
+            Table::Second(known) => are_first_rows_known_derived(node, known),
         }
     }
 

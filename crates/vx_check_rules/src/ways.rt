@@ -7,7 +7,7 @@ ghost use Rattle.vx_plan_nodes.specs.Plan.{any, all, routed};
 ghost use Rattle.vx_plan_nodes.specs.Parts.{kind_part};
 ghost use Rattle.vx_plan_nodes.specs.Outline.{part_of, route_of, kind_of, outline_of, plan_of};
 ghost use Rattle.vx_plan_nodes.specs.Outputs.{HasOutputs};
-ghost use Rattle.vx_plan_nodes.specs.Describe.{whole_rows};
+ghost use Rattle.vx_plan_nodes.specs.Describe.{whole_rows, paired_on, matched_on};
 ghost use Rattle.vx_plan_nodes.specs.DescribeView.{copying_of, kept_columns, described_of, described_both_of};
 ghost use Rattle.vx_check_rules.specs.Rules.{part_gives, if_some};
 ghost use Rattle.vx_check_rules.specs.Behaviour.{sources, way, if_so, own, bare, input_has, meet, gives, common_part, ways_along, ways_over, ways_made, ways_from, both_if_fit, ways_if_fit, behaviour};
@@ -17,7 +17,7 @@ use crate::nodes::{claimed_part, has_one_worker};
 use crate::parts::{PartSeen, are_seen_alike, seen};
 use crate::sources::are_copies;
 use vx_plan_nodes::{
-    Copying, Described, DescribedBoth, ExchangeKind, KeptColumns, Part, Route, TypedNode,
+    Copying, Described, DescribedBoth, ExchangeKind, KeptColumns, Meeting, Part, Route, TypedNode,
     output_types,
 };
 
@@ -172,14 +172,14 @@ fn do_stand_beside(left: Had<'_>, right: Had<'_>) -> bool
         || (left.has(&Part::All) && right.has(&Part::All))
 }
 
-// The ways of rows that meet on these pairs.
+// The ways of rows that meet on these pairs, and make a row each two.
 fn ways_met<'p>(
     on: &'p [(usize, usize)],
     described: DescribedBoth<'p>,
     left: Had<'p>,
     right: Had<'p>,
 ) -> [Option<Way<'p>>; 4]
-    ensures { ways_in result ≡ ways_over (Some on.now) (described_both_of described.entry) (had_of left.entry) (had_of right.entry) }
+    ensures { ways_in result ≡ ways_over (paired_on on.now) (described_both_of described.entry) (had_of left.entry) (had_of right.entry) }
 {
     let are_alike = are_seen_alike(on, left.part, right.part);
     [
@@ -190,21 +190,40 @@ fn ways_met<'p>(
     ]
 }
 
+// The ways of left rows that are kept as they meet right ones on these pairs.
+fn ways_matched<'p>(
+    on: &'p [(usize, usize)],
+    described: DescribedBoth<'p>,
+    left: Had<'p>,
+    right: Had<'p>,
+) -> [Option<Way<'p>>; 4]
+    ensures { ways_in result ≡ ways_over (matched_on on.now) (described_both_of described.entry) (had_of left.entry) (had_of right.entry) }
+{
+    let are_alike = are_seen_alike(on, left.part, right.part);
+    [
+        way_if(are_alike, Copying::WholeRows, bare(left.part), None),
+        way_if(right.has(&Part::All), described.left, left, None),
+        None,
+        None,
+    ]
+}
+
 // The ways of an operator over two inputs.
 fn ways_over<'p>(
     described: DescribedBoth<'p>,
     left: Had<'p>,
     right: Had<'p>,
 ) -> [Option<Way<'p>>; 4]
-    ensures { ways_in result ≡ ways_over (described_both_of described.entry).pairs (described_both_of described.entry) (had_of left.entry) (had_of right.entry) }
+    ensures { ways_in result ≡ ways_over (described_both_of described.entry).meeting (described_both_of described.entry) (had_of left.entry) (had_of right.entry) }
 {
-    match described.pairs {
-        None => {
+    match described.meeting {
+        Meeting::SideBySide => {
             let stand = do_stand_beside(left, right);
             let way = way_if(stand, described.left, left, Some(right));
             [way, None, None, None]
         }
-        Some(on) => ways_met(on, described, left, right),
+        Meeting::PairedOn(on) => ways_met(on, described, left, right),
+        Meeting::MatchedOn(on) => ways_matched(on, described, left, right),
     }
 }
 
@@ -275,11 +294,12 @@ fn both_if_fit<'p>(
     left: Had<'p>,
     right: Had<'p>,
 ) -> [Option<Way<'p>>; 4]
-    ensures { ways_in result ≡ both_if_fit (described_both_of described.entry).pairs (described_both_of described.entry) (had_of left.entry) (had_of right.entry) }
+    ensures { ways_in result ≡ both_if_fit (described_both_of described.entry).meeting (described_both_of described.entry) (had_of left.entry) (had_of right.entry) }
 {
-    match described.pairs {
-        None => one_way(described.left, left, Some(right)),
-        Some(on) => ways_met(on, described, left, right),
+    match described.meeting {
+        Meeting::SideBySide => one_way(described.left, left, Some(right)),
+        Meeting::PairedOn(on) => ways_met(on, described, left, right),
+        Meeting::MatchedOn(on) => ways_matched(on, described, left, right),
     }
 }
 

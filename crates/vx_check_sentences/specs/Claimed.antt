@@ -1,11 +1,11 @@
 -- What a node that is refused claims or does, as a sentence.
 use Rattle.std.specs.Prelude.{ℕ, ◌++◌, Bool, true, false, List, [], ◌∷◌, map, codes}
 use Rattle.vx_rows_values.specs.Values.{Name}
-use Rattle.vx_plan_nodes.specs.Plan.{Part, one, any, all, routed, Unary, select, project, distinct, sort, group, Binary, union, join}
+use Rattle.vx_plan_nodes.specs.Plan.{Part, one, any, all, routed, Unary, select, project, distinct, sort, group, limit, Binary, union, join, semi_join}
 use Rattle.vx_plan_nodes.specs.Outline.{Outline, scan, unary, binary, exchange, top, columns}
 use Rattle.vx_plan_nodes.specs.Names.{Names}
 use Rattle.vx_check.specs.Explain.{list_text, part_text}
-use Rattle.vx_check_rules.specs.Refusal.{Rule, size_mismatch, root_not_one, part_not_shown, inputs_not_matched, replicated_input, order_not_shown, order_needed, key_not_shown, total_not_shown}
+use Rattle.vx_check_rules.specs.Refusal.{Rule, size_mismatch, root_not_one, part_not_shown, inputs_not_matched, replicated_input, order_not_shown, order_needed, key_not_shown, total_not_shown, first_rows_open}
 use Rattle.vx_check_sentences.specs.Words.{node_text, doing_text, order_words, keys_words}
 
 abbrev pub part_words : Names → List Name → Part → List ℕ
@@ -27,10 +27,12 @@ unary_needs names (project cols) = []
 unary_needs names (distinct cols) = equal_needed names cols
 unary_needs names (sort of_parts cols) = []
 unary_needs names (group phase by aggregates) = equal_needed names by
+unary_needs names (limit rows) = []
 
 abbrev pub binary_needs : Binary → List ℕ
 binary_needs union = codes " needs of both inputs each row once, or of both all rows at every worker"
 binary_needs (join merging on) = codes " needs rows that match at one worker"
+binary_needs (semi_join matched on conditions) = codes " needs rows that match at one worker, or all rows of its right input at every worker"
 
 abbrev pub needs_text : Outline → List ℕ
 needs_text (scan h r m z p) = []
@@ -46,6 +48,7 @@ join_orders lefts rights true on = codes " needs its inputs sorted on " ++ (list
 abbrev pub binary_orders : List Name → List Name → Binary → List ℕ
 binary_orders lefts rights union = []
 binary_orders lefts rights (join merging on) = join_orders lefts rights merging on
+binary_orders lefts rights (semi_join matched on conditions) = []
 
 abbrev pub orders_text : Outline → List ℕ
 orders_text (scan h r m z p) = []
@@ -65,3 +68,4 @@ claimed_text s order_not_shown o = node_text o ++ (codes " claims " ++ order_wor
 claimed_text s order_needed o = doing_text s o ++ orders_text o
 claimed_text s key_not_shown o = node_text o ++ (codes " claims " ++ keys_words (columns o).names (top o).claim.keys)
 claimed_text s total_not_shown o = codes "the plan says that its order is total, and " ++ (node_text o ++ (codes " claims " ++ order_words (columns o).names (top o).claim.order))
+claimed_text s first_rows_open o = doing_text s o ++ codes " needs all rows of its input at one worker, in an order that is total"

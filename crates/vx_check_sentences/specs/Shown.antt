@@ -4,7 +4,7 @@ use Rattle.serde_json.specs.Data.{object}
 use Rattle.serde_json.specs.Written.{compact_text}
 use Rattle.vx_rows_values.specs.Values.{Name}
 use Rattle.vx_catalog_relations.specs.Catalog.{relation_at}
-use Rattle.vx_plan_nodes.specs.Plan.{Claim, size}
+use Rattle.vx_plan_nodes.specs.Plan.{Size, one_worker, group_of, Claim, size}
 use Rattle.vx_plan_nodes.specs.Outline.{Outline, scan, unary, binary, exchange, top, columns, plan_in}
 use Rattle.vx_plan_nodes.specs.Names.{Names}
 use Rattle.vx_plan_nodes.specs.Phases.{first_columns}
@@ -12,11 +12,11 @@ use Rattle.vx_plan_json.specs.Written.{claim_members}
 use Rattle.vx_plan.specs.ByName.{claim_by_name}
 use Rattle.vx_check.specs.Explain.{list_text, size_text, description}
 use Rattle.vx_check_rules.specs.Rules.{contains}
-use Rattle.vx_check_rules.specs.Refusal.{Rule, size_mismatch, root_not_one, part_not_shown, inputs_not_matched, replicated_input, order_not_shown, order_needed, key_not_shown, total_not_shown}
+use Rattle.vx_check_rules.specs.Refusal.{Rule, size_mismatch, root_not_one, part_not_shown, inputs_not_matched, replicated_input, order_not_shown, order_needed, key_not_shown, total_not_shown, first_rows_open}
 use Rattle.vx_check_failures.specs.Shown.{shown_claim_by}
 use Rattle.vx_check_sentences.specs.declared.told.Told.{Told}
 use Rattle.vx_check_sentences.specs.declared.told.Told.TheVariants.{Part, Order, Keys}
-use Rattle.vx_check_sentences.specs.Words.{node_text, told_text, inputs_text}
+use Rattle.vx_check_sentences.specs.Words.{node_text, told_text, input_text, inputs_text}
 
 -- ---- sizes
 
@@ -75,6 +75,22 @@ keys_lack names order (k ∷ keys) = lacks_text names order k ++ keys_lack names
 abbrev pub all_lacks : List Name → List ℕ → List (List ℕ) → List ℕ
 all_lacks names order keys = codes "it lacks " ++ (list_text names (missing order (first_columns (length names))) ++ (codes " of all columns" ++ keys_lack names order keys))
 
+-- the same of the order that a node claims
+unfoldable pub order_lacks : Outline → List ℕ
+order_lacks t = all_lacks (columns t).names (top t).claim.order (top t).claim.keys
+
+-- what the input of a limit lacks, which has this size: one worker, or else an order that is total
+abbrev pub first_rows_lack : Size → Names → Outline → List ℕ
+first_rows_lack (group_of k) s t = input_size s (codes "its input, ") t
+first_rows_lack one_worker s t =
+    input_text Order s (codes "its input, ") t ++ (codes ": " ++ order_lacks t)
+
+abbrev pub first_rows_text : Names → Outline → List ℕ
+first_rows_text s (scan h r m z p) = []
+first_rows_text s (unary h op flags t) = first_rows_lack (size (plan_in t)) s t
+first_rows_text s (binary h op t u) = []
+first_rows_text s (exchange h k m t) = []
+
 -- ---- by the rule that refuses the node
 
 abbrev pub shown_text : Names → Rule → Outline → Option Claim → List ℕ
@@ -86,7 +102,8 @@ shown_text s replicated_input o shown = inputs_text Part s o
 shown_text s order_not_shown o shown = followed_text Order s o shown
 shown_text s order_needed o shown = inputs_text Order s o
 shown_text s key_not_shown o shown = followed_text Keys s o shown
-shown_text s total_not_shown o shown = all_lacks (columns o).names (top o).claim.order (top o).claim.keys
+shown_text s total_not_shown o shown = order_lacks o
+shown_text s first_rows_open o shown = first_rows_text s o
 
 -- over the claim that is shown at the node, by the table that a plan asks for
 abbrev pub shown_at : (derives : Bool) → Names → Rule → Outline → List ℕ

@@ -4,7 +4,7 @@ ghost use Rattle.std.specs.Prelude.{◌≡◌, ◌++◌, map, string_bytes, OnOk
 ghost use Rattle.vx_plan_nodes.specs.Outline.{part_of, unary_of, binary_of, outline_of, columns, top};
 ghost use Rattle.vx_plan_nodes.specs.TypedView.{names_in};
 ghost use Rattle.vx_check.specs.Explain.{name_at, separated, list_text};
-ghost use Rattle.vx_check_rules.specs.Refusal.{size_mismatch, part_not_shown, inputs_not_matched, replicated_input, order_needed};
+ghost use Rattle.vx_check_rules.specs.Refusal.{size_mismatch, part_not_shown, inputs_not_matched, replicated_input, order_needed, first_rows_open};
 ghost use Rattle.vx_check_rules.specs.RuleView.{rule_of};
 ghost use Rattle.vx_check_sentences.specs.Words.{node_text, doing_text, order_words, keys_words};
 ghost use Rattle.vx_check_sentences.specs.Claimed.{part_words, equal_needed, unary_needs, binary_needs, needs_text, join_orders, binary_orders, orders_text, claimed_text};
@@ -88,6 +88,7 @@ fn push_unary_needs(text: &mut String, names: &[Name], operator: &Unary) -> Resu
         Unary::Distinct(kept) => push_kept_needed(text, names, kept.as_slice()),
         Unary::Sort(_, _) => Ok(()),
         Unary::Group(_, by, _) => push_equal_needed(text, names, by.as_slice()),
+        Unary::Limit(_) => Ok(()),
     }
 }
 
@@ -100,6 +101,9 @@ fn push_binary_needs(text: &mut String, operator: &Binary) -> Result<(), AllocEr
         ),
         Binary::HashJoin(_) => text.push_str(" needs rows that match at one worker"),
         Binary::MergeJoin(_) => text.push_str(" needs rows that match at one worker"),
+        Binary::SemiJoin(_, _) | Binary::AntiJoin(_, _) => text.push_str(
+            " needs rows that match at one worker, or all rows of its right input at every worker",
+        ),
     }
 }
 
@@ -191,6 +195,7 @@ fn push_binary_orders(
     match operator {
         Binary::Union => Ok(()),
         Binary::HashJoin(_) => Ok(()),
+        Binary::SemiJoin(_, _) | Binary::AntiJoin(_, _) => Ok(()),
         Binary::MergeJoin(on) => push_join_orders(text, lefts, rights, on.as_slice()),
     }
 }
@@ -304,6 +309,18 @@ fn push_total_not_shown(text: &mut String, node: &TypedNode) -> Result<(), Alloc
     push_order_not_shown(text, node)
 }
 
+fn push_first_rows_open(
+    alloc: Global,
+    text: &mut String,
+    plan: &TypedPlan,
+    node: &TypedNode,
+) -> Result<(), AllocError>
+    ensures { OnOk result (string_bytes text.new ≡ string_bytes text.old ++ claimed_text (names_in plan.now) first_rows_open (outline_of node.now)) }
+{
+    push_doing(alloc, text, plan, node)?;
+    text.push_str(" needs all rows of its input at one worker, in an order that is total")
+}
+
 fn push_claimed(
     alloc: Global,
     text: &mut String,
@@ -323,6 +340,7 @@ fn push_claimed(
         Rule::OrderNeeded => push_order_needed(alloc, text, plan, node),
         Rule::KeyNotShown => push_key_not_shown(text, node),
         Rule::TotalNotShown => push_total_not_shown(text, node),
+        Rule::FirstRowsOpen => push_first_rows_open(alloc, text, plan, node),
     }
 }
 

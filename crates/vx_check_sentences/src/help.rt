@@ -80,12 +80,12 @@ fn push_unary_meeting(
             push_meeting(text, names, columns.as_slice())
         }
         Unary::Group(_, by, _) => push_meeting(text, names, by.as_slice()),
-        Unary::Select(_) | Unary::Project(_) | Unary::Sort(_, _) => Ok(()),
+        Unary::Select(_) | Unary::Project(_) | Unary::Sort(_, _) | Unary::Limit(_) => Ok(()),
     }
 }
 
 // Adds how the rows of two inputs meet that match on these pairs.
-fn push_join_meeting(
+fn push_pairs_meeting(
     text: &mut String,
     lefts: &[Name],
     rights: &[Name],
@@ -98,7 +98,20 @@ fn push_join_meeting(
         text.push_str(" = ")?;
         push_name(text, rights, pair.1)?;
     }
-    text.push_str(", or broadcast one side")
+    Ok(())
+}
+
+// The same, or which side may be broadcast in place of that.
+fn push_join_meeting(
+    text: &mut String,
+    left: &TypedNode,
+    right: &TypedNode,
+    on: &[(usize, usize)],
+    side: &str,
+) -> Result<(), AllocError> {
+    push_pairs_meeting(text, column_names(left), column_names(right), on)?;
+    text.push_str(", or broadcast ")?;
+    text.push_str(side)
 }
 
 // Adds how two inputs come to lie alike, of which the first has all rows at every worker.
@@ -129,12 +142,12 @@ fn push_binary_meeting(
 ) -> Result<(), AllocError> {
     match operator {
         Binary::Union => push_union_meeting(text, left, right),
-        Binary::HashJoin(on) | Binary::MergeJoin(on) => push_join_meeting(
-            text,
-            column_names(left),
-            column_names(right),
-            on.as_slice(),
-        ),
+        Binary::HashJoin(on) | Binary::MergeJoin(on) => {
+            push_join_meeting(text, left, right, on.as_slice(), "one side")
+        }
+        Binary::SemiJoin(on, _) | Binary::AntiJoin(on, _) => {
+            push_join_meeting(text, left, right, on.as_slice(), "the right side")
+        }
     }
 }
 
@@ -296,6 +309,35 @@ fn push_total(alloc: Global, text: &mut String, node: &TypedNode) -> Result<(), 
     )
 }
 
+// Adds how rows come to one worker in this order.
+fn push_gathered(text: &mut String, names: &[Name], order: &[usize]) -> Result<(), AllocError> {
+    text.push_str("put a gather below it that merges on ")?;
+    push_list(text, names, order)?;
+    text.push_str(", over rows that are sorted so, or a gather and above that a sort")
+}
+
+// Adds how an input of one worker comes to have an order that is total.
+fn push_longer(text: &mut String, input: &TypedNode, longer: &[usize]) -> Result<(), AllocError> {
+    text.push_str("sort below it on ")?;
+    push_list(text, column_names(input), longer)?;
+    text.push_str(" and claim that order, or claim at ")?;
+    push_node(text, input)?;
+    text.push_str(" a key whose columns are all in the order, if it holds there")
+}
+
+// Adds how it comes to be known which rows are the first of a limit.
+fn push_first_rows(alloc: Global, text: &mut String, node: &TypedNode) -> Result<(), AllocError> {
+    let TypedNode::Unary(_, _, input) = node else {
+        return Ok(());
+    };
+    let names = column_names(input);
+    let longer = longer_order(alloc, &input.head().claim, names.len())?;
+    match input.size() {
+        Size::One => push_longer(text, input, longer.as_slice()),
+        Size::Group(_) => push_gathered(text, names, longer.as_slice()),
+    }
+}
+
 // ---- by the rule
 
 fn push_help(
@@ -320,6 +362,7 @@ fn push_help(
         Rule::OrderNeeded => push_orders(alloc, text, node),
         Rule::KeyNotShown => push_key_help(alloc, text, node, claim),
         Rule::TotalNotShown => push_total(alloc, text, node),
+        Rule::FirstRowsOpen => push_first_rows(alloc, text, node),
     }
 }
 

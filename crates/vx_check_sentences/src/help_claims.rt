@@ -65,6 +65,7 @@ fn push_sorting(text: &mut String, node: &TypedNode) -> Result<(), AllocError> {
         TypedNode::Unary(_, Unary::Sort(SortPhase::Partial, _), _) => {
             ", or sort here, if the group is by these, on "
         }
+        TypedNode::Unary(_, Unary::Limit(_), _) => ", or sort above it on ",
         TypedNode::Unary(_, _, _) => ", or sort below it on ",
         TypedNode::Exchange(_, _, _) => ", or merge here, over an input that is sorted so, on ",
     };
@@ -117,6 +118,9 @@ fn push_keying(text: &mut String, node: &TypedNode) -> Result<(), AllocError> {
         TypedNode::Unary(_, _, input) => push_key_below(text, input),
         TypedNode::Binary(_, Binary::Union, _, _) => {
             text.push_str(": none follows from a union, one does from a distinct above it")
+        }
+        TypedNode::Binary(_, Binary::SemiJoin(_, _) | Binary::AntiJoin(_, _), left, _) => {
+            push_key_below(text, left)
         }
         TypedNode::Binary(_, _, _, _) => text.push_str(", or claim more keys of its inputs"),
         TypedNode::Exchange(_, _, input) => push_key_below(text, input),

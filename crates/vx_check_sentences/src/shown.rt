@@ -1,18 +1,19 @@
 //! What is there in place of what a refused node claims or needs.
 
 ghost use Rattle.std.specs.Prelude.{◌≡◌, ◌++◌, option_map, string_bytes, OnOk, IfOk, codes};
-ghost use Rattle.vx_plan_nodes.specs.Outline.{claim_of, columns, top, outline_of};
+ghost use Rattle.vx_plan_nodes.specs.Plan.{size};
+ghost use Rattle.vx_plan_nodes.specs.Outline.{claim_of, columns, top, outline_of, plan_of};
 ghost use Rattle.vx_plan_nodes.specs.TypedView.{names_in};
 ghost use Rattle.vx_check_rules.specs.RuleView.{rule_of};
-ghost use Rattle.vx_check_sentences.specs.Shown.{size_of_text, input_size, sizes_text, all_lacks, shown_text};
+ghost use Rattle.vx_check_sentences.specs.Shown.{size_of_text, input_size, sizes_text, order_lacks, first_rows_lack, first_rows_text, shown_text};
 
 use crate::followed::{push_all_lacks, push_followed};
 use crate::told::Told;
-use crate::words::{push_inputs, push_node};
+use crate::words::{push_input, push_inputs, push_node};
 use std::alloc::{AllocError, Global};
 use vx_check::{column_names, push_size};
 use vx_check_rules::Rule;
-use vx_plan_nodes::{Claim, TypedNode, TypedPlan};
+use vx_plan_nodes::{Claim, Size, TypedNode, TypedPlan};
 
 fn push_size_of(text: &mut String, plan: &TypedPlan, node: &TypedNode) -> Result<(), AllocError>
     ensures { OnOk result (string_bytes text.new ≡ string_bytes text.old ++ size_of_text (names_in plan.now) (outline_of node.now)) }
@@ -67,8 +68,9 @@ fn push_own_size(text: &mut String, plan: &TypedPlan, node: &TypedNode) -> Resul
 }
 
 // Adds what the order of a node lacks to be total.
+#[tactic(auto, unfolding(crate::specs::Shown::order_lacks))]
 fn push_lacking(alloc: Global, text: &mut String, node: &TypedNode) -> Result<(), AllocError>
-    ensures { OnOk result (string_bytes text.new ≡ string_bytes text.old ++ all_lacks (columns (outline_of node.now)).names (top (outline_of node.now)).claim.order (top (outline_of node.now)).claim.keys) }
+    ensures { OnOk result (string_bytes text.new ≡ string_bytes text.old ++ order_lacks (outline_of node.now)) }
 {
     let claim = &node.head().claim;
     push_all_lacks(
@@ -78,6 +80,41 @@ fn push_lacking(alloc: Global, text: &mut String, node: &TypedNode) -> Result<()
         claim.order.as_slice(),
         claim.keys.as_slice(),
     )
+}
+
+// Adds what the input of a limit lacks: one worker, or else an order that is total.
+fn push_first_rows_lack(
+    alloc: Global,
+    text: &mut String,
+    plan: &TypedPlan,
+    input: &TypedNode,
+) -> Result<(), AllocError>
+    ensures { OnOk result (string_bytes text.new ≡ string_bytes text.old ++ first_rows_lack (size (plan_of input.now)) (names_in plan.now) (outline_of input.now)) }
+{
+    match input.size() {
+        Size::Group(_) => push_input_size(text, plan, "its input, ", input),
+        Size::One => {
+            push_input(text, plan, Told::Order, "its input, ", input)?;
+            text.push_str(": ")?;
+            push_lacking(alloc, text, input)
+        }
+    }
+}
+
+fn push_first_rows(
+    alloc: Global,
+    text: &mut String,
+    plan: &TypedPlan,
+    node: &TypedNode,
+) -> Result<(), AllocError>
+    ensures { OnOk result (string_bytes text.new ≡ string_bytes text.old ++ first_rows_text (names_in plan.now) (outline_of node.now)) }
+{
+    match node {
+        TypedNode::Scan(_, _) => Ok(()),
+        TypedNode::Unary(_, _, input) => push_first_rows_lack(alloc, text, plan, input),
+        TypedNode::Binary(_, _, _, _) => Ok(()),
+        TypedNode::Exchange(_, _, _) => Ok(()),
+    }
 }
 
 fn push_shown(
@@ -100,6 +137,7 @@ fn push_shown(
         Rule::OrderNeeded => push_inputs(text, plan, Told::Order, node),
         Rule::KeyNotShown => push_followed(alloc, text, plan, Told::Keys, node, claim),
         Rule::TotalNotShown => push_lacking(alloc, text, node),
+        Rule::FirstRowsOpen => push_first_rows(alloc, text, plan, node),
     }
 }
 

@@ -107,8 +107,9 @@ pub fn push_told(
     }
 }
 
+/// Adds what an input of a node claims, behind a word for it.
 #[tactic(auto, unfolding(crate::specs::Words::input_text))]
-fn push_input(
+pub fn push_input(
     text: &mut String,
     plan: &TypedPlan,
     told: Told,

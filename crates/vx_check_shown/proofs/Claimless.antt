@@ -31,7 +31,7 @@ equal-bare catalog (exchange n c k m p) = equal-bare catalog p
 
 -- the part over an input of v columns and one of u
 abbrev over : Binary → (v u : ℕ) → (left right : Equality) → Part → Part → Part
-over op v u e f x y = part_of_both (binary_width op v u) (described_both v op).pairs (described_both v op) e f x y
+over op v u e f x y = part_of_both (binary_width op v u) (described_both v op).meeting (described_both v op) e f x y
 
 over-bare : (catalog : ℕ → Relation) (p : Plan) (x y : Part) → part_over catalog (bare p) x y ≡ part_over catalog p x y
 over-bare catalog (scan n c r m z) x y = refl

@@ -6,10 +6,10 @@ use Rattle.vx_rows_values.proofs.Booleans.{and-left, and-right, and-both}
 use Rattle.vx_catalog_relations.specs.Relation.{Relation}
 use Rattle.vx_catalog_relations.specs.Catalog.{all_below, are_distinct}
 use Rattle.vx_plan_nodes.specs.Typed.{are_columns}
-use Rattle.vx_plan_nodes.specs.Plan.{select, project, distinct, sort, group, plain, partial, final, union, join, Plan, scan, unary, binary, exchange}
+use Rattle.vx_plan_nodes.specs.Plan.{select, project, distinct, sort, group, limit, plain, partial, final, union, join, semi_join, Plan, scan, unary, binary, exchange}
 use Rattle.vx_plan_nodes.specs.Phases.{first_columns}
 use Rattle.vx_plan_nodes.specs.Types.{width}
-use Rattle.vx_plan_nodes.specs.Describe.{Copying, whole_rows, columns_kept, right_of, source}
+use Rattle.vx_plan_nodes.specs.Describe.{Copying, whole_rows, columns_kept, right_of, source, key_of_first, keys_kept}
 use Rattle.vx_plan_facts.specs.Asking.{Reaches}
 use Rattle.vx_plan_facts.specs.Equal.{Equality, each_itself, both_equal, equal_at}
 use Rattle.vx_plan_facts.specs.FactsView.{facts_of}
@@ -18,7 +18,7 @@ use Rattle.vx_plan_facts.specs.declared.known.KnownColumns as rust_known
 use Rattle.vx_plan_facts.proofs.KnownFacts.{known-under}
 use Rattle.vx_plan_facts.proofs.Searching.{known-left}
 use Rattle.vx_check_rules.specs.Rules.{contains, within, covers}
-use Rattle.vx_check_rules.specs.Behaviour.{Keyed, keyed_by, keyed_held, keyed_from}
+use Rattle.vx_check_rules.specs.Behaviour.{Keyed, keyed_by, keyed_after, keyed_held, keyed_from}
 use Rattle.vx_check_rules.specs.Derived.{within_equally, key_derived_by}
 use Rattle.vx_check_rules.proofs.Bools.{or-left, or-right, all-more}
 use Rattle.vx_check_options.specs.FoundKeys.{show}
@@ -96,11 +96,18 @@ module _ (catalog : ℕ → Relation) (k : rust_known.KnownColumns) where
   keyed-equal (unary n c (group plain by aggregates) p) h lefts rights d x l e = whole-equal (unary n c (group plain by aggregates) p) h d x l (one-keyed d x whole_rows (first_columns (length by) ∷ []) e)
   keyed-equal (unary n c (group partial by aggregates) p) h lefts rights d x l e = absurd (true≢false (sym e))
   keyed-equal (unary n c (group final by aggregates) p) h lefts rights d x l e = whole-equal (unary n c (group final by aggregates) p) h d x l (one-keyed d x whole_rows (first_columns (length by) ∷ []) e)
+  keyed-equal (unary n c (limit m) p) h lefts rights d x l e = limited (nat_le m 1) e
+    where
+      limited : (b : Bool) → by_keyed d x (keyed_after (cond b (key_of_first 0) keys_kept) whole_rows lefts) ≡ true → equal_at catalog (unary n c (limit m) p) d x ≡ true
+      limited true t = whole-equal (unary n c (limit m) p) h d x l (one-keyed d x whole_rows (first_columns 0 ∷ []) t)
+      limited false t = whole-equal (unary n c (limit m) p) h d x l (one-keyed d x whole_rows lefts t)
   keyed-equal (binary n c union p q) h lefts rights d x l e = absurd (true≢false (sym e))
   keyed-equal (binary n c (join m on) p q) h lefts rights d x l e =
       let top : Plan = binary n c (join m on) p q in
       ⊎_elim (λ a. whole-equal top h d x l a) (λ b. is-equal top h d x l (right-one (width catalog p) d x b))
       (held-keyed d x (covers rights (map (λ y. y.1) on)) (covers lefts (map (λ y. y.0) on)) whole_rows (right_of (width catalog p)) lefts rights e)
+  keyed-equal (binary n c (semi_join matched on conditions) p q) h lefts rights d x l e =
+      whole-equal (binary n c (semi_join matched on conditions) p q) h d x l (one-keyed d x whole_rows lefts e)
   keyed-equal (exchange n c kind m p) h lefts rights d x l e = whole-equal (exchange n c kind m p) h d x l (one-keyed d x whole_rows lefts e)
 
   pub copies-equal : (p : Plan) → IsKnownOf catalog k p → (lefts rights : List (List ℕ)) (d x : ℕ) → d < width catalog p → copies_by (keyed_from catalog p lefts rights) d x ≡ true

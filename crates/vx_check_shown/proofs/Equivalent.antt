@@ -3,7 +3,7 @@ use Rattle.std.proofs.Common.{◌≡◌, ◌∙◌, ℕ, ◌+◌, ◌-◌, ◌==
 use Rattle.std.proofs.lemmas.Bool.Decides.{nat_tests}
 use Rattle.vx_rows_values.proofs.Booleans.{and-left, and-right, and-both}
 use Rattle.vx_catalog_relations.specs.Relation.{Relation}
-use Rattle.vx_plan_nodes.specs.Plan.{column, constant, equal, unequal, below, at_most, above, at_least, Test, Side, Condition, Unary, select, project, distinct, sort, group, Binary, union, join, Plan, scan, unary, binary, exchange}
+use Rattle.vx_plan_nodes.specs.Plan.{column, constant, equal, unequal, below, at_most, above, at_least, Test, Side, Condition, Unary, select, project, distinct, sort, group, limit, Binary, union, join, semi_join, Plan, scan, unary, binary, exchange}
 use Rattle.vx_plan_nodes.specs.Types.{width}
 use Rattle.vx_plan_nodes.specs.Describe.{Copying, source, left_of, right_of, described}
 use Rattle.vx_plan_facts.specs.Equal.{Equality, each_itself, both_equal, lifted, with_pair, with_test, with_conditions, with_pairs, unary_equal, binary_equal, equal_at}
@@ -193,10 +193,12 @@ unary-too (project cols) e is = lifted-too (described (project cols)).copying e 
 unary-too (distinct cols) e is = lifted-too (described (distinct cols)).copying e is
 unary-too (sort of_parts cols) e is = lifted-too (described (sort of_parts cols)).copying e is
 unary-too (group phase by aggregates) e is = lifted-too (described (group phase by aggregates)).copying e is
+unary-too (limit m) e is = lifted-too (described (limit m)).copying e is
 
 binary-too : (w : ℕ) (op : Binary) (e f : Equality) → IsEquivalence e → IsEquivalence f → IsEquivalence (binary_equal w op e f)
 binary-too w union e f is it = both-too e f is it
 binary-too w (join merging on) e f is it = pairs-too w on (λ a b. lifted (left_of w) e a b || lifted (right_of w) f a b) (joined-too w e f is it)
+binary-too w (semi_join matched on conditions) e f is it = is
 
 pub equal-equivalence : (catalog : ℕ → Relation) (p : Plan) → IsEquivalence (equal_at catalog p)
 equal-equivalence catalog (scan n c r m z) = each-itself

@@ -6,7 +6,7 @@ use Rattle.vx_rows_values.specs.Lists.{is_some_list}
 use Rattle.vx_rows_values.proofs.Booleans.{and-left, and-right, and-both}
 use Rattle.vx_catalog_relations.specs.Relation.{Relation}
 use Rattle.vx_catalog_relations.specs.Catalog.{relation_at, all_below, are_distinct, IsCatalog}
-use Rattle.vx_plan_nodes.specs.Plan.{Part, select, project, distinct, sort, group, union, join, Plan, scan, unary, binary, exchange, claim, size, is_one}
+use Rattle.vx_plan_nodes.specs.Plan.{Part, select, project, distinct, sort, group, limit, union, join, semi_join, Plan, scan, unary, binary, exchange, claim, size, is_one}
 use Rattle.vx_plan_nodes.specs.Types.{types_of, width, part_columns}
 use Rattle.vx_plan_nodes.specs.Describe.{described}
 use Rattle.vx_plan_nodes.specs.Phases.{phase_fits}
@@ -63,10 +63,12 @@ module _ (s : Scope) (cat : IsCatalog s.catalog) where
   had-below (unary n c (group phase by aggregates) p) ok q below h =
       let C : ℕ → Relation = relation_at s.catalog in
       copies-below (width C (unary n c (group phase by aggregates) p)) (described (group phase by aggregates)).copying (equal_at C p) (short (determined C p) below)
+  had-below (unary n c (limit m) p) ok q below h = and-right _ (all_below (width (relation_at s.catalog) p) below) h
   had-below (binary n c union p p2) ok q below h = refl
   had-below (binary n c (join m on) p p2) ok q below h =
       below-more (width (relation_at s.catalog) p) (width (relation_at s.catalog) p + width (relation_at s.catalog) p2) (omega arith) below
       (and-right _ (all_below (width (relation_at s.catalog) p) below) h)
+  had-below (binary n c (semi_join matched on conditions) p p2) ok q below h = and-right _ (all_below (width (relation_at s.catalog) p) below) h
   had-below (exchange n c k m p) ok q below h =
       let types = types_of (relation_at s.catalog) p in
       let cols = and-left (are_columns (length types) m) _ (and-right (is_kind s types k) _ (and-right (typed s p) _ ok)) in

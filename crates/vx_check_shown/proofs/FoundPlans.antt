@@ -89,7 +89,7 @@ module _ (catalog : ℕ → Relation) where
   keyed-found : (p : Plan) → (behaviour catalog (found catalog p)).keyed ≡ (behaviour catalog p).keyed
   keyed-found (scan n c r m z) = refl
   keyed-found (unary n c op p) = ap (keyed_after (described op).keys (described op).copying) (keys-found p)
-  keyed-found (binary n c op p q) = λ i. keyed_over (described_both (width-found p i) op).pairs (described_both (width-found p i) op) (keys-found p i) (keys-found q i)
+  keyed-found (binary n c op p q) = λ i. keyed_over (described_both (width-found p i) op).meeting (described_both (width-found p i) op) (keys-found p i) (keys-found q i)
   keyed-found (exchange n c k m p) = ap (λ ks. keyed_by ((whole_rows, ks) ∷ []) ∷ []) (keys-found p)
 
   pub all-found : (p : Plan) → HasAllKeysDerived catalog p → HasAllKeysDerived catalog (found catalog p)

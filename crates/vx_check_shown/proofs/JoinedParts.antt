@@ -9,7 +9,7 @@ use Rattle.vx_rows_values.proofs.Booleans.{and-left, and-right, and-both}
 use Rattle.vx_catalog_relations.specs.Catalog.{all_below}
 use Rattle.vx_plan_nodes.specs.Plan.{Part, one, any, all, routed}
 use Rattle.vx_plan_nodes.specs.Types.{part_columns}
-use Rattle.vx_plan_nodes.specs.Describe.{Copying, whole_rows, left_of, right_of, source}
+use Rattle.vx_plan_nodes.specs.Describe.{Copying, whole_rows, left_of, right_of, paired_on, source}
 use Rattle.vx_plan_facts.specs.Equal.{Equality}
 use Rattle.vx_plan_facts.specs.Determined.{column_in}
 use Rattle.vx_plan_facts.proofs.Tests.{or-cases, any-first, any-more}
@@ -251,7 +251,7 @@ module _ (v w : ℕ) (wide : v ≤ w) (e f g : Equality) (is : IsEquivalence e) 
 
   -- by the ways of the first table
   pub ways-tell : (x y q : Part) → all_below v (part_columns x) ≡ true → all_below w (part_columns q) ≡ true
-      → list_any (λ i. gives i q) (ways_over (Some on) (record { left = left_of v; right = right_of v; pairs = Some on }) (false, x) (false, y)) ≡ true → told g (joint x y) q ≡ true
+      → list_any (λ i. gives i q) (ways_over (paired_on on) (record { left = left_of v; right = right_of v; meeting = paired_on on }) (false, x) (false, y)) ≡ true → told g (joint x y) q ≡ true
   ways-tell x y q l m h =
       let test : Way → Bool = λ i. gives i q in
       let a : List Way = if_so (routed_alike on x y) (way whole_rows ((false, x) ∷ []) ∷ way (right_of v) ((false, y) ∷ []) ∷ []) in

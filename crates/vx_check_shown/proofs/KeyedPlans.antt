@@ -70,7 +70,7 @@ keyed-all catalog (binary n c op p q) x h few =
     let right = keyed-bare catalog q h.2 h.5 in
     let nodes : bare (binary n (keyed h.0) op y z) ≡ bare (binary n c op p q) = λ i. binary n (keyless any []) op (left i) (right i) in
     let same : (behaviour catalog (binary n (keyed h.0) op y z)).keyed ≡ keyed_from catalog (binary n c op p q) (claim y).keys (claim z).keys =
-    ap (λ w. keyed_over (described_both w op).pairs (described_both w op) (claim y).keys (claim z).keys) (width-same catalog y p left) in
+    ap (λ w. keyed_over (described_both w op).meeting (described_both w op) (claim y).keys (claim z).keys) (width-same catalog y p left) in
     subst P (sym h.3)
     (keyed-all catalog p y h.4 few.0, keyed-all catalog q z h.5 few.1, all-here catalog (binary n c op p q) (binary n (keyed h.0) op y z) nodes _ h.0 refl same h.6 few.2)
 keyed-all catalog (exchange n c k m p) x h few =
@@ -98,7 +98,7 @@ keyed-claims s (binary n c op p q) x h =
     let right = keyed-bare C q h.2 h.5 in
     let nodes : bare (binary n (keyed h.0) op y z) ≡ bare (binary n c op p q) = λ i. binary n (keyless any []) op (left i) (right i) in
     let same : (behaviour C (binary n (keyed h.0) op y z)).keyed ≡ keyed_from C (binary n c op p q) (claim y).keys (claim z).keys =
-    ap (λ w. keyed_over (described_both w op).pairs (described_both w op) (claim y).keys (claim z).keys) (width-same C y p left) in
+    ap (λ w. keyed_over (described_both w op).meeting (described_both w op) (claim y).keys (claim z).keys) (width-same C y p left) in
     subst P (sym h.3)
     (keyed-claims s p y h.4, keyed-claims s q z h.5, claim-here C (binary n c op p q) (binary n (keyed h.0) op y z) nodes _ h.0 refl same h.6 s refl)
 keyed-claims s (exchange n c k m p) x h =

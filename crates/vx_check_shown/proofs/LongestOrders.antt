@@ -3,7 +3,7 @@ use Rattle.std.proofs.Common.{◌≡◌, ◌∙◌, ℕ, ◌<◌, ◌==◌, nat_
 use Rattle.vx_rows_values.proofs.Booleans.{and-left, and-right, and-both}
 use Rattle.vx_catalog_relations.specs.Relation.{Relation}
 use Rattle.vx_catalog_relations.specs.Catalog.{relation_at, all_below, are_distinct, IsCatalog}
-use Rattle.vx_plan_nodes.specs.Plan.{by_hash, by_range, Part, one, any, all, routed, Claim, claim, Unary, select, project, distinct, sort, group, plain, partial, final, Binary, union, join, ExchangeKind, route_to, round, broadcast, gather, concat, Plan, scan, unary, binary, exchange, size, is_one}
+use Rattle.vx_plan_nodes.specs.Plan.{by_hash, by_range, Part, one, any, all, routed, Claim, claim, Unary, select, project, distinct, sort, group, limit, plain, partial, final, Binary, union, join, semi_join, ExchangeKind, route_to, round, broadcast, gather, concat, Plan, scan, unary, binary, exchange, size, is_one}
 use Rattle.vx_plan_nodes.specs.Typed.{Scope, typed}
 use Rattle.vx_plan_nodes.specs.Types.{width, well_formed}
 use Rattle.vx_plan_nodes.specs.Describe.{Copying, columns_kept, source, described}
@@ -117,6 +117,10 @@ unary-front s n c (group partial by aggregates) p h order l k =
     carried-follows s n c (group partial by aggregates) p h by order refl (λ a b e. or-right (a == b) _ e) (λ w m d. group-within w (group partial by aggregates) partial by aggregates refl m d) l k
 unary-front s n c (group final by aggregates) p h order l k =
     carried-follows s n c (group final by aggregates) p h by order refl (λ a b e. or-right (a == b) _ e) (λ w m d. group-within w (group final by aggregates) final by aggregates refl m d) l k
+unary-front s n c (limit m) p h order l k =
+    let rel : ℕ → Relation = relation_at s.catalog in
+    front rel (unary n c (limit m) p) (typed-well-formed s (unary n c (limit m) p) h) (claim p).order order
+    (order-below rel p (typed-well-formed s p (and-left (typed s p) _ h))) l k
 
 -- the order that an operator over one input has is of its columns
 unary-below : (s : Scope) (n : ℕ) (c : Claim) (op : Unary) (p : Plan) → typed s (unary n c op p) ≡ true
@@ -137,6 +141,7 @@ unary-below s n c (group partial by aggregates) p h =
 unary-below s n c (group final by aggregates) p h =
     copies-below (width (relation_at s.catalog) (unary n c (group final by aggregates) p)) (columns_kept by) (equal_at (relation_at s.catalog) p)
     (short (determined (relation_at s.catalog) p) (claim p).order)
+unary-below s n c (limit m) p h = order-below (relation_at s.catalog) p (typed-well-formed s p (and-left (typed s p) _ h))
 
 -- ---- exchanges
 
@@ -282,6 +287,7 @@ is-had s (binary n c op p q) catalog h =
     begins : (order : List ℕ) (o : Binary) → orders (relation_at s.catalog) (binary n c o p q) order ≡ true → is_prefix order (binary_order o (claim p).order) ≡ true
     begins order union k = k
     begins order (join m on) k = k
+    begins order (semi_join matched on conditions) k = k
 is-had s (exchange n c k merge p) catalog h = record {
   of_node = sent-below s n c k merge p h (is_one (size p) || goes_on_with (relation_at s.catalog) k p (claim p).part (claim p).order);
   gives = λ order f. sent-shown s n c k merge p h (is_one (size p) || goes_on_with (relation_at s.catalog) k p (claim p).part (claim p).order) order f;

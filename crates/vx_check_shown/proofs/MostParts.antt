@@ -1,27 +1,27 @@
 -- The part that a node shows tells each part that passes its test.
-use Rattle.std.proofs.Common.{◌≡◌, ◌∙◌, ℕ, ◌+◌, ◌≤◌, Bool, true, false, cond, ◌&&◌, ◌||◌, ⊎_elim, List, [], ◌∷◌, Some, refl, sym, subst, arith, true≢false}
+use Rattle.std.proofs.Common.{◌≡◌, ◌∙◌, ℕ, ◌+◌, ◌≤◌, Bool, true, false, cond, ◌&&◌, ◌||◌, ⊎_elim, List, [], ◌∷◌, ◌++◌, Some, refl, sym, subst, arith, true≢false}
 use Rattle.std.specs.List.{list_any}
 use Rattle.vx_rows_values.proofs.Booleans.{and-left, and-right}
 use Rattle.vx_catalog_relations.specs.Relation.{Relation}
 use Rattle.vx_catalog_relations.specs.Catalog.{relation_at, all_below, are_distinct}
-use Rattle.vx_plan_nodes.specs.Plan.{Part, one, any, all, routed, Claim, claim, Unary, union, join, ExchangeKind, Plan, scan, unary, binary, exchange, size, is_one, Size}
+use Rattle.vx_plan_nodes.specs.Plan.{Part, one, any, all, routed, Claim, claim, Condition, Unary, union, join, semi_join, ExchangeKind, Plan, scan, unary, binary, exchange, size, is_one, Size}
 use Rattle.vx_plan_nodes.specs.Parts.{kind_part}
 use Rattle.vx_plan_nodes.specs.Types.{width, part_columns}
-use Rattle.vx_plan_nodes.specs.Describe.{whole_rows, left_of, right_of, described}
+use Rattle.vx_plan_nodes.specs.Describe.{whole_rows, left_of, right_of, no_columns, paired_on, matched_on, described}
 use Rattle.vx_plan_facts.specs.Equal.{Equality, equal_at}
 use Rattle.vx_plan_facts.specs.Naming.{IsTypedOver}
 use Rattle.vx_plan_facts.proofs.Tests.{or-cases}
 use Rattle.vx_plan_facts.proofs.NamedColumns.{typed-both}
-use Rattle.vx_check_rules.specs.Rules.{part_gives, sizes_match, shows, unless_one, has}
-use Rattle.vx_check_rules.specs.Behaviour.{way, own, gives, ways_if_fit, ways_over}
+use Rattle.vx_check_rules.specs.Rules.{part_gives, sizes_match, shows, unless_one, has, routed_alike}
+use Rattle.vx_check_rules.specs.Behaviour.{Way, way, own, if_so, gives, ways_if_fit, ways_over}
 use Rattle.vx_check_rules.specs.Derived.{part_matches, routed_as, routed_alike_equally, is_any, part_derived}
 use Rattle.vx_check_rules.proofs.Exact.{parts-if-fit}
-use Rattle.vx_check_shown.specs.ShownPart.{part_over, part_apart}
+use Rattle.vx_check_shown.specs.ShownPart.{part_carried, part_over, part_apart}
 use Rattle.vx_check_shown.specs.PartLaws.{left_part, right_part, passes, told, PartTellsTheMost}
-use Rattle.vx_check_shown.proofs.Equivalent.{equal-equivalence}
-use Rattle.vx_check_shown.proofs.ToldParts.{told-gives, told-matches, apart-tells, way-tells, carried-tells, whole-gives, beside-tells, union-tells}
+use Rattle.vx_check_shown.proofs.Equivalent.{IsEquivalence, equal-equivalence}
+use Rattle.vx_check_shown.proofs.ToldParts.{told-gives, told-matches, apart-tells, way-tells, carried-any, carried-tells, whole-gives, beside-tells, union-tells}
 use Rattle.vx_check_shown.proofs.JoinedParts.{ways-tell, alike-tells, left-tells, right-tells, cross-tells}
-use Rattle.vx_check_shown.proofs.NodeParts.{part-named, both-several, unary-lifts, left-lifts, right-lifts, joined-equal}
+use Rattle.vx_check_shown.proofs.NodeParts.{part-named, both-several, whole-lifts, unary-lifts, left-lifts, right-lifts, joined-equal}
 
 or-end : (a : Bool) → (a || false) ≡ true → a ≡ true
 or-end true h = refl
@@ -47,6 +47,31 @@ made-tells catalog g z any h = told-gives g z any (and-left (part_gives z any) t
 made-tells catalog g z all h = told-gives g z all (and-left (part_gives z all) true (or-end (part_gives z all && true) h))
 made-tells catalog g z (routed s ds) h =
     told-gives g z (routed s ds) (and-left (part_gives z (routed s ds)) true (whole-gives ((false, z) ∷ []) (routed s ds) (or-end (gives (way whole_rows ((false, z) ∷ [])) (routed s ds)) h)))
+
+-- ---- of left rows that are kept where they are matched
+
+-- a way that is there once or twice
+one-way : (b : Bool) (i : Way) (z : Part) → list_any (λ w. gives w z) (if_so b (i ∷ [])) ≡ true → gives i z ≡ true
+one-way true i z h = or-end (gives i z) h
+one-way false i z h = cc
+
+two-ways : (a b : Bool) (i : Way) (z : Part) → list_any (λ w. gives w z) (if_so a (i ∷ []) ++ if_so b (i ∷ [])) ≡ true → gives i z ≡ true
+two-ways true b i z h = ⊎_elim (λ l. l) (λ r. one-way b i z r) (or-cases (gives i z) (list_any (λ w. gives w z) (if_so b (i ∷ []))) h)
+two-ways false b i z h = one-way b i z h
+
+-- of inputs that are routed alike the left one has each row once
+alike-any : (e f : Equality) (on : List (ℕ × ℕ)) (x y : Part) → routed_alike_equally e f on x y ≡ true → part_gives x any ≡ true
+alike-any e f on one y h = cc
+alike-any e f on any y h = cc
+alike-any e f on all y h = cc
+alike-any e f on (routed r ls) y h = refl
+
+any-tells : (w : ℕ) (e f : Equality) → IsEquivalence e → (on : List (ℕ × ℕ)) (x y z : Part) → (is_any z && routed_alike_equally e f on x y) ≡ true
+    → told e (part_carried w whole_rows e x) z ≡ true
+any-tells w e f is on x y one h = cc
+any-tells w e f is on x y any h = carried-any w whole_rows e e is is (whole-lifts e) x (alike-any e f on x y h)
+any-tells w e f is on x y all h = cc
+any-tells w e f is on x y (routed s ds) h = cc
 
 module _ (catalog : List Relation) (n : ℕ) (c : Claim) where
   abbrev at : ℕ → Relation
@@ -107,8 +132,8 @@ module _ (catalog : List Relation) (n : ℕ) (c : Claim) where
       ⊎_elim
       (λ s. let u = sym (shown-ways at top z several) ∙ s in
       ways-tell v w wide e f g is it out left right on joined x y z named low
-      (subst (λ b. list_any (λ i. gives i z) (ways_over (Some on) (record { left = left_of v; right = right_of v; pairs = Some on }) (false, x) (b, y)) ≡ true) beside
-      (subst (λ b. list_any (λ i. gives i z) (ways_over (Some on) (record { left = left_of v; right = right_of v; pairs = Some on }) (b, x) (own q)) ≡ true) several u)))
+      (subst (λ b. list_any (λ i. gives i z) (ways_over (paired_on on) (record { left = left_of v; right = right_of v; meeting = paired_on on }) (false, x) (b, y)) ≡ true) beside
+      (subst (λ b. list_any (λ i. gives i z) (ways_over (paired_on on) (record { left = left_of v; right = right_of v; meeting = paired_on on }) (b, x) (own q)) ≡ true) several u)))
       (λ s. ⊎_elim
       (λ t. alike-tells v w wide e f g is it out left right on joined x y z t)
       (λ t. ⊎_elim
@@ -120,6 +145,28 @@ module _ (catalog : List Relation) (n : ℕ) (c : Claim) where
       (or-cases (has p all) alike (and-left (has p all || alike) (routed_as w (right_of v) f g y z) i)))
       (or-cases ((has q all || alike) && routed_as w (left_of v) e g x z) ((has p all || alike) && routed_as w (right_of v) f g y z) t))
       (or-cases (is_any z && alike) (((has q all || alike) && routed_as w (left_of v) e g x z) || ((has p all || alike) && routed_as w (right_of v) f g y z)) s))
+      (or-cases (unless_one (shows at top) z) (part_derived at top z) h)
+
+  semi-most : (matched : Bool) (on : List (ℕ × ℕ)) (cs : List Condition) (p q : Plan) (z : Part) → is_one (size p) ≡ false
+      → all_below (width at p) (part_columns z) ≡ true → passes at (binary n c (semi_join matched on cs) p q) z ≡ true
+      → told (equal_at at p) (part_over at (binary n c (semi_join matched on cs) p q) (claim p).part (claim q).part) z ≡ true
+  semi-most matched on cs p q z several low h =
+      let top : Plan = binary n c (semi_join matched on cs) p q in
+      let w = width at p in
+      let e = equal_at at p in
+      let f = equal_at at q in
+      let x = (claim p).part in
+      let y = (claim q).part in
+      let is = equal-equivalence at p in
+      let alike = routed_alike_equally e f on x y in
+      let by_ways = ways_over (matched_on on) (record { left = whole_rows; right = no_columns; meeting = matched_on on }) in
+      ⊎_elim
+      (λ s. let u = sym (shown-ways at top z several) ∙ s in
+      way-tells w whole_rows e e is is (whole-lifts e) x z
+      (two-ways (routed_alike on x y) (has q all) (way whole_rows ((false, x) ∷ [])) z (subst (λ b. list_any (λ i. gives i z) (by_ways (b, x) (own q)) ≡ true) several u)) low)
+      (λ s. ⊎_elim (λ t. any-tells w e f is on x y z t)
+      (λ t. carried-tells w whole_rows e e is is (whole-lifts e) x z (and-right (has q all || alike) (routed_as w whole_rows e e x z) t))
+      (or-cases (is_any z && alike) ((has q all || alike) && routed_as w whole_rows e e x z) s))
       (or-cases (unless_one (shows at top) z) (part_derived at top z) h)
 
   sent-most : (k : ExchangeKind) (m : List ℕ) (p : Plan) (q : Part) → is_one (size (exchange n c k m p)) ≡ false → passes at (exchange n c k m p) q ≡ true
@@ -142,6 +189,7 @@ over-most catalog (scan n c r m z) typed_x several sizes q low h = scan-most cat
 over-most catalog (unary n c op p) typed_x several sizes q low h = unary-most catalog n c op p q several low h
 over-most catalog (binary n c union p q) typed_x several sizes z low h = union-most catalog n c p q z several (both-several (size p) (size q) sizes several) low h
 over-most catalog (binary n c (join m on) p q) typed_x several sizes z low h = join-most catalog n c m on p q z typed_x several (both-several (size p) (size q) sizes several) low h
+over-most catalog (binary n c (semi_join matched on cs) p q) typed_x several sizes z low h = semi-most catalog n c matched on cs p q z several low h
 over-most catalog (exchange n c k m p) typed_x several sizes q low h = sent-most catalog n c k m p q several h
 
 pub tells-the-most : PartTellsTheMost

@@ -7,7 +7,7 @@ use Rattle.vx_rows_values.specs.Lists.{is_some_list}
 use Rattle.vx_rows_values.proofs.Booleans.{and-left, and-right, and-both}
 use Rattle.vx_catalog_relations.specs.Relation.{Relation}
 use Rattle.vx_catalog_relations.specs.Catalog.{all_below, are_distinct}
-use Rattle.vx_plan_nodes.specs.Plan.{Claim, claim, select, project, distinct, sort, group, Plan, scan, unary, binary, exchange}
+use Rattle.vx_plan_nodes.specs.Plan.{Claim, claim, select, project, distinct, sort, group, limit, Plan, scan, unary, binary, exchange}
 use Rattle.vx_plan_nodes.specs.Phases.{columns_from, first_columns}
 use Rattle.vx_plan_nodes.specs.Types.{width}
 use Rattle.vx_plan_nodes.specs.Describe.{Copying, source, columns_kept}
@@ -252,6 +252,7 @@ below-named catalog k (unary n c (project cols) p) h x named below is t = projec
 below-named catalog k (unary n c (distinct cols) p) h x named below is t = t
 below-named catalog k (unary n c (sort of_parts cols) p) h x named below is t = t
 below-named catalog k (unary n c (group phase by aggregates) p) h x named below is t = t
+below-named catalog k (unary n c (limit m) p) h x named below is t = t
 below-named catalog k (binary n c op p q) h x named below is t = t
 below-named catalog k (exchange n c kind m p) h x named below is t = t
 

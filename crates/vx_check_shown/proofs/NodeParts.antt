@@ -5,10 +5,10 @@ use Rattle.std.proofs.lemmas.Bool.{eq-eqb}
 use Rattle.vx_rows_values.proofs.Booleans.{and-left, and-right, and-both}
 use Rattle.vx_catalog_relations.specs.Relation.{Relation}
 use Rattle.vx_catalog_relations.specs.Catalog.{relation_at, all_below}
-use Rattle.vx_plan_nodes.specs.Plan.{column, constant, equal, unequal, below, at_most, above, at_least, Test, Side, Condition, claim, Size, one_worker, group_of, size_eq, Unary, select, project, distinct, sort, group, union, join, Plan, scan, unary, binary, exchange, is_one}
+use Rattle.vx_plan_nodes.specs.Plan.{column, constant, equal, unequal, below, at_most, above, at_least, Test, Side, Condition, claim, Size, one_worker, group_of, size_eq, Unary, select, project, distinct, sort, group, limit, union, join, semi_join, Plan, scan, unary, binary, exchange, is_one}
 use Rattle.vx_plan_nodes.specs.Phases.{phase_fits, both_closed}
 use Rattle.vx_plan_nodes.specs.Types.{width, part_columns, names_columns, well_formed}
-use Rattle.vx_plan_nodes.specs.Describe.{Copying, left_of, right_of, source, described}
+use Rattle.vx_plan_nodes.specs.Describe.{Copying, whole_rows, left_of, right_of, source, described}
 use Rattle.vx_plan_facts.specs.Equal.{Equality, both_equal, lifted, with_pair, with_test, with_conditions, with_pairs, unary_equal, binary_equal}
 use Rattle.vx_plan_facts.specs.Naming.{pair_within, IsTypedOver}
 use Rattle.vx_plan_facts.proofs.Tests.{or-left, or-right}
@@ -35,6 +35,10 @@ claim-named catalog (binary n c union p q) h =
     (and-right (well_formed catalog p) (well_formed catalog q && (both_closed p q && (wide && named))) h)))
 claim-named catalog (binary n c (join m on) p q) h =
     let named = names_columns (width catalog p + width catalog q) c in
+    and-right (both_closed p q) named
+    (and-right (well_formed catalog q) (both_closed p q && named) (and-right (well_formed catalog p) (well_formed catalog q && (both_closed p q && named)) h))
+claim-named catalog (binary n c (semi_join matched on conditions) p q) h =
+    let named = names_columns (width catalog p) c in
     and-right (both_closed p q) named
     (and-right (well_formed catalog q) (both_closed p q && named) (and-right (well_formed catalog p) (well_formed catalog q && (both_closed p q && named)) h))
 claim-named catalog (exchange n c k m p) h = and-right (well_formed catalog p) (names_columns (width catalog p) c) h
@@ -88,6 +92,10 @@ unary-lifts (project cols) e a b y z s t h = lifted-lifts (described (project co
 unary-lifts (distinct cols) e a b y z s t h = lifted-lifts (described (distinct cols)).copying e a b y z s t h
 unary-lifts (sort of_parts cols) e a b y z s t h = lifted-lifts (described (sort of_parts cols)).copying e a b y z s t h
 unary-lifts (group phase by aggregates) e a b y z s t h = lifted-lifts (described (group phase by aggregates)).copying e a b y z s t h
+unary-lifts (limit m) e a b y z s t h = lifted-lifts (described (limit m)).copying e a b y z s t h
+
+pub whole-lifts : (e : Equality) → Lifts whole_rows e e
+whole-lifts e a b y z s t h = subst (λ u. e u b ≡ true) (sym (whole-is a y s)) (subst (λ u. e y u ≡ true) (sym (whole-is b z t)) h)
 
 pub left-lifts : (v : ℕ) (m : Bool) (on : List (ℕ × ℕ)) (e f : Equality) → Lifts (left_of v) e (binary_equal v (join m on) e f)
 left-lifts v m on e f a b y z s t h =

@@ -4,7 +4,7 @@ use Rattle.std.proofs.lemmas.Bool.Decides.{nat_tests}
 use Rattle.vx_rows_values.proofs.Booleans.{and-left, and-right, and-both}
 use Rattle.vx_catalog_relations.specs.Relation.{Relation}
 use Rattle.vx_catalog_relations.specs.Catalog.{relation_at, all_below}
-use Rattle.vx_plan_nodes.specs.Plan.{Part, Claim, Unary, select, project, distinct, sort, group, plain, partial, final, Binary, union, join, ExchangeKind, Plan, unary, binary, exchange}
+use Rattle.vx_plan_nodes.specs.Plan.{Part, Claim, Unary, select, project, distinct, sort, group, limit, plain, partial, final, Binary, union, join, semi_join, ExchangeKind, Plan, unary, binary, exchange}
 use Rattle.vx_plan_nodes.specs.Types.{width, part_columns}
 use Rattle.vx_plan_nodes.specs.Describe.{Copying, columns_kept, OrderAfter, described}
 use Rattle.vx_plan_facts.specs.Equal.{Equality}
@@ -38,6 +38,7 @@ pub both-below : (catalog : ℕ → Relation) (n : ℕ) (c : Claim) (op : Binary
     → all_below (width catalog (binary n c op p q)) (binary_order op below) ≡ true
 both-below catalog n c union p q below h = refl
 both-below catalog n c (join m on) p q below h = longer-below (width catalog p) (width catalog p + width catalog q) below (omega arith) h
+both-below catalog n c (semi_join matched on conditions) p q below h = h
 
 kept-whole : {A : Type 0} (cols : List ℕ) → is_whole (columns_kept cols) ≡ true → A
 kept-whole cols e = absurd (true≢false (sym e))
@@ -53,6 +54,7 @@ module _ (catalog : List Relation) (k : rust_known.KnownColumns) where
   sorted-below n c (group plain by aggregates) p h below l whole = kept-whole by whole
   sorted-below n c (group partial by aggregates) p h below l whole = kept-whole by whole
   sorted-below n c (group final by aggregates) p h below l whole = kept-whole by whole
+  sorted-below n c (limit m) p h below l whole = l
 
   pub order-over : (x : Plan) → IsKnownTyped catalog k x → (n : ℕ) (c : Claim) (op : Unary) (p : Plan) → x ≡ unary n c op p → (copying : Copying) (after : OrderAfter)
       → copying ≡ (described op).copying → after ≡ (described op).order → (q : Part) (below : List ℕ) → are_of_input (relation_at catalog) x q below ≡ true

@@ -5,11 +5,11 @@ use Rattle.vx_rows_values.specs.Lists.{is_some_list}
 use Rattle.vx_rows_values.proofs.Booleans.{and-left, and-right}
 use Rattle.vx_catalog_relations.specs.Relation.{Relation}
 use Rattle.vx_catalog_relations.specs.Catalog.{relation_at, all_below, are_distinct}
-use Rattle.vx_plan_nodes.specs.Plan.{Route, by_hash, by_range, Part, one, any, all, routed, Claim, union, join, ExchangeKind, route_to, round, broadcast, gather, concat, Plan, scan, unary, binary, exchange}
+use Rattle.vx_plan_nodes.specs.Plan.{Route, by_hash, by_range, Part, one, any, all, routed, Claim, union, join, semi_join, ExchangeKind, route_to, round, broadcast, gather, concat, Plan, scan, unary, binary, exchange}
 use Rattle.vx_plan_nodes.specs.Parts.{kind_part}
 use Rattle.vx_plan_nodes.specs.Types.{types_of, width, part_columns}
 use Rattle.vx_plan_nodes.specs.Typed.{Scope, typed, is_size, is_kind, is_routed, are_columns}
-use Rattle.vx_plan_nodes.specs.Describe.{Copying, described, left_of, right_of}
+use Rattle.vx_plan_nodes.specs.Describe.{Copying, whole_rows, described, left_of, right_of}
 use Rattle.vx_plan_facts.specs.Equal.{Equality, equal_at}
 use Rattle.vx_plan_facts.specs.Naming.{IsTypedOver}
 use Rattle.vx_plan_facts.proofs.NamedColumns.{types-width}
@@ -84,4 +84,6 @@ over-below catalog (binary n c (join m on) p q) h x y =
     let w : ℕ = width at p + width at q in
     either-below w (is_all x && not (is_all y)) (part_carried w (right_of v) (equal_at at q) y) (part_carried w (left_of v) (equal_at at p) x)
     (carried-below w (right_of v) (equal_at at q) (equal-equivalence at q) y) (carried-below w (left_of v) (equal_at at p) (equal-equivalence at p) x)
+over-below catalog (binary n c (semi_join matched on conditions) p q) h x y =
+    let at : ℕ → Relation = relation_at catalog in carried-below (width at p) whole_rows (equal_at at p) (equal-equivalence at p) x
 over-below catalog (exchange n c k m p) h x y = sent-named catalog n c k m p h

@@ -16,7 +16,7 @@ use Rattle.vx_check_rules.proofs.EqualBelow.{SameBelow}
 use Rattle.std.proofs.lemmas.Bool.{eqb-true}
 use Rattle.vx_catalog_relations.specs.Relation.{Relation}
 use Rattle.vx_catalog_relations.specs.Catalog.{relation_at}
-use Rattle.vx_plan_nodes.specs.Plan.{Claim, Unary, Binary, union, join, Plan, unary, binary}
+use Rattle.vx_plan_nodes.specs.Plan.{Claim, Unary, Binary, union, join, semi_join, Plan, unary, binary}
 use Rattle.vx_plan_nodes.specs.Types.{width}
 use Rattle.vx_plan_nodes.specs.Describe.{Copying, described, DescribedBoth, described_both}
 use Rattle.vx_plan_facts.specs.declared.facts.ColumnFacts.{ColumnFacts}
@@ -164,6 +164,15 @@ module _ (catalog : List Relation) (known : KnownColumns) (n : ℕ) (c : Claim) 
       record {
         left = record { copies = record { known = both.0; reaches = (known-left at _ top h.known.known).reaches }; named = l };
         right = record { copies = record { known = both.1; reaches = (known-right at _ top h.known.known).reaches }; named = m };
+        beside = λ none. cc;
+      }
+  both-of (semi_join matched on conditions) h l m =
+      let at = relation_at catalog in
+      let top : Plan = binary n c (semi_join matched on conditions) p q in
+      let both = known-both at known n c (semi_join matched on conditions) p q h.known in
+      record {
+        left = record { copies = record { known = both.0; reaches = whole-reaches (width at p) }; named = l };
+        right = record { copies = record { known = both.1; reaches = λ a b h e. cc }; named = m };
         beside = λ none. cc;
       }
 

@@ -5,7 +5,7 @@ use Rattle.vx_rows_values.specs.declared.value.ColType.{ColType}
 use Rattle.vx_rows_values.proofs.Booleans.{and-left, and-right, and-both}
 use Rattle.vx_catalog_relations.specs.Relation.{Relation}
 use Rattle.vx_catalog_relations.specs.Catalog.{relation_at}
-use Rattle.vx_plan_nodes.specs.Plan.{any, Claim, Aggregate, Size, select, project, distinct, sort, group, plain, partial, final, Unary, Plan, scan, unary, binary, exchange, claim, size}
+use Rattle.vx_plan_nodes.specs.Plan.{any, Claim, Aggregate, Size, select, project, distinct, sort, group, limit, plain, partial, final, Unary, Plan, scan, unary, binary, exchange, claim, size}
 use Rattle.vx_plan_nodes.specs.Types.{types_of, unary_types, binary_types, width, unary_width, binary_width}
 use Rattle.vx_plan_nodes.specs.Phases.{unary_open, is_open, unary_opens, opens, phase_fits, both_closed}
 use Rattle.vx_plan_nodes.specs.Typed.{Scope, are_columns, is_size, is_part, is_unary, is_binary, is_kind, may_merge, is_claim, is_output, typed}
@@ -69,6 +69,7 @@ fits-bare (sort true cols) p = open-bare p
 fits-bare (group plain by aggregates) p = ap not (open-bare p)
 fits-bare (group partial by aggregates) p = ap not (open-bare p)
 fits-bare (group final by aggregates) p = opens-bare by aggregates p
+fits-bare (limit m) p = ap not (open-bare p)
 
 closed-bare : (p q : Plan) → both_closed (bare p) (bare q) ≡ both_closed p q
 closed-bare p q = λ i. not (open-bare p i) && not (open-bare q i)

@@ -4,10 +4,10 @@ use Rattle.std.specs.List.{list_any}
 use Rattle.vx_rows_values.proofs.Booleans.{and-left, and-right, and-both}
 use Rattle.vx_catalog_relations.specs.Relation.{Relation}
 use Rattle.vx_catalog_relations.specs.Catalog.{relation_at}
-use Rattle.vx_plan_nodes.specs.Plan.{Route, Part, one, any, all, routed, Claim, claim, Unary, union, join, ExchangeKind, route_to, round, broadcast, gather, concat, Plan, scan, unary, binary, exchange, size, is_one, target}
+use Rattle.vx_plan_nodes.specs.Plan.{Route, Part, one, any, all, routed, Claim, claim, Condition, Unary, union, join, semi_join, ExchangeKind, route_to, round, broadcast, gather, concat, Plan, scan, unary, binary, exchange, size, is_one, target}
 use Rattle.vx_plan_nodes.specs.Parts.{kind_part}
 use Rattle.vx_plan_nodes.specs.Types.{width}
-use Rattle.vx_plan_nodes.specs.Describe.{Copying, left_of, right_of, described}
+use Rattle.vx_plan_nodes.specs.Describe.{Copying, whole_rows, left_of, right_of, described}
 use Rattle.vx_plan_facts.specs.Equal.{Equality, equal_at}
 use Rattle.vx_plan_facts.specs.Following.{equal_lists}
 use Rattle.vx_plan_facts.proofs.Tests.{or-cases, or-left, or-right}
@@ -288,6 +288,55 @@ module _ (catalog : List Relation) (n : ℕ) (c : Claim) where
     join-shown : inputs_match_derived at top ≡ true → passes at top (part_apart w (equal_at at top) (part_over at top (claim p).part (claim q).part)) ≡ true
     join-shown h = by-match (is_all (claim p).part && not (is_all (claim q).part)) refl (matched h)
 
+  -- ---- left rows that are kept where they are matched
+
+  module _ (matched : Bool) (on : List (ℕ × ℕ)) (cs : List Condition) (p q : Plan) (several : is_one (size p) ≡ false) (spread : is_of_one (claim p).part ≡ false) where
+    abbrev kept : Plan
+    kept = binary n c (semi_join matched on cs) p q
+
+    abbrev meet : Bool
+    meet = routed_alike_equally (equal_at at p) (equal_at at q) on (claim p).part (claim q).part
+
+    -- a part that the left input has is shown where the right one has all rows
+    over-all : has q all ≡ true → (z : Part) → (unless_one (shows at kept) z ≡ ((routed_alike on (claim p).part (claim q).part && part_gives (claim p).part z) || (has q all && has p z)))
+        → part_gives (claim p).part z ≡ true → passes at kept z ≡ true
+    over-all h z is k =
+        or-left (unless_one (shows at kept) z) (part_derived at kept z)
+        (is ∙ or-right (routed_alike on (claim p).part (claim q).part && part_gives (claim p).part z) (has q all && has p z)
+        (and-both (has q all) (has p z) h (or-right (is_one (size p)) (part_gives (claim p).part z) k)))
+
+    kept-any : (has q all ≡ true) ⊎ (meet ≡ true) → part_gives (claim p).part any ≡ true → passes at kept any ≡ true
+    kept-any (inl h) k = over-all h any refl k
+    kept-any (inr h) k =
+        by-equal kept any (or-left meet ((has q all || meet) && routed_as (width at p) whole_rows (equal_at at p) (equal_at at p) (claim p).part any) h)
+
+    kept-all : (has q all ≡ true) ⊎ (meet ≡ true) → part_gives (claim p).part all ≡ true → passes at kept all ≡ true
+    kept-all (inl h) k = over-all h all refl k
+    kept-all (inr h) k = absurd (true≢false (sym (is-all (claim p).part k) ∙ alike-any (equal_at at p) (equal_at at q) on (claim p).part (claim q).part h))
+
+    meets-so : (has q all ≡ true) ⊎ (meet ≡ true) → (has q all || meet) ≡ true
+    meets-so (inl h) = or-left (has q all) meet h
+    meets-so (inr h) = or-right (has q all) meet h
+
+    -- the inputs match by one of two ways
+    fitting : inputs_match_derived at kept ≡ true → (has q all ≡ true) ⊎ (meet ≡ true)
+    fitting h =
+        ⊎_elim
+        (λ l. ⊎_elim (λ i. inr (alike-more (equal_at at p) (equal_at at q) (equal-equivalence at p) (equal-equivalence at q) on (claim p).part (claim q).part i)) (λ i. inl i)
+        (or-cases (routed_alike on (claim p).part (claim q).part) (has q all) (or-alone (is_one (size p)) (routed_alike on (claim p).part (claim q).part || has q all) several l)))
+        (λ r. inr r)
+        (or-cases (inputs_match kept) meet h)
+
+    by-fit : (has q all ≡ true) ⊎ (meet ≡ true) → passes at kept (part_apart (width at p) (equal_at at p) (part_carried (width at p) whole_rows (equal_at at p) (claim p).part)) ≡ true
+    by-fit h =
+        carried-cases (width at p) whole_rows (equal_at at p) (equal_at at p) (equal-equivalence at p) (equal-equivalence at p) (λ z. passes at kept z ≡ true) (claim p).part spread
+        (kept-any h) (kept-all h)
+        (λ r ts k. by-equal kept (routed r ts)
+        (and-both (has q all || meet) (routed_as (width at p) whole_rows (equal_at at p) (equal_at at p) (claim p).part (routed r ts)) (meets-so h) k))
+
+    semi-shown : inputs_match_derived at kept ≡ true → passes at kept (part_apart (width at p) (equal_at at p) (part_over at kept (claim p).part (claim q).part)) ≡ true
+    semi-shown h = by-fit (fitting h)
+
   -- ---- exchanges and scans
 
   sent-shown : (k : ExchangeKind) (o : List ℕ) (p : Plan) → is_one (target k) ≡ false
@@ -312,6 +361,8 @@ over-shown catalog (binary n c (join m on) p q) several sizes match spread =
     join-shown catalog n c m on p q several (both-several (size p) (size q) sizes several)
     (not-true (is_of_one (claim p).part) (and-left (not (is_of_one (claim p).part)) (not (is_of_one (claim q).part)) spread))
     (not-true (is_of_one (claim q).part) (and-right (not (is_of_one (claim p).part)) (not (is_of_one (claim q).part)) spread)) match
+over-shown catalog (binary n c (semi_join matched on cs) p q) several sizes match spread =
+    semi-shown catalog n c matched on cs p q several (not-true (is_of_one (claim p).part) (and-left (not (is_of_one (claim p).part)) (not (is_of_one (claim q).part)) spread)) match
 over-shown catalog (exchange n c k m p) several sizes match spread = sent-shown catalog n c k m p several
 
 pub part-shown : PartShown

@@ -7,7 +7,7 @@ use Rattle.vx_rows_values.specs.Lists.{is_some_list}
 use Rattle.vx_rows_values.proofs.Booleans.{and-left, and-right, and-both}
 use Rattle.vx_catalog_relations.specs.Relation.{Relation}
 use Rattle.vx_catalog_relations.specs.Catalog.{relation_at, all_below, are_distinct, IsCatalog, IsRelation}
-use Rattle.vx_plan_nodes.specs.Plan.{Claim, claim, Size, Unary, sort, union, join, ExchangeKind, Plan, scan, unary, binary, exchange}
+use Rattle.vx_plan_nodes.specs.Plan.{Claim, claim, Size, Unary, sort, union, join, semi_join, ExchangeKind, Plan, scan, unary, binary, exchange}
 use Rattle.vx_plan_nodes.specs.Phases.{first_columns, phase_fits, both_closed}
 use Rattle.vx_plan_nodes.specs.Typed.{Scope, are_columns, is_unary, is_kind, typed}
 use Rattle.vx_plan_nodes.specs.Types.{types_of, width, part_columns, names_columns, well_formed}
@@ -97,6 +97,10 @@ claim-named catalog (binary n c union p q) h =
     (and-right (well_formed catalog q) (both_closed p q && (wide && named)) (and-right (well_formed catalog p) (well_formed catalog q && (both_closed p q && (wide && named))) h)))
 claim-named catalog (binary n c (join m on) p q) h =
     let named = names_columns (width catalog (binary n c (join m on) p q)) c in
+    and-right (both_closed p q) named
+    (and-right (well_formed catalog q) (both_closed p q && named) (and-right (well_formed catalog p) (well_formed catalog q && (both_closed p q && named)) h))
+claim-named catalog (binary n c (semi_join matched on conditions) p q) h =
+    let named = names_columns (width catalog p) c in
     and-right (both_closed p q) named
     (and-right (well_formed catalog q) (both_closed p q && named) (and-right (well_formed catalog p) (well_formed catalog q && (both_closed p q && named)) h))
 claim-named catalog (exchange n c k m p) h = and-right (well_formed catalog p) (names_columns (width catalog p) c) h

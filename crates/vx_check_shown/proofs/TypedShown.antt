@@ -11,7 +11,7 @@ use Rattle.vx_rows_values.specs.Lists.{is_some_list}
 use Rattle.vx_rows_values.proofs.Booleans.{and-left, and-right, and-both}
 use Rattle.vx_catalog_relations.specs.Relation.{Relation}
 use Rattle.vx_catalog_relations.specs.Catalog.{relation_at, all_below, are_distinct}
-use Rattle.vx_plan_nodes.specs.Plan.{Route, by_hash, by_range, Part, one, any, all, routed, column, constant, Test, equal, unequal, below, at_most, above, at_least, Side, Condition, Unary, select, project, distinct, sort, group, plain, partial, final, Binary, union, join, ExchangeKind, route_to, round, broadcast, gather, concat, Plan, scan, unary, binary, exchange, size, is_one}
+use Rattle.vx_plan_nodes.specs.Plan.{Route, by_hash, by_range, Part, one, any, all, routed, column, constant, Test, equal, unequal, below, at_most, above, at_least, Side, Condition, Unary, select, project, distinct, sort, group, limit, plain, partial, final, Binary, union, join, semi_join, ExchangeKind, route_to, round, broadcast, gather, concat, Plan, scan, unary, binary, exchange, size, is_one}
 use Rattle.vx_plan_nodes.specs.Parts.{kind_part}
 use Rattle.vx_plan_nodes.specs.Describe.{Copying, whole_rows, columns_kept, left_of, right_of, source, described, described_both}
 use Rattle.vx_plan_nodes.specs.Types.{unary_types, binary_types, aggregate_type, types_of, width}
@@ -100,6 +100,7 @@ carries-unary (sort of_parts cols) ts = carries-whole ts
 carries-unary (group plain by aggregates) ts = carries-kept by ts (map (aggregate_type ts) aggregates)
 carries-unary (group partial by aggregates) ts = carries-kept by ts (map (aggregate_type ts) aggregates)
 carries-unary (group final by aggregates) ts = carries-kept by ts (map (aggregate_type ts) aggregates)
+carries-unary (limit m) ts = carries-whole ts
 
 -- ---- equal columns of nodes
 
@@ -157,6 +158,7 @@ unary-types (project cols) e ts h same = lifted-types (described (project cols))
 unary-types (distinct cols) e ts h same = lifted-types (described (distinct cols)).copying e ts _ (carries-unary (distinct cols) ts) same
 unary-types (sort of_parts cols) e ts h same = lifted-types (described (sort of_parts cols)).copying e ts _ (carries-unary (sort of_parts cols) ts) same
 unary-types (group phase by aggregates) e ts h same = lifted-types (described (group phase by aggregates)).copying e ts _ (carries-unary (group phase by aggregates) ts) same
+unary-types (limit m) e ts h same = lifted-types (described (limit m)).copying e ts _ (carries-unary (limit m) ts) same
 
 pub typed-equal : (s : Scope) (p : Plan) → typed s p ≡ true → EqualTypes (equal_at (relation_at s.catalog) p) (types_of (relation_at s.catalog) p)
 typed-equal s (scan n c r m z) h = λ a b k. ap (type_at (types_of (relation_at s.catalog) (scan n c r m z))) (eqb-true a b k)
@@ -180,6 +182,7 @@ typed-equal s (binary n c (join m on) p q) h =
     (either-types (lifted (left_of w) (equal_at C p)) (lifted (right_of w) (equal_at C q)) (ts ++ us)
     (lifted-types (left_of w) (equal_at C p) ts (ts ++ us) (carries-left w ts us wide) (typed-equal s p (and-left (typed s p) _ h)))
     (lifted-types (right_of w) (equal_at C q) us (ts ++ us) (carries-right w ts us wide) (typed-equal s q (and-left (typed s q) _ rest))))
+typed-equal s (binary n c (semi_join matched on conditions) p q) h = typed-equal s p (and-left (typed s p) _ h)
 typed-equal s (exchange n c k m p) h = typed-equal s p (and-left (typed s p) _ h)
 
 -- ---- routes whose columns may stand twice
@@ -366,6 +369,11 @@ over-loose s (binary n c (join m on) p q) h x y k =
     (loose-part s us y (and-right (is_part s ts x) (is_part s us y) k)))
     (carried-loose w (left_of v) (equal_at C p) (equal-equivalence C p) ts (ts ++ us) wide (carries-left v ts us first) (typed-equal s p (and-left (typed s p) _ h)) s x
     (loose-part s ts x (and-left (is_part s ts x) (is_part s us y) k)))
+over-loose s (binary n c (semi_join matched on conditions) p q) h x y k =
+    let C : ℕ → Relation = relation_at s.catalog in
+    let ts = types_of C p in
+    carried-loose (width C p) whole_rows (equal_at C p) (equal-equivalence C p) ts ts (types-width C p) (carries-whole ts) (typed-equal s p (and-left (typed s p) _ h)) s x
+    (loose-part s ts x (and-left (is_part s ts x) (is_part s (types_of C q) y) k))
 over-loose s (exchange n c k m p) h x y l =
     let ts = types_of (relation_at s.catalog) p in kind-loose s ts k (and-left (is_kind s ts k) _ (and-right (typed s p) _ h))
 

@@ -1,10 +1,10 @@
 -- The parts of a node's inputs, as the program holds them.
-use Rattle.std.specs.Prelude.{◌≡◌, ◌≤◌, ℕ, true, List, None}
+use Rattle.std.specs.Prelude.{◌≡◌, ◌≤◌, ℕ, true, List}
 use Rattle.vx_catalog_relations.specs.Relation.{Relation}
 use Rattle.vx_catalog_relations.specs.Catalog.{relation_at, all_below}
 use Rattle.vx_plan_nodes.specs.Plan.{Part, Plan}
 use Rattle.vx_plan_nodes.specs.Types.{width, part_columns}
-use Rattle.vx_plan_nodes.specs.Describe.{Copying, DescribedBoth}
+use Rattle.vx_plan_nodes.specs.Describe.{Copying, side_by_side, DescribedBoth}
 use Rattle.vx_plan_nodes.specs.declared.typed.TypedNode as rust_node
 use Rattle.vx_plan_nodes.specs.Outline.{outline_of, plan_of}
 use Rattle.vx_plan_nodes.specs.Outputs.{HasOutputs}
@@ -31,7 +31,7 @@ pub record AreBeside (catalog : ℕ → Relation) (k : rust_known.KnownColumns) 
 pub record AreBothCopied (catalog : ℕ → Relation) (k : rust_known.KnownColumns) (p q : Plan) (w : ℕ) (d : DescribedBoth) (x y : Part) : Type 0 where
   pub left : IsCopied catalog k p w d.left x
   pub right : IsCopied catalog k q w d.right y
-  pub beside : d.pairs ≡ None → AreBeside catalog k p q w x y
+  pub beside : d.meeting ≡ side_by_side → AreBeside catalog k p q w x y
 
 -- parts of the inputs of a typed node, of whose columns is known
 pub record AreInputParts (catalog : List Relation) (k : rust_known.KnownColumns) (t : rust_node.TypedNode) (left right : Part) : Type 0 where

@@ -7,7 +7,7 @@ use Rattle.vx_plan_nodes.specs.Plan.{Part, one, any, all, routed, Plan, scan, un
 use Rattle.vx_plan_nodes.specs.Parts.{kind_part}
 use Rattle.vx_plan_nodes.specs.Phases.{first_columns}
 use Rattle.vx_plan_nodes.specs.Types.{width, part_columns}
-use Rattle.vx_plan_nodes.specs.Describe.{Copying, place, described, DescribedBoth, described_both}
+use Rattle.vx_plan_nodes.specs.Describe.{Copying, place, described, Meeting, side_by_side, paired_on, matched_on, DescribedBoth, described_both}
 use Rattle.vx_plan_facts.specs.Equal.{Equality, equal_at}
 use Rattle.vx_check_rules.specs.Refusal.{or_else}
 use Rattle.vx_check_rules.specs.Rules.{route_eq, contains, cons_both}
@@ -69,10 +69,11 @@ part_of_union w e f x y = cond (is_all x && is_all y) all (routed_in_common w e 
 abbrev pub part_of_join : ℕ → (first second : Copying) → (left right : Equality) → Part → Part → Part
 part_of_join w k l e f x y = cond (is_all x && not (is_all y)) (part_carried w l f y) (part_carried w k e x)
 
--- of an operator over two inputs
-abbrev pub part_of_both : ℕ → Option (List (ℕ × ℕ)) → DescribedBoth → (left right : Equality) → Part → Part → Part
-part_of_both w None d e f x y = part_of_union w e f x y
-part_of_both w (Some on) d e f x y = part_of_join w d.left d.right e f x y
+-- of an operator over two inputs; of left rows that are kept where they are matched, the left input's part
+abbrev pub part_of_both : ℕ → Meeting → DescribedBoth → (left right : Equality) → Part → Part → Part
+part_of_both w side_by_side d e f x y = part_of_union w e f x y
+part_of_both w (paired_on on) d e f x y = part_of_join w d.left d.right e f x y
+part_of_both w (matched_on on) d e f x y = part_carried w d.left e x
 
 -- ---- no column twice
 
@@ -99,7 +100,7 @@ abbrev pub part_over : (ℕ → Relation) → Plan → (left right : Part) → P
 part_over catalog (scan n c r shared z) x y = cond shared any all
 part_over catalog (unary n c op p) x y = part_carried (width catalog (unary n c op p)) (described op).copying (equal_at catalog p) x
 part_over catalog (binary n c op p q) x y =
-    part_of_both (width catalog (binary n c op p q)) (described_both (width catalog p) op).pairs (described_both (width catalog p) op) (equal_at catalog p) (equal_at catalog q) x y
+    part_of_both (width catalog (binary n c op p q)) (described_both (width catalog p) op).meeting (described_both (width catalog p) op) (equal_at catalog p) (equal_at catalog q) x y
 part_over catalog (exchange n c k m p) x y = kind_part k
 
 -- the part that a node shows where its inputs have these; a node with fewer inputs looks at the first one alone, or at none

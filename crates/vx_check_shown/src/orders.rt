@@ -60,7 +60,7 @@ fn is_whole(copying: Copying<'_>) -> bool
 {
     match copying {
         Copying::WholeRows => true,
-        Copying::Kept(_) | Copying::Left(_) | Copying::Right(_) => false,
+        Copying::Kept(_) | Copying::Left(_) | Copying::Right(_) | Copying::NoColumns => false,
     }
 }
 

@@ -23,8 +23,8 @@ use std::alloc::{AllocError, Global};
 use vx_check_rules::{are_equal, copy_of, has_one_worker, is_same_route};
 use vx_plan_facts::{ColumnFacts, KnownColumns};
 use vx_plan_nodes::{
-    Copying, DescribedBoth, ExchangeKind, Part, Route, TypedNode, copied_part, output_types,
-    routed_part,
+    Copying, DescribedBoth, ExchangeKind, Meeting, Part, Route, TypedNode, copied_part,
+    output_types, routed_part,
 };
 
 // An input of a node, and the part that it has.
@@ -263,12 +263,13 @@ fn part_of_both(
 ) -> Result<Part, AllocError>
     requires { (catalog : ℕ → Relation) × AreBothCopied catalog known.now (plan_of left.node.now) (plan_of right.node.now) outputs (described_both_of described) (part_of left.part.now) (part_of right.part.now) }
     ensures { (catalog : ℕ → Relation) → AreBothCopied catalog known.now (plan_of left.entry.node.now) (plan_of right.entry.node.now) outputs (described_both_of described.entry) (part_of left.entry.part.now) (part_of right.entry.part.now)
-        → IfOk result (λ q. part_of q ≡ part_of_both outputs (described_both_of described.entry).pairs (described_both_of described.entry) (equal_at catalog (plan_of left.entry.node.now)) (equal_at catalog (plan_of right.entry.node.now))
+        → IfOk result (λ q. part_of q ≡ part_of_both outputs (described_both_of described.entry).meeting (described_both_of described.entry) (equal_at catalog (plan_of left.entry.node.now)) (equal_at catalog (plan_of right.entry.node.now))
         (part_of left.entry.part.now) (part_of right.entry.part.now)) }
 {
-    match described.pairs {
-        None => part_of_union(alloc, outputs, known, left, right),
-        Some(_) => part_of_join(alloc, described, outputs, known, left, right),
+    match described.meeting {
+        Meeting::SideBySide => part_of_union(alloc, outputs, known, left, right),
+        Meeting::PairedOn(_) => part_of_join(alloc, described, outputs, known, left, right),
+        Meeting::MatchedOn(_) => part_carried(alloc, described.left, outputs, known, left),
     }
 }
 

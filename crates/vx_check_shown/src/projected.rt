@@ -106,6 +106,7 @@ fn stand_ins_over(
         Unary::Distinct(_) => Ok(Vec::new(alloc)),
         Unary::Sort(_, _) => Ok(Vec::new(alloc)),
         Unary::Group(_, _, _) => Ok(Vec::new(alloc)),
+        Unary::Limit(_) => Ok(Vec::new(alloc)),
     }
 }
 

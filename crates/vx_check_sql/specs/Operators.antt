@@ -1,12 +1,12 @@
 -- What each operator is in SQL: a SELECT from the rows of the nodes below it, whose columns it names by its own alias.
-use Rattle.std.specs.Prelude.{ℕ, suc, ◌++◌, ◌==◌, nat_lt, false, cond, List, [], ◌∷◌, map, length, codes, Option, Some, None}
+use Rattle.std.specs.Prelude.{ℕ, suc, ◌-◌, ◌++◌, ◌==◌, nat_lt, Bool, true, false, cond, List, [], ◌∷◌, map, length, codes, decimal, Option, Some, None}
 use Rattle.vx_rows_values.specs.declared.value.ColType.{ColType}
 use Rattle.vx_rows_values.specs.declared.value.ColType.TheVariants.{Text}
 use Rattle.vx_rows_values.specs.Values.{Name}
 use Rattle.vx_rows_values.specs.Types.{type_at}
 use Rattle.vx_rows_values.specs.Test.{test_text}
 use Rattle.vx_catalog_relations.specs.Relation.{Relation}
-use Rattle.vx_plan_nodes.specs.Plan.{Side, column, constant, Condition, Aggregate, least, greatest, sum, count_rows, Unary, select, project, distinct, sort, group, Binary, union, join}
+use Rattle.vx_plan_nodes.specs.Plan.{Side, column, constant, Condition, Aggregate, least, greatest, sum, count_rows, Unary, select, project, distinct, sort, group, limit, Binary, union, join, semi_join}
 use Rattle.vx_check.specs.Explain.{separated}
 use Rattle.vx_check_sql.specs.declared.dialect.Dialect.{Dialect}
 use Rattle.vx_check_sql.specs.declared.dialect.Dialect.TheVariants.{Sqlite, Postgres, ClickHouse}
@@ -86,7 +86,7 @@ aggregate_sql d m (greatest c) = codes "max(" ++ (column_name m c ++ codes ")")
 aggregate_sql d m (sum c) = sum_before d ++ (column_name m c ++ sum_after d)
 aggregate_sql d m count_rows = count_sql d
 
--- ---- operators over one input: node n over the rows of node m, which have these types
+-- ---- operators over one input: node n over the rows of node m, which have these types and claim this order
 
 -- the key columns, and then the aggregates
 unfoldable pub group_columns : Dialect → (m n : Alias) → List ℕ → List Aggregate → List ℕ
@@ -97,6 +97,15 @@ abbrev pub grouping_sql : Alias → List ℕ → List ℕ
 grouping_sql m [] = codes " HAVING count(*) > 0"
 grouping_sql m (c ∷ cs) = codes " GROUP BY " ++ separated (codes ", ") false (map (column_name m) (c ∷ cs))
 
+-- the rows of node m in this order
+abbrev pub order_sql : Alias → List ℕ → List ℕ
+order_sql m [] = []
+order_sql m (c ∷ cs) = codes " ORDER BY " ++ separated (codes ", ") false (map (column_of m) (c ∷ cs))
+
+-- the first rows in this order, which is total where the checker accepts the plan
+unfoldable pub limit_sql : Alias → List ℕ → ℕ → List ℕ
+limit_sql m order n = order_sql m order ++ (codes " LIMIT " ++ decimal n)
+
 -- what the SELECT gives
 unfoldable pub unary_columns : Dialect → (m n : Alias) → List ColType → Unary → List ℕ
 unary_columns d m n types (select cs) = all_columns m n types
@@ -104,17 +113,19 @@ unary_columns d m n types (project cols) = kept_columns m n cols
 unary_columns d m n types (distinct cols) = codes "DISTINCT " ++ kept_columns m n cols
 unary_columns d m n types (sort of_parts cols) = all_columns m n types
 unary_columns d m n types (group phase by aggregates) = group_columns d m n by aggregates
+unary_columns d m n types (limit rows) = all_columns m n types
 
 -- of which rows, and in which groups
-unfoldable pub unary_clause : Dialect → Alias → Unary → List ℕ
-unary_clause d m (select cs) = codes " WHERE " ++ separated (codes " AND ") false (map (condition_sql d m) cs)
-unary_clause d m (project cols) = []
-unary_clause d m (distinct cols) = []
-unary_clause d m (sort of_parts cols) = []
-unary_clause d m (group phase by aggregates) = grouping_sql m by
+unfoldable pub unary_clause : Dialect → Alias → (order : List ℕ) → Unary → List ℕ
+unary_clause d m order (select cs) = codes " WHERE " ++ separated (codes " AND ") false (map (condition_sql d m) cs)
+unary_clause d m order (project cols) = []
+unary_clause d m order (distinct cols) = []
+unary_clause d m order (sort of_parts cols) = []
+unary_clause d m order (group phase by aggregates) = grouping_sql m by
+unary_clause d m order (limit rows) = limit_sql m order rows
 
-unfoldable pub unary_sql : Dialect → (m n : Alias) → List ColType → Unary → (rows : List ℕ) → List ℕ
-unary_sql d m n types op rows = codes "SELECT " ++ (unary_columns d m n types op ++ (codes " FROM " ++ (rows ++ unary_clause d m op)))
+unfoldable pub unary_sql : Dialect → (m n : Alias) → List ColType → (order : List ℕ) → Unary → (rows : List ℕ) → List ℕ
+unary_sql d m n types order op rows = codes "SELECT " ++ (unary_columns d m n types op ++ (codes " FROM " ++ (rows ++ unary_clause d m order op)))
 
 -- ---- operators over two inputs: node n over the rows of node l, of types ts, and of node r, of types us
 
@@ -145,21 +156,51 @@ abbrev pub join_word : Dialect → List ℕ
 join_word ClickHouse = codes " ALL INNER JOIN "
 join_word d = codes " INNER JOIN "
 
+-- a column of the left rows, which have w columns, or one of the right rows behind them
+abbrev pub column_of_both : (l r : Alias) (w : ℕ) → ℕ → List ℕ
+column_of_both l r w c = cond (nat_lt c w) (column_of l c) (column_of r (c - w))
+
+abbrev pub side_of_both : Dialect → (l r : Alias) (w : ℕ) → Side → List ℕ
+side_of_both d l r w (column c) = column_of_both l r w c
+side_of_both d l r w (constant v) = value_sql d v
+
+unfoldable pub condition_of_both : Dialect → (l r : Alias) (w : ℕ) → Condition → List ℕ
+condition_of_both d l r w c = column_of_both l r w c.left ++ (codes " " ++ (test_text c.test ++ (codes " " ++ side_of_both d l r w c.right)))
+
+-- which right rows match a left one: on these pairs, and under these conditions
+unfoldable pub matching_sql : Dialect → (l r : Alias) (w : ℕ) → List (ℕ × ℕ) → List Condition → List ℕ
+matching_sql d l r w on conditions =
+    separated (codes " AND ") false (map (pair_sql l r) on) ++ separated (codes " AND ") true (map (condition_of_both d l r w) conditions)
+
+-- the left rows that some right row matches, or those that none does: ClickHouse has joins for them
+abbrev pub semi_join_word : Dialect → (matched : Bool) → List ℕ
+semi_join_word Sqlite matched = cond matched (codes " WHERE EXISTS (SELECT 1 FROM ") (codes " WHERE NOT EXISTS (SELECT 1 FROM ")
+semi_join_word Postgres matched = cond matched (codes " WHERE EXISTS (SELECT 1 FROM ") (codes " WHERE NOT EXISTS (SELECT 1 FROM ")
+semi_join_word ClickHouse matched = cond matched (codes " SEMI LEFT JOIN ") (codes " ANTI LEFT JOIN ")
+
+abbrev pub semi_join_clause : Dialect → (matching : List ℕ) → List ℕ
+semi_join_clause Sqlite matching = codes " WHERE " ++ (matching ++ codes ")")
+semi_join_clause Postgres matching = codes " WHERE " ++ (matching ++ codes ")")
+semi_join_clause ClickHouse matching = codes " ON " ++ matching
+
 -- what the SELECT gives
 unfoldable pub binary_columns : (l r n : Alias) → (ts us : List ColType) → Binary → List ℕ
 binary_columns l r n ts us union = all_columns l n ts
 binary_columns l r n ts us (join merging on) = join_columns l r n ts us on
+binary_columns l r n ts us (semi_join matched on conditions) = all_columns l n ts
 
 -- what stands between the left rows and the right ones
 unfoldable pub binary_word : Dialect → (r n : Alias) → (us : List ColType) → Binary → List ℕ
 binary_word d r n us union = codes " UNION ALL SELECT " ++ (all_columns r n us ++ codes " FROM ")
 binary_word d r n us (join merging on) = join_word d
+binary_word d r n us (semi_join matched on conditions) = semi_join_word d matched
 
--- which rows go together
-unfoldable pub binary_clause : (l r : Alias) → Binary → List ℕ
-binary_clause l r union = []
-binary_clause l r (join merging on) = codes " ON " ++ separated (codes " AND ") false (map (pair_sql l r) on)
+-- which rows go together, where the left ones have w columns
+unfoldable pub binary_clause : Dialect → (l r : Alias) (w : ℕ) → Binary → List ℕ
+binary_clause d l r w union = []
+binary_clause d l r w (join merging on) = codes " ON " ++ separated (codes " AND ") false (map (pair_sql l r) on)
+binary_clause d l r w (semi_join matched on conditions) = semi_join_clause d (matching_sql d l r w on conditions)
 
 unfoldable pub binary_sql : Dialect → (l r n : Alias) → (ts us : List ColType) → Binary → (lefts rights : List ℕ) → List ℕ
 binary_sql d l r n ts us op lefts rights =
-    codes "SELECT " ++ (binary_columns l r n ts us op ++ (codes " FROM " ++ (lefts ++ (binary_word d r n us op ++ (rights ++ binary_clause l r op)))))
+    codes "SELECT " ++ (binary_columns l r n ts us op ++ (codes " FROM " ++ (lefts ++ (binary_word d r n us op ++ (rights ++ binary_clause d l r (length ts) op)))))

@@ -1,5 +1,5 @@
 -- A plan without its exchanges as one statement of SQL.
-use Rattle.std.specs.Prelude.{ℕ, suc, ◌++◌, false, List, [], ◌∷◌, map, codes}
+use Rattle.std.specs.Prelude.{ℕ, suc, ◌++◌, false, List, [], ◌∷◌, codes}
 use Rattle.vx_rows_values.specs.Values.{Name}
 use Rattle.vx_catalog_relations.specs.Catalog.{relation_at}
 use Rattle.vx_plan_nodes.specs.Names.{Names}
@@ -10,9 +10,9 @@ use Rattle.vx_check.specs.Explain.{separated}
 use Rattle.vx_check_sql.specs.declared.dialect.Dialect.{Dialect}
 use Rattle.vx_check_sql.specs.declared.dialect.Dialect.TheVariants.{Sqlite, Postgres, ClickHouse}
 use Rattle.vx_check_sql.specs.declared.words.Alias.{Alias}
-use Rattle.vx_check_sql.specs.Words.{identifier, alias, node_name, column_name, column_of}
+use Rattle.vx_check_sql.specs.Words.{identifier, alias, node_name, column_name}
 use Rattle.vx_check_sql.specs.OwnNames.{underscores}
-use Rattle.vx_check_sql.specs.Operators.{scan_sql, unary_sql, binary_sql}
+use Rattle.vx_check_sql.specs.Operators.{scan_sql, order_sql, unary_sql, binary_sql}
 
 -- how many underscores the names of a statement have is k throughout
 
@@ -37,7 +37,7 @@ table_as n rows = node_name n ++ (codes " AS (" ++ (rows ++ codes ")"))
 abbrev pub tables : Dialect → (k : ℕ) → Names → Outline → List ℕ
 tables d k s (scan h r m z p) = table_as (named_by k h) (scan_sql d (named_by k h) (relation_at s.catalog r))
 tables d k s (unary h op f t) =
-    tables d k s t ++ (codes ",\n" ++ table_as (named_by k h) (unary_sql d (maker k t) (named_by k h) (columns t).types op (node_name (maker k t))))
+    tables d k s t ++ (codes ",\n" ++ table_as (named_by k h) (unary_sql d (maker k t) (named_by k h) (columns t).types (top t).claim.order op (node_name (maker k t))))
 tables d k s (binary h op t u) =
     tables d k s t ++ (codes ",\n" ++ (tables d k s u ++ (codes ",\n" ++
     table_as (named_by k h) (binary_sql d (maker k t) (maker k u) (named_by k h) (columns t).types (columns u).types op (node_name (maker k t)) (node_name (maker k u))))))
@@ -51,7 +51,7 @@ within n rows = codes "(" ++ (rows ++ (codes ") AS " ++ node_name n))
 
 abbrev pub nested : Dialect → (k : ℕ) → Names → Outline → List ℕ
 nested d k s (scan h r m z p) = scan_sql d (named_by k h) (relation_at s.catalog r)
-nested d k s (unary h op f t) = unary_sql d (maker k t) (named_by k h) (columns t).types op (within (maker k t) (nested d k s t))
+nested d k s (unary h op f t) = unary_sql d (maker k t) (named_by k h) (columns t).types (top t).claim.order op (within (maker k t) (nested d k s t))
 nested d k s (binary h op t u) =
     binary_sql d (maker k t) (maker k u) (named_by k h) (columns t).types (columns u).types op (within (maker k t) (nested d k s t)) (within (maker k u) (nested d k s u))
 nested d k s (exchange h x m t) = nested d k s t
@@ -63,12 +63,7 @@ abbrev pub result_columns : Dialect → (m : Alias) (i : ℕ) → List Name → 
 result_columns d m i [] = []
 result_columns d m i (x ∷ xs) = (column_name m i ++ (codes " AS " ++ identifier d x)) ∷ result_columns d m (suc i) xs
 
--- the order that the root claims
-abbrev pub order_sql : Alias → List ℕ → List ℕ
-order_sql m [] = []
-order_sql m (c ∷ cs) = codes " ORDER BY " ++ separated (codes ", ") false (map (column_of m) (c ∷ cs))
-
--- the rows of the root
+-- the rows of the root, in the order that it claims
 unfoldable pub result_sql : Dialect → (k : ℕ) → Outline → (rows : List ℕ) → List ℕ
 result_sql d k t rows =
     codes "SELECT " ++ (separated (codes ", ") false (result_columns d (maker k t) 0 (columns t).names) ++ (codes " FROM " ++ (rows ++

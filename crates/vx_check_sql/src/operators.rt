@@ -1,16 +1,18 @@
 //! What each operator is in SQL.
 
-ghost use Rattle.std.specs.Prelude.{◌≡◌, ◌++◌, ◌+◌, ◌<◌, ◌^◌, map, length, string_bytes, codes, OnOk, false};
+ghost use Rattle.std.specs.Prelude.{◌≡◌, ◌++◌, ◌+◌, ◌<◌, ◌^◌, map, length, string_bytes, codes, decimal, OnOk, false, true};
 ghost use Rattle.vx_plan_nodes.specs.Outline.{side_of, condition_of, unary_of, binary_of};
 ghost use Rattle.vx_check.specs.Explain.{separated};
-ghost use Rattle.vx_check_sql.specs.Words.{column_name};
-ghost use Rattle.vx_check_sql.specs.Operators.{all_columns, scan_sql, side_sql, condition_sql, grouping_sql, unary_columns, unary_clause, pair_sql, join_word, binary_columns, binary_word, binary_clause};
+ghost use Rattle.vx_check_sql.specs.Words.{column_name, column_of};
+ghost use Rattle.vx_check_sql.specs.Operators.{all_columns, scan_sql, side_sql, condition_sql, grouping_sql, order_sql, limit_sql, unary_columns, unary_clause, pair_sql, join_word, column_of_both, side_of_both, condition_of_both, matching_sql, semi_join_word, semi_join_clause, binary_columns, binary_word, binary_clause};
 
 use crate::columns::{
     push_all, push_group_columns, push_join_columns, push_projected, push_relation_columns,
 };
 use crate::dialect::Dialect;
-use crate::words::{Alias, push_column_name, push_column_of, push_identifier, push_value};
+use crate::words::{
+    Alias, push_column_name, push_column_of, push_identifier, push_number, push_value,
+};
 use std::alloc::AllocError;
 use vx_catalog_relations::Relation;
 use vx_check::push_between;
@@ -101,6 +103,37 @@ fn push_grouping(text: &mut String, from: Alias, by: &[usize]) -> Result<(), All
     push_columns(text, from, by)
 }
 
+fn push_order_columns(text: &mut String, from: Alias, order: &[usize]) -> Result<(), AllocError>
+    ensures { OnOk result (string_bytes text.new ≡ string_bytes text.old ++ separated (codes ", ") false (map (column_of from) order.now)) }
+{
+    for (i, column) in order.iter().enumerate() {
+        push_between(text, ", ", i > 0)?;
+        push_column_of(text, from, *column)?;
+    }
+    Ok(())
+}
+
+/// Adds the order of the rows of the node `from`, if there is one.
+pub fn push_order(text: &mut String, from: Alias, order: &[usize]) -> Result<(), AllocError>
+    ensures { OnOk result (string_bytes text.new ≡ string_bytes text.old ++ order_sql from order.now) }
+{
+    if order.is_empty() {
+        return Ok(());
+    }
+    text.push_str(" ORDER BY ")?;
+    push_order_columns(text, from, order)
+}
+
+// Adds how many first rows in this order a limit takes.
+#[tactic(auto, unfolding(crate::specs::Operators::limit_sql))]
+fn push_limit(text: &mut String, from: Alias, order: &[usize], rows: u32) -> Result<(), AllocError>
+    ensures { OnOk result (string_bytes text.new ≡ string_bytes text.old ++ limit_sql from order.now rows) }
+{
+    push_order(text, from, order)?;
+    text.push_str(" LIMIT ")?;
+    push_number(text, rows as usize)
+}
+
 /// Adds what the SELECT of an operator gives: the columns of the node `to` of those of the node `from`.
 #[tactic(auto, unfolding(crate::specs::Operators::unary_columns))]
 pub fn push_unary_columns(
@@ -131,18 +164,20 @@ pub fn push_unary_columns(
                 aggregates.as_slice(),
             )
         }
+        Unary::Limit(_) => push_all(text, from, to, types),
     }
 }
 
-/// Adds of which rows of the node `from` an operator's SELECT is, and in which groups they are.
+/// Adds of which rows of the node `from`, which claims this order, an operator's SELECT is, and in which groups they are.
 #[tactic(auto, unfolding(crate::specs::Operators::unary_clause))]
 pub fn push_unary_clause(
     text: &mut String,
     dialect: Dialect,
     from: Alias,
+    order: &[usize],
     operator: &Unary,
 ) -> Result<(), AllocError>
-    ensures { OnOk result (string_bytes text.new ≡ string_bytes text.old ++ unary_clause dialect from (unary_of operator.now)) }
+    ensures { OnOk result (string_bytes text.new ≡ string_bytes text.old ++ unary_clause dialect from order.now (unary_of operator.now)) }
 {
     match operator {
         Unary::Select(conditions) => {
@@ -151,6 +186,7 @@ pub fn push_unary_clause(
         }
         Unary::Project(_) | Unary::Distinct(_) | Unary::Sort(_, _) => Ok(()),
         Unary::Group(_, by, _) => push_grouping(text, from, by.as_slice()),
+        Unary::Limit(rows) => push_limit(text, from, order, *rows),
     }
 }
 
@@ -182,6 +218,129 @@ fn push_pairs(
     Ok(())
 }
 
+// Adds a column of the left rows, which have so many columns, or one of the right rows behind them.
+fn push_column_of_both(
+    text: &mut String,
+    left: Alias,
+    right: Alias,
+    width: usize,
+    column: usize,
+) -> Result<(), AllocError>
+    ensures { OnOk result (string_bytes text.new ≡ string_bytes text.old ++ column_of_both left right width column) }
+{
+    if column < width {
+        push_column_of(text, left, column)
+    } else {
+        push_column_of(text, right, column - width)
+    }
+}
+
+fn push_side_of_both(
+    text: &mut String,
+    dialect: Dialect,
+    left: Alias,
+    right: Alias,
+    width: usize,
+    side: &Side,
+) -> Result<(), AllocError>
+    ensures { OnOk result (string_bytes text.new ≡ string_bytes text.old ++ side_of_both dialect left right width (side_of side.now)) }
+{
+    match side {
+        Side::Column(column) => push_column_of_both(text, left, right, width, *column),
+        Side::Constant(value) => push_value(text, dialect, value),
+    }
+}
+
+#[tactic(auto, unfolding(crate::specs::Operators::condition_of_both))]
+fn push_condition_of_both(
+    text: &mut String,
+    dialect: Dialect,
+    left: Alias,
+    right: Alias,
+    width: usize,
+    condition: &Condition,
+) -> Result<(), AllocError>
+    ensures { OnOk result (string_bytes text.new ≡ string_bytes text.old ++ condition_of_both dialect left right width (condition_of condition.now)) }
+{
+    push_column_of_both(text, left, right, width, condition.left)?;
+    text.push_str(" ")?;
+    text.push_str(condition.test.text())?;
+    text.push_str(" ")?;
+    push_side_of_both(text, dialect, left, right, width, &condition.right)
+}
+
+// Adds more conditions on a left row and a right one.
+fn push_more_conditions(
+    text: &mut String,
+    dialect: Dialect,
+    left: Alias,
+    right: Alias,
+    width: usize,
+    conditions: &[Condition],
+) -> Result<(), AllocError>
+    ensures { OnOk result (string_bytes text.new ≡ string_bytes text.old ++ separated (codes " AND ") true (map (condition_of_both dialect left right width) (map condition_of conditions.now))) }
+{
+    for condition in conditions {
+        text.push_str(" AND ")?;
+        push_condition_of_both(text, dialect, left, right, width, condition)?;
+    }
+    Ok(())
+}
+
+// Adds which right rows match a left one.
+#[tactic(auto, unfolding(crate::specs::Operators::matching_sql))]
+fn push_matching(
+    text: &mut String,
+    dialect: Dialect,
+    left: Alias,
+    right: Alias,
+    width: usize,
+    on: &[(usize, usize)],
+    conditions: &[Condition],
+) -> Result<(), AllocError>
+    ensures { OnOk result (string_bytes text.new ≡ string_bytes text.old ++ matching_sql dialect left right width on.now (map condition_of conditions.now)) }
+{
+    push_pairs(text, left, right, on)?;
+    push_more_conditions(text, dialect, left, right, width, conditions)
+}
+
+// What stands between the left rows and the right ones that are to match some of them, or none.
+fn semi_join_word(dialect: Dialect, matched: bool) -> &'static str
+    ensures { result.now ≡ semi_join_word dialect matched }
+{
+    match (dialect, matched) {
+        (Dialect::Sqlite | Dialect::Postgres, true) => " WHERE EXISTS (SELECT 1 FROM ",
+        (Dialect::Sqlite | Dialect::Postgres, false) => " WHERE NOT EXISTS (SELECT 1 FROM ",
+        (Dialect::ClickHouse, true) => " SEMI LEFT JOIN ",
+        (Dialect::ClickHouse, false) => " ANTI LEFT JOIN ",
+    }
+}
+
+// Adds which right rows match a left one, behind the right rows.
+fn push_semi_join(
+    text: &mut String,
+    dialect: Dialect,
+    left: Alias,
+    right: Alias,
+    width: usize,
+    on: &[(usize, usize)],
+    conditions: &[Condition],
+) -> Result<(), AllocError>
+    ensures { OnOk result (string_bytes text.new ≡ string_bytes text.old ++ semi_join_clause dialect (matching_sql dialect left right width on.now (map condition_of conditions.now))) }
+{
+    match dialect {
+        Dialect::Sqlite | Dialect::Postgres => {
+            text.push_str(" WHERE ")?;
+            push_matching(text, dialect, left, right, width, on, conditions)?;
+            text.push_str(")")
+        }
+        Dialect::ClickHouse => {
+            text.push_str(" ON ")?;
+            push_matching(text, dialect, left, right, width, on, conditions)
+        }
+    }
+}
+
 /// Adds what the SELECT of an operator over two inputs gives: the columns of the node `to`.
 #[tactic(auto, unfolding(crate::specs::Operators::binary_columns))]
 pub fn push_binary_columns(
@@ -209,6 +368,7 @@ pub fn push_binary_columns(
                 on.as_slice(),
             )
         }
+        Binary::SemiJoin(_, _) | Binary::AntiJoin(_, _) => push_all(text, left, to, left_types),
     }
 }
 
@@ -241,24 +401,39 @@ pub fn push_binary_word(
     match operator {
         Binary::Union => push_union_word(text, right, to, right_types),
         Binary::HashJoin(_) | Binary::MergeJoin(_) => text.push_str(join_word(dialect)),
+        Binary::SemiJoin(_, _) => text.push_str(semi_join_word(dialect, true)),
+        Binary::AntiJoin(_, _) => text.push_str(semi_join_word(dialect, false)),
     }
 }
 
-/// Adds which rows go together.
+/// Adds which rows go together, where the left ones have so many columns.
 #[tactic(auto, unfolding(crate::specs::Operators::binary_clause))]
 pub fn push_binary_clause(
     text: &mut String,
+    dialect: Dialect,
     left: Alias,
     right: Alias,
+    width: usize,
     operator: &Binary,
 ) -> Result<(), AllocError>
-    ensures { OnOk result (string_bytes text.new ≡ string_bytes text.old ++ binary_clause left right (binary_of operator.now)) }
+    ensures { OnOk result (string_bytes text.new ≡ string_bytes text.old ++ binary_clause dialect left right width (binary_of operator.now)) }
 {
     match operator {
         Binary::Union => Ok(()),
         Binary::HashJoin(on) | Binary::MergeJoin(on) => {
             text.push_str(" ON ")?;
             push_pairs(text, left, right, on.as_slice())
+        }
+        Binary::SemiJoin(on, conditions) | Binary::AntiJoin(on, conditions) => {
+            push_semi_join(
+                text,
+                dialect,
+                left,
+                right,
+                width,
+                on.as_slice(),
+                conditions.as_slice(),
+            )
         }
     }
 }

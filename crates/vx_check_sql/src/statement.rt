@@ -1,25 +1,24 @@
 //! A plan as one statement.
 
-ghost use Rattle.std.specs.Prelude.{◌≡◌, ◌++◌, ◌+◌, ◌<◌, map, string_bytes, codes, OnOk, IfOk, false};
+ghost use Rattle.std.specs.Prelude.{◌≡◌, ◌++◌, ◌+◌, ◌<◌, length, string_bytes, codes, OnOk, IfOk, false};
 ghost use Rattle.vx_catalog_relations.specs.Catalog.{relation_at};
 ghost use Rattle.vx_plan_nodes.specs.Outline.{outline_of, columns, top, top_of, unary_of, binary_of};
 ghost use Rattle.vx_plan_nodes.specs.TypedView.{names_in, resolved_of};
-ghost use Rattle.vx_check_sql.specs.Words.{node_name, column_of};
+ghost use Rattle.vx_check_sql.specs.Words.{node_name};
 ghost use Rattle.vx_check_sql.specs.OwnNames.{OwnNamesAreApart};
 ghost use Rattle.vx_check.specs.Explain.{separated};
-ghost use Rattle.vx_check_sql.specs.Operators.{scan_sql, unary_columns, unary_sql, binary_columns, binary_word, binary_clause, binary_sql};
-ghost use Rattle.vx_check_sql.specs.Statement.{named_by, maker, table_as, tables, within, nested, result_columns, order_sql, result_sql, with_tables, plan_sql};
+ghost use Rattle.vx_check_sql.specs.Operators.{scan_sql, order_sql, unary_columns, unary_clause, unary_sql, binary_columns, binary_word, binary_clause, binary_sql};
+ghost use Rattle.vx_check_sql.specs.Statement.{named_by, maker, table_as, tables, within, nested, result_columns, result_sql, with_tables, plan_sql};
 
 use crate::columns::{column_names, column_types, push_result_columns};
 use crate::dialect::Dialect;
 use crate::operators::{
-    push_binary_clause, push_binary_columns, push_binary_word, push_scan, push_unary_clause,
-    push_unary_columns,
+    push_binary_clause, push_binary_columns, push_binary_word, push_order, push_scan,
+    push_unary_clause, push_unary_columns,
 };
 use crate::own_names::underscores;
-use crate::words::{Alias, push_column_of, push_identifier, push_node_name};
+use crate::words::{Alias, push_identifier, push_node_name};
 use std::alloc::{AllocError, Global};
-use vx_check::push_between;
 use vx_plan_nodes::{Binary, Head, TypedNode, TypedPlan, Unary};
 
 // The alias of a node.
@@ -84,6 +83,25 @@ fn push_unary_head(
     text.push_str(" FROM ")
 }
 
+// Adds what stands behind the rows of an operator's input.
+fn push_unary_end(
+    text: &mut String,
+    dialect: Dialect,
+    underscores: usize,
+    operator: &Unary,
+    input: &TypedNode,
+) -> Result<(), AllocError>
+    ensures { OnOk result (string_bytes text.new ≡ string_bytes text.old ++ unary_clause dialect (maker underscores (outline_of input.now)) (top (outline_of input.now)).claim.order (unary_of operator.now)) }
+{
+    push_unary_clause(
+        text,
+        dialect,
+        maker(underscores, input),
+        input.head().claim.order.as_slice(),
+        operator,
+    )
+}
+
 // Adds an operator over two inputs as far as the left rows.
 fn push_binary_head(
     text: &mut String,
@@ -133,11 +151,11 @@ fn push_unary(
     operator: &Unary,
     input: &TypedNode,
 ) -> Result<(), AllocError>
-    ensures { OnOk result (string_bytes text.new ≡ string_bytes text.old ++ unary_sql dialect (maker to.underscores (outline_of input.now)) to (columns (outline_of input.now)).types (unary_of operator.now) (node_name (maker to.underscores (outline_of input.now)))) }
+    ensures { OnOk result (string_bytes text.new ≡ string_bytes text.old ++ unary_sql dialect (maker to.underscores (outline_of input.now)) to (columns (outline_of input.now)).types (top (outline_of input.now)).claim.order (unary_of operator.now) (node_name (maker to.underscores (outline_of input.now)))) }
 {
     push_unary_head(text, dialect, to, operator, input)?;
     push_node_name(text, maker(to.underscores, input))?;
-    push_unary_clause(text, dialect, maker(to.underscores, input), operator)
+    push_unary_end(text, dialect, to.underscores, operator, input)
 }
 
 // Adds the same as a table behind others.
@@ -149,7 +167,7 @@ fn push_unary_table(
     operator: &Unary,
     input: &TypedNode,
 ) -> Result<(), AllocError>
-    ensures { OnOk result (string_bytes text.new ≡ string_bytes text.old ++ (codes ",\n" ++ table_as to (unary_sql dialect (maker to.underscores (outline_of input.now)) to (columns (outline_of input.now)).types (unary_of operator.now) (node_name (maker to.underscores (outline_of input.now)))))) }
+    ensures { OnOk result (string_bytes text.new ≡ string_bytes text.old ++ (codes ",\n" ++ table_as to (unary_sql dialect (maker to.underscores (outline_of input.now)) to (columns (outline_of input.now)).types (top (outline_of input.now)).claim.order (unary_of operator.now) (node_name (maker to.underscores (outline_of input.now)))))) }
 {
     text.push_str(",\n")?;
     push_node_name(text, to)?;
@@ -183,8 +201,10 @@ fn push_binary(
     push_node_name(text, maker(to.underscores, right))?;
     push_binary_clause(
         text,
+        dialect,
         maker(to.underscores, left),
         maker(to.underscores, right),
+        column_types(left).len(),
         operator,
     )
 }
@@ -283,18 +303,21 @@ fn push_binary_middle(
 // Adds what stands behind the right rows, which are in brackets.
 fn push_binary_end(
     text: &mut String,
+    dialect: Dialect,
     underscores: usize,
     operator: &Binary,
     left: &TypedNode,
     right: &TypedNode,
 ) -> Result<(), AllocError>
-    ensures { OnOk result (string_bytes text.new ≡ string_bytes text.old ++ (codes ") AS " ++ (node_name (maker underscores (outline_of right.now)) ++ binary_clause (maker underscores (outline_of left.now)) (maker underscores (outline_of right.now)) (binary_of operator.now)))) }
+    ensures { OnOk result (string_bytes text.new ≡ string_bytes text.old ++ (codes ") AS " ++ (node_name (maker underscores (outline_of right.now)) ++ binary_clause dialect (maker underscores (outline_of left.now)) (maker underscores (outline_of right.now)) (length (columns (outline_of left.now)).types) (binary_of operator.now)))) }
 {
     push_end(text, maker(underscores, right))?;
     push_binary_clause(
         text,
+        dialect,
         maker(underscores, left),
         maker(underscores, right),
+        column_types(left).len(),
         operator,
     )
 }
@@ -325,7 +348,7 @@ fn push_nested(
             text.push_str("(")?;
             push_nested(text, dialect, underscores, plan, input)?;
             push_end(text, maker(underscores, input))?;
-            push_unary_clause(text, dialect, maker(underscores, input), operator)
+            push_unary_end(text, dialect, underscores, operator, input)
         }
         TypedNode::Binary(head, operator, left, right) => {
             push_binary_head(text, named_by(underscores, head), operator, left, right)?;
@@ -340,31 +363,10 @@ fn push_nested(
                 right,
             )?;
             push_nested(text, dialect, underscores, plan, right)?;
-            push_binary_end(text, underscores, operator, left, right)
+            push_binary_end(text, dialect, underscores, operator, left, right)
         }
         TypedNode::Exchange(_, _, input) => push_nested(text, dialect, underscores, plan, input),
     }
-}
-
-fn push_order_columns(text: &mut String, node: Alias, order: &[usize]) -> Result<(), AllocError>
-    ensures { OnOk result (string_bytes text.new ≡ string_bytes text.old ++ separated (codes ", ") false (map (column_of node) order.now)) }
-{
-    for (i, column) in order.iter().enumerate() {
-        push_between(text, ", ", i > 0)?;
-        push_column_of(text, node, *column)?;
-    }
-    Ok(())
-}
-
-// Adds the order of the result, if there is one.
-fn push_order(text: &mut String, node: Alias, order: &[usize]) -> Result<(), AllocError>
-    ensures { OnOk result (string_bytes text.new ≡ string_bytes text.old ++ order_sql node order.now) }
-{
-    if order.is_empty() {
-        return Ok(());
-    }
-    text.push_str(" ORDER BY ")?;
-    push_order_columns(text, node, order)
 }
 
 // Adds what the statement gives, as far as its rows.

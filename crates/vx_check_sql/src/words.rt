@@ -18,7 +18,8 @@ pub struct Alias {
     pub node: u32,
 }
 
-fn push_number(text: &mut String, number: usize) -> Result<(), AllocError>
+/// Adds a number in plain decimal.
+pub fn push_number(text: &mut String, number: usize) -> Result<(), AllocError>
     ensures { OnOk result (string_bytes text.new ≡ string_bytes text.old ++ decimal number) }
 {
     let mut digits = Buffer::new();

@@ -1,12 +1,12 @@
 -- Two rows that workers of a node have given so far agree in what the columns determine in which they agree, and are one row where they agree on a claimed key.
-use Rattle.std.proofs.Common.{◌≡◌, inl, inr, ⊎_elim, ℕ, ◌<◌, ◌==◌, Bool, true, false, cond, ◌||◌, List, [], ◌∷◌, ◌++◌, length, refl, sym, ap, ◌∙◌, subst, arith, true≢false, eqb-true, Some}
+use Rattle.std.proofs.Common.{◌≡◌, inl, inr, ⊎_elim, ℕ, ◌<◌, ◌==◌, Bool, true, false, cond, ◌||◌, List, [], ◌∷◌, ◌++◌, length, refl, sym, ap, ◌∙◌, subst, arith, true≢false, eqb-true, Some, nat_le, zero, suc, ◌+◌, take, leb-true, ◌≤◌}
 use Rattle.std.specs.List.{list_all}
 use Rattle.std.proofs.lemmas.Bool.{eqb-false}
 use Rattle.vx_rows_values.specs.Values.{Row, row_eq, value_at, pick}
 use Rattle.vx_rows_values.specs.Bags.{count}
 use Rattle.vx_rows_values.specs.Keys.{HasKey}
-use Rattle.vx_rows_values.proofs.Compare.{row_eq-refl}
-use Rattle.vx_plan_nodes.specs.Plan.{Part, one, any, all, routed, Claim, Unary, select, project, distinct, sort, group, Phase, plain, partial, final, Aggregate, union, join, Plan, scan, unary, binary, exchange, claim, size, is_one}
+use Rattle.vx_rows_values.proofs.Compare.{row_eq-refl, row_eq-same}
+use Rattle.vx_plan_nodes.specs.Plan.{Part, one, any, all, routed, Claim, Unary, select, project, distinct, sort, group, Phase, plain, partial, final, Aggregate, union, join, Plan, scan, unary, binary, exchange, claim, size, is_one, limit, semi_join}
 use Rattle.vx_plan_nodes.specs.Types.{width}
 use Rattle.vx_plan_nodes.specs.Serial.{group_keys, group_fits, group_rows, unary_rows}
 use Rattle.vx_plan_nodes.specs.Streams.{workers}
@@ -31,6 +31,7 @@ use Rattle.vx_worker.specs.Trace.{Trace, Ends}
 use Rattle.vx_exec_laws.specs.RunOf.{RunOf}
 use Rattle.vx_exec_laws.specs.CutRows.{Output, AreOneOrApart, RowsAgree}
 use Rattle.vx_exec_laws.proofs.Parts.{or-cases, one-worker}
+use Rattle.vx_exec_laws.proofs.Unary.{some-is}
 use Rattle.vx_exec_laws.proofs.Widths.{length-pick, some-of}
 use Rattle.vx_exec_laws.proofs.Apart.{rows-equal, below-contains, same-route}
 use Rattle.vx_exec_laws.proofs.Groups.{groups, groups-key}
@@ -39,10 +40,10 @@ use Rattle.vx_exec_laws.proofs.DerivedPairs.{PairOf, agree-past, equal-picks}
 use Rattle.vx_exec_laws.proofs.DerivedSerial.{occurs-counted}
 use Rattle.vx_exec_laws.proofs.DerivedOpen.{derived-tests}
 use Rattle.vx_exec_laws.proofs.DerivedParts.{within-equal}
-use Rattle.vx_exec_laws.proofs.CutPairs.{all-member, all-among, Agreed, Tells, AreGroups, scan-agreed, unary-agreed, union-agreed, join-agreed, exchange-agreed}
-use Rattle.vx_exec_laws.proofs.CutOrigins.{under, on-left, on-right, same-size, producer, put-occurs, exchange-comes, unary-comes, joined-comes, scan-comes}
+use Rattle.vx_exec_laws.proofs.CutPairs.{all-member, all-among, Agreed, Tells, AreGiven, scan-agreed, unary-agreed, union-agreed, join-agreed, exchange-agreed, semi-join-agreed}
+use Rattle.vx_exec_laws.proofs.CutOrigins.{under, on-left, on-right, same-size, producer, put-occurs, exchange-comes, unary-comes, joined-comes, scan-comes, matched-so-far, occurs-begins}
 use Rattle.vx_exec_laws.proofs.CutPlaces.{Meeting, Fine, fine-under, fine-left, fine-right, fine-below, here, row-meets, stands, same-row}
-use Rattle.vx_exec_laws.proofs.CutWhole.{bags, same-whole}
+use Rattle.vx_exec_laws.proofs.CutWhole.{bags, same-whole, limit-alone}
 
 -- ---- groups
 
@@ -87,6 +88,26 @@ one-place-equally goes e (routed r cols) by n i j x y t k ex ey hx hy =
     let w = within-equal e cols by t in
     one-place goes (routed r w.0) by n i j x y w.1 k
     (same-row goes r w.0 cols n i x x (sym (equal-picks e x ex cols w.0 w.2)) hx) (same-row goes r w.0 cols n j y y (sym (equal-picks e y ey cols w.0 w.2)) hy)
+
+-- two rows of a list of one row
+one-taken : (m : ℕ) (xs : List Row) (a b : Row) → m ≤ 1 → Occurs a (take m xs) → Occurs b (take m xs) → a ≡ b
+one-taken zero xs a b few oa ob = absurd (omega (arith, oa))
+one-taken (suc m) [] a b few oa ob = absurd (omega (arith, oa))
+one-taken (suc zero) (x ∷ xs) a b few oa ob = alone a oa ∙ sym (alone b ob)
+  where
+    alone : (r : Row) → Occurs r (x ∷ []) → r ≡ x
+    alone r o = go (row_eq r x) refl o
+      where
+        go : (k : Bool) → row_eq r x ≡ k → 0 < cond k 1 0 + 0 → r ≡ x
+        go true e l = row_eq-same r x e
+        go false e l = absurd (omega (arith, l))
+one-taken (suc (suc m)) (x ∷ xs) a b few oa ob = absurd (omega (arith, few))
+
+taken : (m : ℕ) (xs ys : List Row) (a b : Row) → nat_le m 1 ≡ true → unary_rows (limit m) xs ≡ Some ys → Occurs a ys → Occurs b ys → a ≡ b
+taken m xs ys a b few e oa ob =
+    let is : take m xs ≡ ys = some-is (take m xs) ys e in
+    let P : Row → List Row → Type 0 = λ r l. Occurs r l in
+    one-taken m xs a b (leb-true m 1 few) (subst (P a) (sym is) oa) (subst (P b) (sym is) ob)
 
 -- ---- workers
 
@@ -136,7 +157,7 @@ module _ (S : RunModel) (giv : Given S.catalog S.db S.sizes (goes S)) (some_rows
       let ga = all-given n c phase by aggregates p ts x a oa in
       let gb = all-given n c phase by aggregates p ts y b ob in
       let inputs = same-whole S some_rows p fp ts run ux uy apart i ga.0.0 gb.0.0 in
-      let outs = bags (goes S) op ux.out.rows uy.out.rows x.abides.0.gave.rows y.abides.0.gave.rows inputs ga.0.1 gb.0.1 in
+      let outs = bags (goes S) op refl ux.out.rows uy.out.rows x.abides.0.gave.rows y.abides.0.gave.rows inputs ga.0.1 gb.0.1 in
       let same : count (row_eq b) x.abides.0.gave.rows ≡ count (row_eq b) y.abides.0.gave.rows = outs.totals (λ r. cond (row_eq b r) 1 0) in
       let ob_there = gb.1 in
       one-list by aggregates x.abides.0.left.rows x.abides.0.gave.rows (plainly x.abides.0.left.rows x.abides.0.gave.rows ga.0.1) a b ga.1 (omega (arith, same, ob_there)) k w g)
@@ -147,19 +168,39 @@ module _ (S : RunModel) (giv : Given S.catalog S.db S.sizes (goes S)) (some_rows
       (row-meets S giv meet p fp ts run ux sx.0 sx.1).alike (row-meets S giv meet p fp ts run uy sy.0 sy.1).alike at_x at_y)))
       (or-cases (is_one (size p) || (has p all || routed_within (claim p).part by)) (routed_within_equally (equal_at S.catalog p) (claim p).part by) t)
 
-  are-groups : (n : ℕ) (c : Claim) (op : Unary) (p : Plan) → Fine S (unary n c op p) → (ts : ℕ → Trace) → RunOf S (Ends S) p ts
-      → (x y : Output S (unary n c op p) ts) → AreOneOrApart S (unary n c op p) ts x y → (a b : Row) → Occurs a x.out.rows → Occurs b y.out.rows → AreGroups S.catalog op a b
-  are-groups n c (select cs) p f ts run x y alike a b oa ob = tt
-  are-groups n c (project cols) p f ts run x y alike a b oa ob = tt
-  are-groups n c (distinct cols) p f ts run x y alike a b oa ob = tt
-  are-groups n c (sort of_parts cols) p f ts run x y alike a b oa ob = tt
-  are-groups n c (group plain by aggregates) p f ts run x y alike a b oa ob =
+  -- a limit has one worker, and of a limit to one row there is one at most
+  first-row : (n : ℕ) (c : Claim) (m : ℕ) (p : Plan) → is_one (size p) ≡ true → (ts : ℕ → Trace) → (x y : Output S (unary n c (limit m) p) ts) → AreOneOrApart S (unary n c (limit m) p) ts x y
+      → (a b : Row) → Occurs a x.out.rows → Occurs b y.out.rows → nat_le m 1 ≡ true → a ≡ b
+  first-row n c m p single ts x y (inl e) a b oa ob few =
+      let G : Stream → Type 0 = λ s. Occurs a s.rows in
+      let H : Stream → Type 0 = λ s. Occurs b s.rows in
+      let O : Output S (unary n c (limit m) p) ts → Type 0 = λ z. Occurs b z.out.rows in
+      let b0 = x.abides.2.before in
+      let gave : List Row = x.abides.0.gave.rows in
+      taken m b0.inputs.left.rows b0.whole a b few b0.makes (occurs-begins a gave b0.whole b0.gave (subst G (sym x.abides.3) oa))
+      (occurs-begins b gave b0.whole b0.gave (subst H (sym x.abides.3) (subst O (sym e) ob)))
+  first-row n c m p single ts x y (inr apart) a b oa ob few =
+      let n1 : workers S.sizes (size p) ≡ 1 = one-worker S.sizes (size p) single in
+      let lx = x.below in
+      let ly = y.below in
+      absurd (apart (omega (arith, n1, lx, ly)))
+
+  are-given : (n : ℕ) (c : Claim) (op : Unary) (p : Plan) → Fine S (unary n c op p) → (ts : ℕ → Trace) → RunOf S (Ends S) p ts
+      → (x y : Output S (unary n c op p) ts) → AreOneOrApart S (unary n c op p) ts x y → (a b : Row) → Occurs a x.out.rows → Occurs b y.out.rows → AreGiven S.catalog op a b
+  are-given n c (select cs) p f ts run x y alike a b oa ob = tt
+  are-given n c (project cols) p f ts run x y alike a b oa ob = tt
+  are-given n c (distinct cols) p f ts run x y alike a b oa ob = tt
+  are-given n c (sort of_parts cols) p f ts run x y alike a b oa ob = tt
+  are-given n c (group plain by aggregates) p f ts run x y alike a b oa ob =
       let node : Plan = unary n c (group plain by aggregates) p in
       groups-tell n c plain by aggregates p f (λ xs ys e. e) (derived-tests S.catalog node (here S node f)).2 ts run x y alike a b oa ob
-  are-groups n c (group partial by aggregates) p f ts run x y alike a b oa ob = tt
-  are-groups n c (group final by aggregates) p f ts run x y alike a b oa ob =
+  are-given n c (group partial by aggregates) p f ts run x y alike a b oa ob = tt
+  are-given n c (group final by aggregates) p f ts run x y alike a b oa ob =
       let node : Plan = unary n c (group final by aggregates) p in
       groups-tell n c final by aggregates p f (λ xs ys e. e) (derived-tests S.catalog node (here S node f)).2 ts run x y alike a b oa ob
+  are-given n c (limit m) p f ts run x y alike a b oa ob =
+      let node : Plan = unary n c (limit m) p in
+      first-row n c m p (limit-alone S.catalog n c m p (derived-tests S.catalog node (here S node f)).7) ts x y alike a b oa ob
 
   -- ---- all nodes
 
@@ -177,7 +218,7 @@ module _ (S : RunModel) (giv : Given S.catalog S.db S.sizes (goes S)) (some_rows
       let sy = unary-comes S n c op p ts y b ob in
       let below : AreOneOrApart S p ts (under S n c op p ts x) (under S n c op p ts y) = ⊎_elim (λ e. inl (ap (under S n c op p ts) e)) (λ d. inr d) alike in
       unary-agreed S.catalog n c op p a b sx.0 sy.0 (row-meets S giv meet node f ts run x a oa) (row-meets S giv meet node f ts run y b ob) (derived-tests S.catalog node (here S node f)).6
-      (agreed p fp ts run (under S n c op p ts x) (under S n c op p ts y) below sx.0 sy.0 sx.1 sy.1) sx.2 sy.2 (are-groups n c op p f ts run x y alike a b oa ob)
+      (agreed p fp ts run (under S n c op p ts x) (under S n c op p ts y) below sx.0 sy.0 sx.1 sy.1) sx.2 sy.2 (are-given n c op p f ts run x y alike a b oa ob)
   agreed (binary n c union p q) f ts run x y alike a b oa ob =
       let node : Plan = binary n c union p q in
       union-agreed S.catalog n c p q a b (row-meets S giv meet node f ts run x a oa) (row-meets S giv meet node f ts run y b ob) (derived-tests S.catalog node (here S node f)).6
@@ -196,6 +237,14 @@ module _ (S : RunModel) (giv : Given S.catalog S.db S.sizes (goes S)) (some_rows
       (agreed p fp ts run.0 (left x) (left y) lefts sx.0 sy.0 sx.2 sy.2) (agreed q fq ts run.1 (right x) (right y) rights sx.1 sy.1 sx.3 sy.3)
       (record { is = sx.4; met = sx.5; wide = (row-meets S giv meet p fp ts run.0 (left x) sx.0 sx.2).wide })
       (record { is = sy.4; met = sy.5; wide = (row-meets S giv meet p fp ts run.0 (left y) sy.0 sy.2).wide })
+  agreed (binary n c (semi_join matched on conditions) p q) f ts run x y alike a b oa ob =
+      let node : Plan = binary n c (semi_join matched on conditions) p q in
+      let fp : Fine S p = fine-left S n c (semi_join matched on conditions) p q f in
+      let left : Output S node ts → Output S p ts = on-left S n c (semi_join matched on conditions) p q ts in
+      let lefts : AreOneOrApart S p ts (left x) (left y) = ⊎_elim (λ e. inl (ap left e)) (λ d. inr d) alike in
+      semi-join-agreed S.catalog n c matched on conditions p q a b (row-meets S giv meet node f ts run x a oa) (row-meets S giv meet node f ts run y b ob)
+      (derived-tests S.catalog node (here S node f)).6
+      (agreed p fp ts run.0 (left x) (left y) lefts a b (matched-so-far S n c matched on conditions p q ts x a oa) (matched-so-far S n c matched on conditions p q ts y b ob))
   agreed (exchange n c k merge p) f ts run x y alike a b oa ob =
       let node : Plan = exchange n c k merge p in
       let fp : Fine S p = fine-below S n c k merge p f in

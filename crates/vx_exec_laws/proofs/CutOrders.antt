@@ -1,6 +1,6 @@
 -- What each node has been given so far is in the order that it asks for, by the rule table with what is known of columns.
 use Rattle.std.proofs.Common.{◌≡◌, ◌⊎◌, inl, inr, ⊎_elim, ℕ, ◌<◌, Bool, true, false, List, map}
-use Rattle.vx_plan_nodes.specs.Plan.{Claim, Binary, union, join, Plan, scan, unary, binary, exchange, claim}
+use Rattle.vx_plan_nodes.specs.Plan.{Claim, Binary, union, join, Plan, scan, unary, binary, exchange, claim, semi_join}
 use Rattle.vx_plan_facts.specs.Equal.{equal_at}
 use Rattle.vx_plan_facts.specs.Determined.{determined}
 use Rattle.vx_plan_facts.specs.Following.{order_follows}
@@ -31,6 +31,7 @@ module _ (S : RunModel) (giv : Given S.catalog S.db S.sizes (goes S)) (some_rows
       → (ts : ℕ → Trace) → RunOf S (Ends S) p ts → RunOf S (Ends S) q ts → NeededOf S op p q ts
   both-asked n c union p q fp fq t ts run more = tt
   both-asked n c (join false on) p q fp fq t ts run more = tt
+  both-asked n c (semi_join matched on conditions) p q fp fq t ts run more = tt
   both-asked n c (join true on) p q fp fq t ts run more =
       let node : Plan = binary n c (join true on) p q in
       let lefts : List ℕ = map (λ x. x.0) on in

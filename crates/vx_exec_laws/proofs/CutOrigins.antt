@@ -1,18 +1,18 @@
 -- What one worker of a node has given so far, and where its rows come from: rows that workers of the node's inputs have given so far.
-use Rattle.std.proofs.Common.{◌≡◌, ◌⊎◌, inl, inr, ⊎_elim, ℕ, ◌+◌, ◌<◌, ◌≤◌, ◌==◌, Bool, true, false, cond, ◌&&◌, List, ◌++◌, map, filter, refl, sym, ap, ◌∙◌, subst, arith, append-nil, Some}
+use Rattle.std.proofs.Common.{◌≡◌, ◌⊎◌, inl, inr, ⊎_elim, ℕ, ◌+◌, ◌<◌, ◌≤◌, ◌==◌, Bool, true, false, cond, ◌&&◌, List, ◌++◌, map, filter, refl, sym, ap, ◌∙◌, subst, arith, append-nil, Some, not, take}
 use Rattle.std.specs.List.{list_all, AllByRecursion}
 use Rattle.std.proofs.lemmas.Bool.{cases_lt}
 use Rattle.vx_rows_values.specs.Values.{Row, row_eq, pick}
 use Rattle.vx_rows_values.specs.Order.{sort_on}
 use Rattle.vx_rows_values.specs.Bags.{count}
-use Rattle.vx_plan_nodes.specs.Plan.{Size, Claim, Unary, select, project, distinct, sort, group, plain, partial, final, Aggregate, Phase, Binary, union, join, ExchangeKind, route_to, round, broadcast, gather, concat, target, Plan, scan, unary, binary, exchange, size, size_eq}
+use Rattle.vx_plan_nodes.specs.Plan.{Size, Claim, Unary, select, project, distinct, sort, group, plain, partial, final, Aggregate, Phase, Binary, union, join, ExchangeKind, route_to, round, broadcast, gather, concat, target, Plan, scan, unary, binary, exchange, size, size_eq, limit, semi_join, Condition}
 use Rattle.vx_plan_nodes.specs.Parts.{kind_part}
-use Rattle.vx_plan_nodes.specs.Serial.{passes, firsts, matches, joined_with, join_rows, aggregate_of, of_key, group_keys, group_row, group_fits, group_rows, unary_rows}
+use Rattle.vx_plan_nodes.specs.Serial.{passes, firsts, matches, joined_with, join_rows, aggregate_of, of_key, group_keys, group_row, group_fits, group_rows, unary_rows, is_matched, matched_rows}
 use Rattle.vx_plan_nodes.specs.Streams.{Streams, workers}
 use Rattle.vx_plan_nodes.specs.Routes.{Routing, Sends}
 use Rattle.vx_plan_nodes.specs.Numbering.{is_fit}
 use Rattle.vx_plan_facts.specs.FollowLaws.{Occurs}
-use Rattle.vx_plan_facts.proofs.EachRow.{each-weaken, each-map, each-filter, each-flat, each-firsts, each-sort, each-has, each-of-had, each-dealt, each-shuffled}
+use Rattle.vx_plan_facts.proofs.EachRow.{each-weaken, each-map, each-filter, each-flat, each-firsts, each-sort, each-has, each-of-had, each-dealt, each-shuffled, each-take}
 use Rattle.vx_ports.specs.Packets.{PacketView, rows_of}
 use Rattle.vx_rows.specs.Lists.{IsBeginning}
 use Rattle.vx_ops.specs.Ledger.{Stream}
@@ -80,6 +80,9 @@ each-comes (distinct cols) xs ys e =
 each-comes (sort of_parts cols) xs ys e =
     subst (AllByRecursion (Comes (sort of_parts cols) xs)) (some-is (sort_on cols xs) ys e)
     (each-weaken (λ row. Occurs row xs) (Comes (sort of_parts cols) xs) (λ x o. (x, o, refl)) (sort_on cols xs) (each-sort (λ row. Occurs row xs) cols xs (each-occurs xs)))
+each-comes (limit m) xs ys e =
+    subst (AllByRecursion (Comes (limit m) xs)) (some-is (take m xs) ys e)
+    (each-take (Comes (limit m) xs) m xs (each-weaken (λ row. Occurs row xs) (Comes (limit m) xs) (λ x o. (x, o, refl)) xs (each-occurs xs)))
 each-comes (group phase by aggregates) xs ys e = group-comes by aggregates xs ys (grouped phase e)
   where
     grouped : (phase : Phase) → unary_rows (group phase by aggregates) xs ≡ Some ys → group_rows by aggregates xs ≡ Some ys
@@ -99,6 +102,16 @@ join-comes on ls rs a o =
     (λ l ol. each-map (λ r. Occurs r rs × (matches on l r ≡ true)) P (λ r. l ++ r) (λ r h. (l, r, ol, h.0, refl, h.1)) (filter (matches on l) rs)
     (each-filter (λ r. Occurs r rs) (λ r. Occurs r rs × (matches on l r ≡ true)) (matches on l) (λ r t or. (or, t)) rs (each-occurs rs)))
     ls (each-occurs ls)) o
+
+-- a row of a semi or an anti join is one of the left rows
+pub matched-comes : (matched : Bool) (on : List (ℕ × ℕ)) (conditions : List Condition) (ls rs : List Row) (a : Row) → Occurs a (matched_rows matched on conditions ls rs) → Occurs a ls
+matched-comes matched on conditions ls rs a o =
+    let P : Row → Type 0 = λ row. Occurs row ls in
+    each-has P a (matched_rows matched on conditions ls rs) (each matched) o
+  where
+    each : (matched : Bool) → AllByRecursion (λ row. Occurs row ls) (matched_rows matched on conditions ls rs)
+    each true = each-filter (λ row. Occurs row ls) (λ row. Occurs row ls) (is_matched on conditions rs) (λ x t o. o) ls (each-occurs ls)
+    each false = each-filter (λ row. Occurs row ls) (λ row. Occurs row ls) (λ l. not (is_matched on conditions rs l)) (λ x t o. o) ls (each-occurs ls)
 
 -- ---- what is sent
 
@@ -254,6 +267,17 @@ module _ (S : RunModel) where
       let P : List Row → Type 0 = λ xs. Occurs a xs in
       let r = join-comes on b.inputs.left.rows b.inputs.right.rows a (subst P (sym b.makes) (occurs-begins a led.gave.rows b.whole b.gave (subst G (sym x.abides.4) o))) in
       (r.0, r.1, occurs-begins r.0 b.inputs.left.rows led.left.rows b.begins.left r.2, occurs-begins r.1 b.inputs.right.rows led.right.rows b.begins.right r.3, r.4, r.5)
+
+  pub matched-so-far : (n : ℕ) (c : Claim) (matched : Bool) (on : List (ℕ × ℕ)) (conditions : List Condition) (p q : Plan) (ts : ℕ → Trace)
+      (x : Output S (binary n c (semi_join matched on conditions) p q) ts) (a : Row) → Occurs a x.out.rows
+      → Occurs a (on-left n c (semi_join matched on conditions) p q ts x).out.rows
+  matched-so-far n c matched on conditions p q ts x a o =
+      let led = x.abides.0 in
+      let b = x.abides.3.before in
+      let G : Stream → Type 0 = λ s. Occurs a s.rows in
+      let P : List Row → Type 0 = λ xs. Occurs a xs in
+      let whole = subst P (sym b.makes) (occurs-begins a led.gave.rows b.whole b.gave (subst G (sym x.abides.4) o)) in
+      occurs-begins a b.inputs.left.rows led.left.rows b.begins.left (matched-comes matched on conditions b.inputs.left.rows b.inputs.right.rows a whole)
 
   -- ---- scans
 

@@ -1,11 +1,11 @@
 -- Two rows of a node agree in what columns determine and on claimed keys, where those of its inputs that they come from do.
-use Rattle.std.proofs.Common.{◌≡◌, ℕ, ◌+◌, ◌<◌, ◌≤◌, ◌==◌, Bool, true, not, ◌&&◌, ◌||◌, ⊎_elim, List, [], ◌∷◌, ◌++◌, map, length, refl, sym, ap, ◌∙◌, subst, arith, true≢false, eqb-true, eq-eqb}
+use Rattle.std.proofs.Common.{◌≡◌, ℕ, ◌+◌, ◌<◌, ◌≤◌, ◌==◌, Bool, true, not, ◌&&◌, ◌||◌, ⊎_elim, List, [], ◌∷◌, ◌++◌, map, length, refl, sym, ap, ◌∙◌, subst, arith, true≢false, eqb-true, eq-eqb, nat_le}
 use Rattle.std.specs.List.{list_all, list_any}
 use Rattle.std.proofs.lemmas.Bool.{cases_lt}
 use Rattle.vx_rows_values.specs.Values.{Row, value_at, pick}
 use Rattle.vx_rows_values.proofs.Compare.{row_eq-same}
 use Rattle.vx_catalog_relations.specs.Relation.{Relation, KeysHold}
-use Rattle.vx_plan_nodes.specs.Plan.{Size, Claim, ExchangeKind, Unary, select, project, distinct, sort, group, plain, partial, final, union, join, Plan, scan, unary, binary, exchange, claim}
+use Rattle.vx_plan_nodes.specs.Plan.{Size, Claim, ExchangeKind, Unary, select, project, distinct, sort, group, plain, partial, final, union, join, Plan, scan, unary, binary, exchange, claim, limit, semi_join, Condition}
 use Rattle.vx_plan_nodes.specs.Types.{width}
 use Rattle.vx_plan_nodes.specs.Phases.{first_columns}
 use Rattle.vx_plan_nodes.specs.Describe.{Copying, whole_rows, columns_kept, left_of, right_of, described}
@@ -60,6 +60,7 @@ StemOf (project cols) a x = a ≡ pick cols x
 StemOf (distinct cols) a x = a ≡ pick cols x
 StemOf (sort of_parts cols) a x = a ≡ x
 StemOf (group phase by aggregates) a x = (tail : Row) × (a ≡ pick by x ++ tail)
+StemOf (limit m) a x = a ≡ x
 
 copies-of : (k : Copying) (x a b : Row) → a ≡ b → HasCopies k x b → HasCopies k x a
 copies-of k x a b e h = let P : Row → Type 0 = λ r. HasCopies k x r in subst P (sym e) h
@@ -72,6 +73,7 @@ stem-copies (sort of_parts cols) a x e = copies-of whole_rows x a x e (whole-cop
 stem-copies (group plain by aggregates) a x e = copies-of (columns_kept by) x a (pick by x ++ e.0) e.1 (kept-copies by x e.0)
 stem-copies (group partial by aggregates) a x e = copies-of (columns_kept by) x a (pick by x ++ e.0) e.1 (kept-copies by x e.0)
 stem-copies (group final by aggregates) a x e = copies-of (columns_kept by) x a (pick by x ++ e.0) e.1 (kept-copies by x e.0)
+stem-copies (limit m) a x e = copies-of whole_rows x a x e (whole-copies x)
 
 -- ---- two rows of a node
 
@@ -148,11 +150,12 @@ module _ (catalog : ℕ → Relation) where
 
   -- ---- one input
 
-  -- rows of a group that is whole are one row where they agree on its key
-  abbrev pub AreGroups : Unary → Row → Row → Type 0
-  AreGroups (group plain by aggregates) a b = Tells (λ x. within (numbers_below (length by)) x) a b
-  AreGroups (group final by aggregates) a b = Tells (λ x. within (numbers_below (length by)) x) a b
-  AreGroups op a b = Unit {0}
+  -- rows of a group that is whole are one row where they agree on its key, and so are any two of a limit that takes one row
+  abbrev pub AreGiven : Unary → Row → Row → Type 0
+  AreGiven (group plain by aggregates) a b = Tells (λ x. within (numbers_below (length by)) x) a b
+  AreGiven (group final by aggregates) a b = Tells (λ x. within (numbers_below (length by)) x) a b
+  AreGiven (limit m) a b = nat_le m 1 ≡ true → a ≡ b
+  AreGiven op a b = Unit {0}
 
   -- columns that are copied tell rows if those that they are copies of do
   project-tells : (cols : List ℕ) (p : Plan) (a b x y : Row) → Agreed catalog p x y → a ≡ pick cols x → b ≡ pick cols y → Tells (λ k. if_some (copied cols k) (covers (claim p).keys)) a b
@@ -175,16 +178,20 @@ module _ (catalog : ℕ → Relation) where
       ea ∙ (ap (pick cols) same ∙ sym eb)
 
   unary-shown : (op : Unary) (n : ℕ) (c : Claim) (p : Plan) (a b x y : Row) → MeetsAt catalog (unary n c op p) a → MeetsAt catalog (unary n c op p) b
-      → Agreed catalog p x y → StemOf op a x → StemOf op b y → AreGroups op a b → Tells (keys_of catalog (unary n c op p)) a b
-  unary-shown (select cs) n c p a b x y ma mb h sa sb groups k e g = whole-same a b x y sa sb (h.keyed (set_of k) (whole-on x y a b sa sb (set_of k) g) e)
-  unary-shown (project cols) n c p a b x y ma mb h sa sb groups k e g = project-tells cols p a b x y h sa sb k e g
-  unary-shown (distinct cols) n c p a b x y ma mb h sa sb groups k e g =
+      → Agreed catalog p x y → StemOf op a x → StemOf op b y → AreGiven op a b → Tells (keys_of catalog (unary n c op p)) a b
+  unary-shown (select cs) n c p a b x y ma mb h sa sb given k e g = whole-same a b x y sa sb (h.keyed (set_of k) (whole-on x y a b sa sb (set_of k) g) e)
+  unary-shown (project cols) n c p a b x y ma mb h sa sb given k e g = project-tells cols p a b x y h sa sb k e g
+  unary-shown (distinct cols) n c p a b x y ma mb h sa sb given k e g =
       agree-all (length cols) k a b (and-left (within (numbers_below (length cols)) k) (within k (numbers_below (length cols))) e) ma.wide mb.wide (agree-of k a b (on-pick k a b g))
-  unary-shown (sort of_parts cols) n c p a b x y ma mb h sa sb groups k e g =
+  unary-shown (sort of_parts cols) n c p a b x y ma mb h sa sb given k e g =
       whole-same a b x y sa sb (h.keyed (set_of k) (whole-on x y a b sa sb (set_of k) g) (and-right (not of_parts) (covers (claim p).keys k) e))
-  unary-shown (group plain by aggregates) n c p a b x y ma mb h sa sb groups k e g = groups k e g
-  unary-shown (group partial by aggregates) n c p a b x y ma mb h sa sb groups k e g = absurd (true≢false (sym e))
-  unary-shown (group final by aggregates) n c p a b x y ma mb h sa sb groups k e g = groups k e g
+  unary-shown (group plain by aggregates) n c p a b x y ma mb h sa sb given k e g = given k e g
+  unary-shown (group partial by aggregates) n c p a b x y ma mb h sa sb given k e g = absurd (true≢false (sym e))
+  unary-shown (group final by aggregates) n c p a b x y ma mb h sa sb given k e g = given k e g
+  unary-shown (limit m) n c p a b x y ma mb h sa sb given k e g = ⊎_elim
+      (λ few. given few)
+      (λ kept. whole-same a b x y sa sb (h.keyed (set_of k) (whole-on x y a b sa sb (set_of k) g) kept))
+      (or-cases (nat_le m 1) (covers (claim p).keys k) e)
 
   unary-below : (op : Unary) (n : ℕ) (c : Claim) (p : Plan) (a b x y : Row) → Agreed catalog p x y → StemOf op a x → StemOf op b y → Tells (key_below catalog (unary n c op p)) a b
   unary-below (select cs) n c p a b x y h sa sb k e g = absurd (true≢false (sym e))
@@ -192,13 +199,14 @@ module _ (catalog : ℕ → Relation) where
   unary-below (distinct cols) n c p a b x y h sa sb k e g = absurd (true≢false (sym e))
   unary-below (sort of_parts cols) n c p a b x y h sa sb k e g = absurd (true≢false (sym e))
   unary-below (group phase by aggregates) n c p a b x y h sa sb k e g = absurd (true≢false (sym e))
+  unary-below (limit m) n c p a b x y h sa sb k e g = absurd (true≢false (sym e))
 
   pub unary-agreed : (n : ℕ) (c : Claim) (op : Unary) (p : Plan) (a b x y : Row) → MeetsAt catalog (unary n c op p) a → MeetsAt catalog (unary n c op p) b
-      → keys_shown_derived catalog (unary n c op p) ≡ true → Agreed catalog p x y → StemOf op a x → StemOf op b y → AreGroups op a b → Agreed catalog (unary n c op p) a b
-  unary-agreed n c op p a b x y ma mb t h sa sb groups =
+      → keys_shown_derived catalog (unary n c op p) ≡ true → Agreed catalog p x y → StemOf op a x → StemOf op b y → AreGiven op a b → Agreed catalog (unary n c op p) a b
+  unary-agreed n c op p a b x y ma mb t h sa sb given =
       agreed-from (unary n c op p) a b ma mb
       (λ s g. input-pair (width catalog (unary n c op p)) (described op).copying (determined catalog p) a b x y (stem-copies op a x sa) (stem-copies op b y sb) h.determined_in s g)
-      (unary-shown op n c p a b x y ma mb h sa sb groups) (unary-below op n c p a b x y h sa sb) t
+      (unary-shown op n c p a b x y ma mb h sa sb given) (unary-below op n c p a b x y h sa sb) t
 
   -- ---- two inputs
 
@@ -280,6 +288,15 @@ module _ (catalog : ℕ → Relation) where
       let P : Row → Type 0 = λ i. ByInputs node i b in
       let Q : Row → Type 0 = λ i. ByInputs node (l ++ r) i in
       agreed-from node a b ma mb (subst P (sym pa.is) (subst Q (sym pb.is) by)) (join-tells on n c m p q a b l r j k hl hr pa pb) (λ x e g. absurd (true≢false (sym e))) t
+
+  -- rows of a semi or an anti join are rows of its left input
+  pub semi-join-agreed : (n : ℕ) (c : Claim) (matched : Bool) (on : List (ℕ × ℕ)) (conditions : List Condition) (p q : Plan) (a b : Row)
+      → MeetsAt catalog (binary n c (semi_join matched on conditions) p q) a → MeetsAt catalog (binary n c (semi_join matched on conditions) p q) b
+      → keys_shown_derived catalog (binary n c (semi_join matched on conditions) p q) ≡ true → Agreed catalog p a b → Agreed catalog (binary n c (semi_join matched on conditions) p q) a b
+  semi-join-agreed n c matched on conditions p q a b ma mb t h =
+      agreed-from (binary n c (semi_join matched on conditions) p q) a b ma mb
+      (λ s g. input-pair (width catalog p) whole_rows (determined catalog p) a b a b (whole-copies a) (whole-copies b) h.determined_in s g) (λ x e g. h.keyed (set_of x) g e)
+      (λ x e g. absurd (true≢false (sym e))) t
 
   -- ---- exchanges
 

@@ -3,10 +3,10 @@ use Rattle.std.proofs.Common.{◌≡◌, ⊎_elim, ℕ, ◌<◌, ◌==◌, Bool,
 use Rattle.std.specs.List.{list_all, AllByRecursion}
 use Rattle.vx_rows_values.specs.Values.{Row, pick}
 use Rattle.vx_catalog_relations.specs.Catalog.{all_below}
-use Rattle.vx_plan_nodes.specs.Plan.{Route, Part, one, any, all, routed, Size, Claim, Unary, select, project, distinct, sort, group, plain, partial, final, Binary, union, join, ExchangeKind, route_to, round, broadcast, gather, concat, target, Plan, scan, unary, binary, exchange, claim, size, is_one}
+use Rattle.vx_plan_nodes.specs.Plan.{Route, Part, one, any, all, routed, Size, Claim, Unary, select, project, distinct, sort, group, plain, partial, final, Binary, union, join, ExchangeKind, route_to, round, broadcast, gather, concat, target, Plan, scan, unary, binary, exchange, claim, size, is_one, limit, semi_join, Condition}
 use Rattle.vx_plan_nodes.specs.Parts.{kind_part}
 use Rattle.vx_plan_nodes.specs.Types.{width, well_formed, names_columns, part_columns}
-use Rattle.vx_plan_nodes.specs.Describe.{Copying, source, left_of, right_of, described}
+use Rattle.vx_plan_nodes.specs.Describe.{Copying, source, left_of, right_of, described, whole_rows}
 use Rattle.vx_plan_nodes.specs.Streams.{workers}
 use Rattle.vx_plan_nodes.specs.Routes.{Routing}
 use Rattle.vx_plan_nodes.specs.Numbering.{is_fit}
@@ -14,7 +14,7 @@ use Rattle.vx_plan_facts.specs.Equal.{Equality, equal_at}
 use Rattle.vx_plan_facts.specs.Following.{equal_lists}
 use Rattle.vx_plan_facts.specs.FollowLaws.{Occurs}
 use Rattle.vx_plan_facts.specs.RowFacts.{HasEqual, MeetsAt, EachMeets, all_inputs_fit, inputs_fit}
-use Rattle.vx_plan_facts.proofs.Columns.{HasCopies, left-copies, right-copies}
+use Rattle.vx_plan_facts.proofs.Columns.{HasCopies, left-copies, right-copies, whole-copies}
 use Rattle.vx_plan_facts.proofs.EachRow.{each-has, each-of-had}
 use Rattle.vx_check_rules.specs.Rules.{route_eq, cons_both, part_gives, has, copied, if_some, left_columns, right_columns, routed_alike, unless_one, unary_shows, alike_shows, kind_shows, shows}
 use Rattle.vx_check_rules.specs.Behaviour.{sources}
@@ -35,7 +35,7 @@ use Rattle.vx_exec_laws.proofs.DerivedPairs.{equal-picks}
 use Rattle.vx_exec_laws.proofs.DerivedOpen.{derived-tests}
 use Rattle.vx_exec_laws.proofs.DerivedParts.{stand-columns}
 use Rattle.vx_exec_laws.proofs.CutPairs.{StemOf, stem-copies}
-use Rattle.vx_exec_laws.proofs.CutOrigins.{under, on-left, on-right, same-size, fit-left, fit-right, put-occurs, exchange-comes, unary-comes, union-comes, joined-comes}
+use Rattle.vx_exec_laws.proofs.CutOrigins.{under, on-left, on-right, same-size, fit-left, fit-right, put-occurs, exchange-comes, unary-comes, union-comes, joined-comes, matched-so-far}
 
 -- ---- one row
 
@@ -113,6 +113,7 @@ shown-source (distinct kept) p r cols h = let k = if_some-is (copied kept cols) 
 shown-source (sort of_parts cs) p r cols h = (cols, sources-whole cols, h)
 shown-source (group plain by aggregates) p r cols h = let k = if_some-is (copied by cols) (λ cs. has p (routed r cs)) h in (k.0, sources-kept by cols ∙ k.1, k.2)
 shown-source (group partial by aggregates) p r cols h = let k = if_some-is (copied by cols) (λ cs. has p (routed r cs)) h in (k.0, sources-kept by cols ∙ k.1, k.2)
+shown-source (limit m) p r cols h = (cols, sources-whole cols, h)
 shown-source (group final by aggregates) p r cols h = let k = if_some-is (copied by cols) (λ cs. has p (routed r cs)) h in (k.0, sources-kept by cols ∙ k.1, k.2)
 
 kind-gives : (k : ExchangeKind) (q : Part) → kind_shows k q ≡ true → part_gives (kind_part k) q ≡ true
@@ -269,6 +270,29 @@ module _ (S : RunModel) (giv : Given S.catalog S.db S.sizes (goes S)) (meet : Me
       (or-cases ((has q all || met) && as_left) ((has p all || met) && as_right) h))
       t
 
+  -- a row of a semi or an anti join stands where it stood in the left input
+  semi-join-stands : (n : ℕ) (c : Claim) (matched : Bool) (on : List (ℕ × ℕ)) (conditions : List Condition) (p q : Plan) (w : ℕ) → w < workers S.sizes (size p)
+      → part_shown_derived S.catalog (binary n c (semi_join matched on conditions) p q) ≡ true → (a : Row) → MeetsAt S.catalog (binary n c (semi_join matched on conditions) p q) a
+      → MeetsAt S.catalog p a → StandsAt p w a → StandsAt (binary n c (semi_join matched on conditions) p q) w a
+  semi-join-stands n c matched on conditions p q w l t a ma ml at =
+      let node : Plan = binary n c (semi_join matched on conditions) p q in
+      let m : ℕ = workers S.sizes (size p) in
+      let e : Equality = equal_at S.catalog p in
+      let f : Equality = equal_at S.catalog q in
+      by-part (goes S) giv.in_range (is_one (size p)) (shows S.catalog node) (part_derived S.catalog node) c.part m w (one-worker S.sizes (size p)) l a
+      (λ r cols h.
+      let alike : Bool = routed_alike on (claim p).part (claim q).part in
+      let gives : Bool = part_gives (claim p).part (routed r cols) in
+      ⊎_elim
+      (λ i. gives-row (goes S) (claim p).part (routed r cols) m w a (and-right alike gives i) at)
+      (λ i. had p w l a at (routed r cols) (and-right (has q all) (has p (routed r cols)) i))
+      (or-cases (alike && gives) (has q all && has p (routed r cols)) h))
+      (λ r cols h.
+      let met : Bool = has q all || routed_alike_equally e f on (claim p).part (claim q).part in
+      let as_left : Bool = routed_as (width S.catalog p) whole_rows e (equal_at S.catalog node) (claim p).part (routed r cols) in
+      routed-row (goes S) (width S.catalog p) whole_rows e (equal_at S.catalog node) (claim p).part r cols m w a a (and-right met as_left h) ml.alike ma.alike (whole-copies a) at)
+      t
+
   exchange-stands : (n : ℕ) (c : Claim) (k : ExchangeKind) (merge : List ℕ) (p : Plan) (w : ℕ) → w < workers S.sizes (target k) → part_shown_derived S.catalog (exchange n c k merge p) ≡ true
       → (a : Row) → MeetsAt S.catalog (exchange n c k merge p) a → At (goes S) (kind_part k) (workers S.sizes (target k)) w a → StandsAt (exchange n c k merge p) w a
   exchange-stands n c k merge p w l t a ma at =
@@ -324,6 +348,13 @@ module _ (S : RunModel) (giv : Given S.catalog S.db S.sizes (goes S)) (meet : Me
       let k = joined-comes S n c m on p q ts same x a o in
       join-stands n c m on p q same (named (width S.catalog p) (claim p) (names S.catalog p fp.formed)).0 x.place x.below (derived-tests S.catalog node (here S node f)).4 a k.0 k.1 k.4
       (row-meets node f ts run x a o) (row-meets p fp ts run.0 l k.0 k.2) (row-meets q fq ts run.1 r k.1 k.3) (stands p fp ts run.0 l k.0 k.2) (stands q fq ts run.1 r k.1 k.3)
+  stands (binary n c (semi_join matched on conditions) p q) f ts run x a o =
+      let node : Plan = binary n c (semi_join matched on conditions) p q in
+      let fp : Fine S p = fine-left S n c (semi_join matched on conditions) p q f in
+      let l : Output S p ts = on-left S n c (semi_join matched on conditions) p q ts x in
+      let k = matched-so-far S n c matched on conditions p q ts x a o in
+      semi-join-stands n c matched on conditions p q x.place x.below (derived-tests S.catalog node (here S node f)).4 a (row-meets node f ts run x a o) (row-meets p fp ts run.0 l a k)
+      (stands p fp ts run.0 l a k)
   stands (exchange n c k merge p) f ts run x a o =
       let node : Plan = exchange n c k merge p in
       let s = exchange-comes S n c k merge p ts run x a o in

@@ -3,7 +3,7 @@ use Rattle.std.proofs.Common.{◌≡◌, ⊎_elim, inl, ℕ, ◌<◌, ◌==◌, 
 use Rattle.std.specs.List.{list_all, AllByRecursion}
 use Rattle.vx_rows_values.specs.Values.{Row}
 use Rattle.vx_rows_values.specs.Order.{sorted}
-use Rattle.vx_plan_nodes.specs.Plan.{Size, Claim, Unary, Binary, union, join, ExchangeKind, route_to, round, broadcast, gather, concat, target, Plan, scan, unary, binary, exchange, claim, size, is_one}
+use Rattle.vx_plan_nodes.specs.Plan.{Size, Claim, Unary, Binary, union, join, ExchangeKind, route_to, round, broadcast, gather, concat, target, Plan, scan, unary, binary, exchange, claim, size, is_one, semi_join}
 use Rattle.vx_plan_nodes.specs.Types.{width}
 use Rattle.vx_plan_nodes.specs.Runs.{is_concat}
 use Rattle.vx_plan_nodes.specs.Serial.{binary_rows}
@@ -53,6 +53,8 @@ both-order : (S : RunModel) (n : ℕ) (c : Claim) (op : Binary) (p q : Plan) →
 both-order S n c union p q h ls rs v u = both-ordered S.catalog n (with_order c []) union p q (names S.catalog p h.formed) refl ls rs v u
 both-order S n c (join m on) p q h ls rs v u =
     both-ordered S.catalog n (with_order c (claim p).order) (join m on) p q (names S.catalog p h.formed) (prefix-self (claim p).order) ls rs v u
+both-order S n c (semi_join matched on conditions) p q h ls rs v u =
+    both-ordered S.catalog n (with_order c (claim p).order) (semi_join matched on conditions) p q (names S.catalog p h.formed) (prefix-self (claim p).order) ls rs v u
 
 goes-on-derived-is : (S : RunModel) (k : ExchangeKind) (p : Plan) → goes_on_derived S.catalog k p ≡ true
     → (is_concat k ≡ true) × (rises_equally (equal_at S.catalog p) (determined S.catalog p) (claim p).part (claim p).order ≡ true)

@@ -3,18 +3,18 @@ use Rattle.std.proofs.Common.{◌≡◌, ⊎_elim, ℕ, ◌<◌, Bool, true, fal
 use Rattle.vx_rows_values.specs.Values.{Row}
 use Rattle.vx_rows_values.specs.Bags.{total, SameRows}
 use Rattle.vx_catalog_relations.specs.Relation.{Relation}
-use Rattle.vx_plan_nodes.specs.Plan.{Part, one, any, all, routed, Size, Claim, Unary, select, project, distinct, sort, group, plain, partial, final, Binary, union, join, ExchangeKind, route_to, round, broadcast, gather, concat, Plan, scan, unary, binary, exchange, claim, size, is_one}
+use Rattle.vx_plan_nodes.specs.Plan.{Part, one, any, all, routed, Size, Claim, Unary, select, project, distinct, sort, group, plain, partial, final, Binary, union, join, ExchangeKind, route_to, round, broadcast, gather, concat, Plan, scan, unary, binary, exchange, claim, size, is_one, limit, semi_join}
 use Rattle.vx_plan_nodes.specs.Parts.{kind_part}
 use Rattle.vx_plan_nodes.specs.Phases.{is_partial, is_final}
 use Rattle.vx_plan_nodes.specs.Types.{width}
-use Rattle.vx_plan_nodes.specs.Describe.{Copying, left_of, right_of, described}
+use Rattle.vx_plan_nodes.specs.Describe.{Copying, left_of, right_of, described, whole_rows}
 use Rattle.vx_plan_nodes.specs.Serial.{unary_rows, binary_rows}
 use Rattle.vx_plan_nodes.specs.Streams.{workers}
 use Rattle.vx_plan_nodes.specs.Routes.{Routing}
 use Rattle.vx_plan_nodes.specs.Numbering.{is_fit}
 use Rattle.vx_plan_facts.specs.Equal.{Equality, equal_at}
-use Rattle.vx_check_rules.specs.Rules.{part_gives, has, routed_alike, unless_one, unary_shows, join_shows, shows}
-use Rattle.vx_check_rules.specs.Derived.{part_matches, routed_as, routed_alike_equally, part_derived, part_shown_derived}
+use Rattle.vx_check_rules.specs.Rules.{part_gives, has, routed_alike, unless_one, unary_shows, join_shows, shows, semi_join_shows}
+use Rattle.vx_check_rules.specs.Derived.{part_matches, routed_as, routed_alike_equally, part_derived, part_shown_derived, is_total_derived, first_rows_known_derived}
 use Rattle.vx_ports.specs.Packets.{PacketView, rows_of, has_last}
 use Rattle.vx_ops.specs.Ledger.{Stream}
 use Rattle.vx_ops.specs.declared.fault.StreamState.TheVariants.{Ended}
@@ -28,8 +28,9 @@ use Rattle.vx_exec_laws.proofs.Bags.{and-left, and-right, SameRows-refl, across-
 use Rattle.vx_exec_laws.proofs.Parts.{or-cases, one-worker}
 use Rattle.vx_exec_laws.proofs.Binary.{append-same}
 use Rattle.vx_exec_laws.proofs.Join.{join-same}
+use Rattle.vx_exec_laws.proofs.SemiJoin.{matched-same}
 use Rattle.vx_exec_laws.proofs.Orders.{Dealt-one}
-use Rattle.vx_exec_laws.proofs.Operators.{whole}
+use Rattle.vx_exec_laws.proofs.Operators.{is_limit, by-limit, whole}
 use Rattle.vx_exec_laws.proofs.Unary.{some-is}
 use Rattle.vx_exec_laws.proofs.Decks.{dispatched-dealt}
 use Rattle.vx_exec_laws.proofs.Packets.{port-rows}
@@ -78,6 +79,11 @@ derived-not-all catalog (binary n c (join m on) p q) h =
     (λ i. routed-not-all w (left_of v) e g (claim p).part (and-right (has q all || met) as_left i))
     (λ i. routed-not-all w (right_of v) f g (claim q).part (and-right (has p all || met) as_right i))
     (or-cases ((has q all || met) && as_left) ((has p all || met) && as_right) h)
+derived-not-all catalog (binary n c (semi_join matched on conditions) p q) h =
+    let e : Equality = equal_at catalog p in
+    let met : Bool = has q all || routed_alike_equally e (equal_at catalog q) on (claim p).part (claim q).part in
+    let g : Equality = equal_at catalog (binary n c (semi_join matched on conditions) p q) in
+    routed-not-all (width catalog p) whole_rows e g (claim p).part (and-right met (routed_as (width catalog p) whole_rows e g (claim p).part all) h)
 derived-not-all catalog (exchange n c k merge p) h = matches-not-all (equal_at catalog p) (kind_part k) h
 
 shows-all : (catalog : ℕ → Relation) (p : Plan) → (is_one (size p) ≡ true → ⊥) → has p all ≡ true → part_shown_derived catalog p ≡ true → shows catalog p all ≡ true
@@ -97,6 +103,7 @@ unary-all (sort of_parts cols) p h = h
 unary-all (group plain by aggregates) p h = h
 unary-all (group partial by aggregates) p h = h
 unary-all (group final by aggregates) p h = h
+unary-all (limit m) p h = h
 
 join-all : (on : List (ℕ × ℕ)) (v : ℕ) (p q : Plan) → join_shows on v p q all ≡ true → (has p all ≡ true) × (has q all ≡ true)
 join-all on v p q h =
@@ -109,25 +116,50 @@ join-all on v p q h =
     (λ g. (and-left (has p all) (has q all) g, and-right (has p all) (has q all) g))
     (or-cases ((alike && false) || (has q all && has p all)) (has p all && has q all) h)
 
+-- the left input of a semi or an anti join that is routed as the right one has each row once
+semi-join-all : (on : List (ℕ × ℕ)) (p q : Plan) → semi_join_shows on p q all ≡ true → (has p all ≡ true) × (has q all ≡ true)
+semi-join-all on p q h =
+    let alike : Bool = routed_alike on (claim p).part (claim q).part in
+    let gives : Bool = part_gives (claim p).part all in
+    ⊎_elim
+    (λ i. absurd (once (claim p).part (claim q).part (and-left alike gives i) (and-right alike gives i)))
+    (λ i. (and-right (has q all) (has p all) i, and-left (has q all) (has p all) i))
+    (or-cases (alike && gives) (has q all && has p all) h)
+  where
+    once : (x y : Part) → routed_alike on x y ≡ true → part_gives x all ≡ true → ⊥
+    once one y a g = true≢false (sym g)
+    once any y a g = true≢false (sym g)
+    once all y a g = true≢false (sym a)
+    once (routed r cols) y a g = true≢false (sym g)
+
+-- a limit has one worker
+pub limit-alone : (catalog : ℕ → Relation) (n : ℕ) (c : Claim) (m : ℕ) (p : Plan) → first_rows_known_derived catalog (unary n c (limit m) p) ≡ true → is_one (size p) ≡ true
+limit-alone catalog n c m p t = and-left (is_one (size p)) (is_total_derived catalog p) t
+
+no-limit : (catalog : ℕ → Relation) (n : ℕ) (c : Claim) (op : Unary) (p : Plan) → first_rows_known_derived catalog (unary n c op p) ≡ true → (is_one (size p) ≡ true → ⊥) → is_limit op ≡ false
+no-limit catalog n c op p t many = by-limit (λ op. first_rows_known_derived catalog (unary n c op p) ≡ true → is_limit op ≡ false) (λ m t. absurd (many (limit-alone catalog n c m p t))) (λ op e t. e) op t
+
 -- ---- operators
 
-pub bags : (goes : Routing) (op : Unary) (xs ys us vs : List Row) → SameRows xs ys → unary_rows op xs ≡ Some us → unary_rows op ys ≡ Some vs → SameRows us vs
-bags goes op xs ys us vs s e f = go op e f
+-- an operator that is no limit makes the same rows of lists of the same rows
+pub bags : (goes : Routing) (op : Unary) → is_limit op ≡ false → (xs ys us vs : List Row) → SameRows xs ys → unary_rows op xs ≡ Some us → unary_rows op ys ≡ Some vs → SameRows us vs
+bags goes op other xs ys us vs s e f = go op other e f
   where
-    by : (op : Unary) → (is_partial op || is_final op) ≡ false → unary_rows op xs ≡ Some us → unary_rows op ys ≡ Some vs → SameRows us vs
-    by op shut e f =
-        let m = (whole goes op shut).of_bags xs ys us s e in
+    by : (op : Unary) → (is_partial op || is_final op) ≡ false → is_limit op ≡ false → unary_rows op xs ≡ Some us → unary_rows op ys ≡ Some vs → SameRows us vs
+    by op shut other e f =
+        let m = (whole goes op shut other).of_bags xs ys us s e in
         let P : List Row → Type 0 = λ l. SameRows us l in
         subst P (some-is m.out vs (sym m.is ∙ f)) m.same
 
-    go : (op : Unary) → unary_rows op xs ≡ Some us → unary_rows op ys ≡ Some vs → SameRows us vs
-    go (select cs) e f = by (select cs) refl e f
-    go (project cols) e f = by (project cols) refl e f
-    go (distinct cols) e f = by (distinct cols) refl e f
-    go (sort of_parts cols) e f = by (sort of_parts cols) refl e f
-    go (group plain by_columns aggregates) e f = by (group plain by_columns aggregates) refl e f
-    go (group partial by_columns aggregates) e f = by (group plain by_columns aggregates) refl e f
-    go (group final by_columns aggregates) e f = by (group plain by_columns aggregates) refl e f
+    go : (op : Unary) → is_limit op ≡ false → unary_rows op xs ≡ Some us → unary_rows op ys ≡ Some vs → SameRows us vs
+    go (select cs) other e f = by (select cs) refl refl e f
+    go (project cols) other e f = by (project cols) refl refl e f
+    go (distinct cols) other e f = by (distinct cols) refl refl e f
+    go (sort of_parts cols) other e f = by (sort of_parts cols) refl refl e f
+    go (group plain by_columns aggregates) other e f = by (group plain by_columns aggregates) refl refl e f
+    go (group partial by_columns aggregates) other e f = by (group plain by_columns aggregates) refl refl e f
+    go (group final by_columns aggregates) other e f = by (group plain by_columns aggregates) refl refl e f
+    go (limit m) other e f = absurd (true≢false other)
 
 module _ (S : RunModel) (some_rows : 0 < S.morsel) where
   many : (p : Plan) (ts : ℕ → Trace) (x y : Output S p ts) → (x.place ≡ y.place → ⊥) → is_one (size p) ≡ true → ⊥
@@ -209,11 +241,12 @@ module _ (S : RunModel) (some_rows : 0 < S.morsel) where
       let ly = y.abides.0 in
       let mx = x.abides.2.ended (ap (λ (s : Stream). s.over) x.abides.3 ∙ ex) in
       let my = y.abides.2.ended (ap (λ (s : Stream). s.over) y.abides.3 ∙ ey) in
-      let below : has p all ≡ true = unary-all op p (shows-all S.catalog node (many node ts x y apart) h (derived-tests S.catalog node (here S node f)).4) in
+      let tests = derived-tests S.catalog node (here S node f) in
+      let below : has p all ≡ true = unary-all op p (shows-all S.catalog node (many node ts x y apart) h tests.4) in
       let s = same-whole p (fine-under S n c op p f) ts run (under S n c op p ts x) (under S n c op p ts y) apart below mx.0 my.0 in
       let P : List Row → Type 0 = λ l. SameRows l y.out.rows in
       let Q : List Row → Type 0 = λ l. SameRows lx.gave.rows l in
-      subst P (ap (λ (s : Stream). s.rows) x.abides.3) (subst Q (ap (λ (s : Stream). s.rows) y.abides.3) (bags (goes S) op lx.left.rows ly.left.rows lx.gave.rows ly.gave.rows s mx.1 my.1))
+      subst P (ap (λ (s : Stream). s.rows) x.abides.3) (subst Q (ap (λ (s : Stream). s.rows) y.abides.3) (bags (goes S) op (no-limit S.catalog n c op p tests.7 (many node ts x y apart)) lx.left.rows ly.left.rows lx.gave.rows ly.gave.rows s mx.1 my.1))
   same-whole (binary n c op p q) f ts run x y apart h ex ey =
       let node : Plan = binary n c op p q in
       let same : size p ≡ size q = same-size S n c op p q f.fit in
@@ -231,10 +264,12 @@ module _ (S : RunModel) (some_rows : 0 < S.morsel) where
       both : (op : Binary) → shows S.catalog (binary n c op p q) all ≡ true → (has p all ≡ true) × (has q all ≡ true)
       both union g = (and-left (has p all) (has q all) g, and-right (has p all) (has q all) g)
       both (join m on) g = join-all on (width S.catalog p) p q g
+      both (semi_join matched on conditions) g = semi-join-all on p q g
 
       together : (op : Binary) (ls js rs ks : List Row) → SameRows ls js → SameRows rs ks → SameRows (binary_rows op ls rs) (binary_rows op js ks)
       together union ls js rs ks s t = append-same s t
       together (join m on) ls js rs ks s t = join-same on ls js rs ks s t
+      together (semi_join matched on conditions) ls js rs ks s t = matched-same matched on conditions ls js rs ks s t
   same-whole (exchange n c (route_to z r cols) merge p) f ts run x y apart h ex ey =
       let node : Plan = exchange n c (route_to z r cols) merge p in
       absurd (true≢false (sym (shows-all S.catalog node (many node ts x y apart) h (derived-tests S.catalog node (here S node f)).4)))

@@ -1,38 +1,27 @@
 -- The theorems on the rule table with what is known of columns.
-use Rattle.std.proofs.Common.{◌≡◌, ⊎_elim, ℕ, ◌<◌, Bool, true, false, not, ◌&&◌, ◌||◌, List, refl, sym, ap, subst, arith, true≢false}
+use Rattle.std.proofs.Common.{◌≡◌, ℕ, ◌<◌, Bool, true, false, not, ◌&&◌, ◌||◌, List, refl, sym, ap, subst, true≢false}
 use Rattle.std.proofs.lemmas.Bool.{not-true}
-use Rattle.std.specs.List.{list_any}
 use Rattle.vx_rows_values.specs.Values.{Row}
 use Rattle.vx_rows_values.specs.Order.{sorted}
-use Rattle.vx_rows_values.specs.Bags.{SameRows}
 use Rattle.vx_catalog_relations.specs.Relation.{Relation}
 use Rattle.vx_plan_nodes.specs.Plan.{Claim, Unary, ExchangeKind, Plan, scan, unary, binary, exchange, claim, size, size_eq, is_one}
 use Rattle.vx_plan_nodes.specs.Types.{width, names_columns, well_formed}
 use Rattle.vx_plan_nodes.specs.Phases.{is_open, spoken}
-use Rattle.vx_plan_nodes.specs.Streams.{Streams, joined, workers}
+use Rattle.vx_plan_nodes.specs.Streams.{Streams, workers}
 use Rattle.vx_plan_nodes.specs.Routes.{Routing}
 use Rattle.vx_plan_nodes.specs.Runs.{Runs}
-use Rattle.vx_plan_facts.specs.Equal.{equal_at}
-use Rattle.vx_plan_facts.specs.Fixed.{fixed_at}
-use Rattle.vx_plan_facts.specs.Determined.{determined}
-use Rattle.vx_plan_facts.specs.Following.{total_follows}
-use Rattle.vx_plan_facts.specs.FollowLaws.{Agreeing}
 use Rattle.vx_plan_facts.specs.RowFacts.{all_inputs_fit, inputs_fit, EachMeets}
-use Rattle.vx_plan_facts.proofs.FollowFacts.{total-follows}
-use Rattle.vx_check_rules.specs.Rules.{within, numbers_below, is_total_order}
-use Rattle.vx_check_rules.specs.Derived.{allowed_derived, allowed_here_derived}
+use Rattle.vx_check_rules.specs.Derived.{allowed_derived, allowed_here_derived, is_total_derived}
 use Rattle.vx_check_rules.specs.Claims.{Given, HoldsAt}
 use Rattle.vx_exec_laws.specs.DerivedSound.{all_sizes_match, DerivedSound, DerivedSoundAtRoot}
-use Rattle.vx_exec_laws.proofs.Bags.{and-left, and-right, and-both, SameRows-sym}
-use Rattle.vx_exec_laws.proofs.Parts.{or-cases, from_single-of, one-worker, size_eq-is}
-use Rattle.vx_exec_laws.proofs.Wide.{serial-wide}
+use Rattle.vx_exec_laws.proofs.Bags.{and-left, and-right, and-both}
+use Rattle.vx_exec_laws.proofs.Parts.{one-worker, size_eq-is}
 use Rattle.vx_exec_laws.proofs.Erased.{erased-rows}
-use Rattle.vx_exec_laws.proofs.WellFormed.{well-under, well-both, well-phased, names, named}
+use Rattle.vx_exec_laws.proofs.WellFormed.{well-under, well-both, well-phased, names}
 use Rattle.vx_exec_laws.proofs.OneInput.{close, HoldingAt, FitsStreams}
 use Rattle.vx_exec_laws.proofs.Frame.{well-spoken}
-use Rattle.vx_exec_laws.proofs.Total.{Reports, same-list, all-columns-tell, some-key}
-use Rattle.vx_exec_laws.proofs.DerivedPairs.{agreeing}
-use Rattle.vx_exec_laws.proofs.DerivedSerial.{serial-pairs}
+use Rattle.vx_exec_laws.proofs.FirstRows.{one-list}
+use Rattle.vx_exec_laws.proofs.DerivedTotal.{order-tells-derived}
 use Rattle.vx_exec_laws.proofs.DerivedOpen.{derived-tests}
 use Rattle.vx_exec_laws.proofs.DerivedStreams.{streams-meet}
 use Rattle.vx_exec_laws.proofs.DerivedNodes.{Sure, scan-sure, unary-sure, binary-sure, exchange-sure, fits-equally, streams-merged}
@@ -60,7 +49,7 @@ module _ (catalog : ℕ → Relation) (db : ℕ → List Row) (sizes : ℕ → �
   all-sure (unary k c op p) s wf fit ok run =
       let ok_p = and-left (allowed_derived catalog p) (allowed_here_derived catalog (unary k c op p)) ok in
       let well = well-under catalog k c op p wf in
-      unary-sure catalog db sizes goes given k c op p run.0 s (fit, ok, well-phased catalog (unary k c op p) wf) (fit, ok_p, well-phased catalog p well.0) well.1
+      unary-sure catalog db sizes goes given k c op p run.0 s (fit, ok, well-phased catalog (unary k c op p) wf) (fit, ok_p, well-phased catalog p well.0) well.0 well.1
       (all-sure p run.0 well.0 fit ok_p run.1) (meet-at p run.0 fit ok_p run.1) (meet-at (unary k c op p) s fit ok run) run.2
   all-sure (binary k c op p q) s wf fit ok run =
       let node : Plan = binary k c op p q in
@@ -98,8 +87,9 @@ module _ (catalog : ℕ → Relation) (db : ℕ → List Row) (sizes : ℕ → �
   fits-streams k c op p s wf fit ok run =
       let here : Bool = allowed_here_derived catalog (unary k c op p) in
       let ok_p = and-left (allowed_derived catalog p) here ok in
-      fits-equally catalog db sizes goes given k c op p s (and-right (allowed_derived catalog p) here ok)
-      (holding p s (well-under catalog k c op p wf).0 fit ok_p run) (meet-at p s fit ok_p run)
+      let well = well-under catalog k c op p wf in
+      fits-equally catalog db sizes goes given k c op p s (and-right (allowed_derived catalog p) here ok) (fit, ok_p, well-phased catalog p well.0) well.0 well.1
+      (all-sure p s well.0 fit ok_p run) (meet-at p s fit ok_p run)
 
   -- those below an exchange are sorted as it merges them
   pub merges-streams : (k : ℕ) (c : Claim) (kind : ExchangeKind) (merge : List ℕ) (p : Plan) (s : Streams) → well_formed catalog (exchange k c kind merge p) ≡ true → all_inputs_fit catalog p ≡ true
@@ -140,35 +130,13 @@ pub derived-sound-at-root : DerivedSoundAtRoot
 derived-sound-at-root catalog db sizes goes given is_total p s wf fit shut ok root run =
     let sure = all-sure catalog db sizes goes given p s wf fit ok run in
     let h = close catalog db sizes goes given p s (well-phased catalog p wf) shut sure.0 in
-    let w : ℕ = width catalog p in
-    let order : List ℕ = (claim p).order in
-    let keys : List (List ℕ) = (claim p).keys in
-    let follows : Bool = total_follows w (determined catalog p) keys order in
-    let tail : Bool = not is_total || (is_total_order catalog p || follows) in
-    let n1 : workers sizes (size p) ≡ 1 = one-worker sizes (size p) (and-left (is_one (size p)) tail root) in
-    let all_one : SameRows (joined (workers sizes (size p)) s) h.base = from_single-of goes given.in_range (claim p).part (workers sizes (size p)) s (λ xs. SameRows xs h.base) n1 h.holds.part in
-    let P : ℕ → Type 0 = λ m. SameRows (joined m s) h.base in
-    let same : SameRows (s 0) h.base = subst P n1 all_one in
-    let L : ℕ → Type 0 = λ m. 0 < m in
-    let first : 0 < workers sizes (size p) = subst L (sym n1) (omega arith) in
-    let wide_base = serial-wide catalog db given.meets p h.base wf h.is_serial in
+    let tail : Bool = not is_total || is_total_derived catalog p in
+    let list = one-list goes given.in_range (claim p) (workers sizes (size p)) s h.base (one-worker sizes (size p) (and-left (is_one (size p)) tail root)) h.holds in
     record {
       base = h.base;
       is_serial = erased-rows catalog db 0 p h.base wf h.is_serial;
-      same = same;
-      list = λ t.
-          let o : (is_total_order catalog p || follows) ≡ true = claimed is_total (is_total_order catalog p || follows) t (and-right (is_one (size p)) tail root) in
-          let tells : Reports order h.base = ⊎_elim
-          (λ g. ⊎_elim
-          (λ k. some-key keys order h.base h.holds.keys k)
-          (λ a. all-columns-tell w order h.base a wide_base)
-          (or-cases (list_any (λ k. within k order) keys) (within (numbers_below w) order) g))
-          (λ g.
-          let agree_base : Agreeing w (equal_at catalog p) (determined catalog p) h.base
-          = agreeing w (equal_at catalog p) (fixed_at catalog p) (determined catalog p) h.base (serial-pairs catalog db given.meets p fit sure.1 h.base h.is_serial) w (omega arith) in
-          λ a b oa ob e. total-follows w (equal_at catalog p) (determined catalog p) h.base agree_base wide_base keys (named w (claim p) (names catalog p wf)).2 h.holds.keys order g a b oa ob e)
-          (or-cases (is_total_order catalog p) follows o) in
-          sym (same-list order h.base (s 0) tells (SameRows-sym same) h.holds.order.1 (h.holds.order.0 0 first));
+      same = list.0;
+      list = λ t. list.1 (order-tells-derived catalog db given.meets p h.base wf fit h.is_serial sure.1 (claimed is_total (is_total_derived catalog p) t (and-right (is_one (size p)) tail root)));
     }
   where
     claimed : (t o : Bool) → t ≡ true → (not t || o) ≡ true → o ≡ true

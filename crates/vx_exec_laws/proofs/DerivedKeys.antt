@@ -7,7 +7,7 @@ use Rattle.vx_rows_values.specs.Bags.{count}
 use Rattle.vx_rows_values.specs.Keys.{HasKey}
 use Rattle.vx_rows_values.proofs.Compare.{agree-both}
 use Rattle.vx_catalog_relations.specs.Relation.{Relation, KeysHold, Meets}
-use Rattle.vx_plan_nodes.specs.Plan.{select, project, distinct, sort, group, Plan, scan, unary, binary, exchange, claim}
+use Rattle.vx_plan_nodes.specs.Plan.{select, project, distinct, sort, group, Plan, scan, unary, binary, exchange, claim, limit}
 use Rattle.vx_plan_nodes.specs.Types.{width}
 use Rattle.vx_plan_nodes.specs.Phases.{first_columns, is_open, phased, spoken, listed}
 use Rattle.vx_plan_nodes.specs.Describe.{columns_kept}
@@ -68,6 +68,7 @@ module _ (catalog : ℕ → Relation) (db : ℕ → List Row) (meets : (r : ℕ)
   below-key (unary n c (distinct cols) p) fit keys base is x t = absurd (true≢false (sym t))
   below-key (unary n c (sort of_parts cols) p) fit keys base is x t = absurd (true≢false (sym t))
   below-key (unary n c (group phase by aggregates) p) fit keys base is x t = absurd (true≢false (sym t))
+  below-key (unary n c (limit m) p) fit keys base is x t = absurd (true≢false (sym t))
   below-key (binary n c op p q) fit keys base is x t = absurd (true≢false (sym t))
   below-key (exchange n c k m p) fit keys base is x t = absurd (true≢false (sym t))
 

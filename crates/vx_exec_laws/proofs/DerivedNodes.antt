@@ -6,12 +6,12 @@ use Rattle.vx_rows_values.specs.Order.{sorted}
 use Rattle.vx_rows_values.specs.Bags.{count, SameRows}
 use Rattle.vx_rows_values.specs.Keys.{HasKey}
 use Rattle.vx_catalog_relations.specs.Relation.{Relation}
-use Rattle.vx_plan_nodes.specs.Plan.{Size, Part, one, any, all, routed, Claim, Plan, scan, unary, binary, exchange, claim, size, is_one, target, Unary, Binary, union, join, ExchangeKind, route_to, round, broadcast, gather, concat}
+use Rattle.vx_plan_nodes.specs.Plan.{Size, Part, one, any, all, routed, Claim, Plan, scan, unary, binary, exchange, claim, size, is_one, target, Unary, Binary, union, join, ExchangeKind, route_to, round, broadcast, gather, concat, semi_join, Condition}
 use Rattle.vx_plan_nodes.specs.Parts.{kind_part}
 use Rattle.vx_plan_nodes.specs.Types.{width, names_columns, well_formed}
 use Rattle.vx_plan_nodes.specs.Phases.{phase_fits, phased, spoken, Gives, listed}
-use Rattle.vx_plan_nodes.specs.Describe.{left_of, right_of, described}
-use Rattle.vx_plan_nodes.specs.Serial.{rows, serial, unary_rows, binary_rows, join_rows}
+use Rattle.vx_plan_nodes.specs.Describe.{left_of, right_of, described, whole_rows}
+use Rattle.vx_plan_nodes.specs.Serial.{rows, serial, unary_rows, binary_rows, join_rows, matched_rows}
 use Rattle.vx_plan_nodes.specs.Streams.{Streams, joined, workers}
 use Rattle.vx_plan_nodes.specs.Routes.{Routing}
 use Rattle.vx_plan_nodes.specs.Runs.{Exchanges, Runs}
@@ -23,8 +23,8 @@ use Rattle.vx_plan_facts.specs.Following.{order_follows}
 use Rattle.vx_plan_facts.specs.FollowLaws.{Occurs}
 use Rattle.vx_plan_facts.specs.RowFacts.{HasEqual, MeetsAt, EachMeets, all_inputs_fit}
 use Rattle.vx_plan_facts.proofs.EachRow.{each-weaken, each-of-had}
-use Rattle.vx_check_rules.specs.Rules.{has, part_gives, inputs_match, order_given, part_shown, order_shown, keys_of, unless_one, join_shows, routed_alike, alike_shows, through, left_columns, right_columns}
-use Rattle.vx_check_rules.specs.Derived.{part_matches, routed_alike_equally, unary_meets_equally, routed_as, is_any, join_routed, part_derived, needed_follows, goes_on_derived, unary_order, binary_order, order_derived, allowed_derived, allowed_here_derived, inputs_match_derived, order_given_derived}
+use Rattle.vx_check_rules.specs.Rules.{has, part_gives, inputs_match, order_given, part_shown, order_shown, keys_of, unless_one, join_shows, routed_alike, alike_shows, through, left_columns, right_columns, semi_join_shows}
+use Rattle.vx_check_rules.specs.Derived.{part_matches, routed_alike_equally, unary_meets_equally, routed_as, is_any, join_routed, part_derived, needed_follows, goes_on_derived, unary_order, binary_order, order_derived, allowed_derived, allowed_here_derived, inputs_match_derived, order_given_derived, semi_join_routed, is_total_derived, first_rows_known_derived}
 use Rattle.vx_check_rules.specs.Claims.{PartOf, PartHolds, OrderHolds, Given}
 use Rattle.vx_check_rules.proofs.Exact.{fits-exactly, parts-exactly}
 use Rattle.vx_check_rules.proofs.Bools.{or-left, or-right, or-false}
@@ -35,18 +35,20 @@ use Rattle.vx_exec_laws.proofs.Keys.{covers-key}
 use Rattle.vx_exec_laws.proofs.JoinOrder.{wide, all-append}
 use Rattle.vx_exec_laws.proofs.Join.{join-left, join-right}
 use Rattle.vx_exec_laws.proofs.Binary.{union-any}
+use Rattle.vx_exec_laws.proofs.SemiJoin.{matched-whole}
 use Rattle.vx_exec_laws.proofs.Exchange.{single-sorted}
 use Rattle.vx_exec_laws.proofs.Concat.{exchange-sorted}
 use Rattle.vx_exec_laws.proofs.Places.{part-placed, both-ordered}
-use Rattle.vx_exec_laws.proofs.Operators.{keeps, unary-order}
-use Rattle.vx_exec_laws.proofs.OneInput.{Holding, HoldingAt, FitsStreams, unary-ready, made-part, scan-part, scan-order, some, exchange-made, concat-joined, concat-sorted}
+use Rattle.vx_exec_laws.proofs.Operators.{keeps, by-limit, unary-order}
+use Rattle.vx_exec_laws.proofs.OneInput.{Holding, HoldingAt, FitsStreams, unary-ready, made-part, scan-part, scan-order, some, exchange-made, concat-joined, concat-sorted, Told, first-rows}
 use Rattle.vx_exec_laws.proofs.TwoInputs.{Both, both-have, binary-over, binary-serial, binary-part}
 use Rattle.vx_exec_laws.proofs.DerivedPairs.{pairs-among, order-from}
 use Rattle.vx_exec_laws.proofs.DerivedSerial.{KeysBelow, keys-with, serial-pairs}
 use Rattle.vx_exec_laws.proofs.DerivedOpen.{derived-tests, Stems, gives-each, listed-each, part-each, PairsAt, stem-pairs}
-use Rattle.vx_exec_laws.proofs.DerivedParts.{EqualIn, matches-part, matches-routed, meets-equally, routed-part, left-stems, right-stems, alike-equally}
+use Rattle.vx_exec_laws.proofs.DerivedParts.{EqualIn, matches-part, matches-routed, meets-equally, routed-part, left-stems, right-stems, alike-equally, whole-stems, matched-alike-equally}
 use Rattle.vx_exec_laws.proofs.DerivedOrders.{unary-given, prefix-self, ranged-equally}
 use Rattle.vx_exec_laws.proofs.DerivedKeys.{keys-derived, keys-at}
+use Rattle.vx_exec_laws.proofs.DerivedTotal.{order-tells-derived}
 
 -- a row of a stream is one of all
 stream-occurs : (n : ℕ) (s : Streams) (w : ℕ) → w < n → (row : Row) → Occurs row (s w) → Occurs row (joined n s)
@@ -81,6 +83,35 @@ shown-match catalog k c m on p q h = ⊎_elim
     by any g = three any g
     by all g = three all g
     by (routed r cols) g = three (routed r cols) g
+
+semi-shown-match : (catalog : ℕ → Relation) (k : ℕ) (c : Claim) (matched : Bool) (on : List (ℕ × ℕ)) (conditions : List Condition) (p q : Plan)
+    → part_shown catalog (binary k c (semi_join matched on conditions) p q) ≡ true → inputs_match (binary k c (semi_join matched on conditions) p q) ≡ true
+semi-shown-match catalog k c matched on conditions p q h = ⊎_elim
+    (λ o. or-left (is_one (size p)) (A || has q all) o)
+    (λ g. or-right (is_one (size p)) (A || has q all) (by c.part g))
+    (or-cases (is_one (size p)) (unless_one (semi_join_shows on p q) c.part) h)
+  where
+    A : Bool
+    A = routed_alike on (claim p).part (claim q).part
+
+    two : (x : Part) → semi_join_shows on p q x ≡ true → (A || has q all) ≡ true
+    two x g = ⊎_elim
+        (λ i. or-left A (has q all) (and-left A (part_gives (claim p).part x) i))
+        (λ i. or-right A (has q all) (and-left (has q all) (has p x) i))
+        (or-cases (A && part_gives (claim p).part x) (has q all && has p x) g)
+
+    by : (x : Part) → unless_one (semi_join_shows on p q) x ≡ true → (A || has q all) ≡ true
+    by one g = absurd (true≢false (sym g))
+    by any g = two any g
+    by all g = two all g
+    by (routed r cols) g = two (routed r cols) g
+
+-- a join of inputs that are routed alike has each row once
+any-part : (goes : Routing) (n : ℕ) (out : Streams) (list : List Row) (x : Part) → is_any x ≡ true → SameRows (joined n out) list → PartHolds goes x n out list
+any-part goes n out list one a h = absurd (true≢false (sym a))
+any-part goes n out list any a h = h
+any-part goes n out list all a h = absurd (true≢false (sym a))
+any-part goes n out list (routed r cols) a h = absurd (true≢false (sym a))
 
 module _ (catalog : ℕ → Relation) (db : ℕ → List Row) (sizes : ℕ → ℕ) (goes : Routing) (given : Given catalog db sizes goes) where
   -- a node's claim holds, and the claimed keys of it and of the nodes below it
@@ -153,22 +184,35 @@ module _ (catalog : ℕ → Relation) (db : ℕ → List Row) (sizes : ℕ → �
 
   -- ---- one input
 
+  -- the order of a limit's input tells its rows apart
+  told : (k : ℕ) (c : Claim) (op : Unary) (p : Plan) → first_rows_known_derived catalog (unary k c op p) ≡ true → Allowed p → well_formed catalog p ≡ true → ClaimedKeysHold db p → Told db op p
+  told k c op p t ok wf keys = by-limit (λ op. first_rows_known_derived catalog (unary k c op p) ≡ true → Told db op p)
+      (λ m t e. (
+        and-left (is_one (size p)) (is_total_derived catalog p) t,
+        λ xs is. order-tells-derived catalog db given.meets p xs wf ok.0 is keys (and-right (is_one (size p)) (is_total_derived catalog p) t),
+      ))
+      (λ op other t e. absurd (true≢false (sym e ∙ other))) op t
+
   -- the streams below an operator fit it
-  pub fits-equally : (k : ℕ) (c : Claim) (op : Unary) (p : Plan) (s : Streams) → allowed_here_derived catalog (unary k c op p) ≡ true → HoldingAt db sizes goes p s
-      → ((w : ℕ) → w < workers sizes (size p) → EachMeets catalog p (s w)) → FitsStreams catalog db sizes goes given op p s
-  fits-equally k c op p s here ih meets_in =
+  pub fits-equally : (k : ℕ) (c : Claim) (op : Unary) (p : Plan) (s : Streams) → allowed_here_derived catalog (unary k c op p) ≡ true → Allowed p → well_formed catalog p ≡ true
+      → phase_fits op p ≡ true → Sure p s → ((w : ℕ) → w < workers sizes (size p) → EachMeets catalog p (s w)) → FitsStreams catalog db sizes goes given op p s
+  fits-equally k c op p s here ok wf fits sure meets_in =
       let node : Plan = unary k c op p in
       let n : ℕ = workers sizes (size p) in
       let e : Equality = equal_at catalog p in
-      ⊎_elim
-      (λ h. inl (sym (fits-exactly catalog node) ∙ h))
-      (λ h. let m = meets-equally goes e op (claim p).part n s (λ xs. Gives p ih.base xs) h (equal-in p n s meets_in) ih.holds.part in inr (m.0, or-right (is_one (size p)) (part_gives (claim p).part any) m.1))
-      (or-cases (inputs_match node) (unary_meets_equally e op (claim p).part) (derived-tests catalog node here).2)
+      let ih = sure.0 in
+      let t = derived-tests catalog node here in (
+        ⊎_elim
+            (λ h. inl (sym (fits-exactly catalog node) ∙ h))
+            (λ h. let m = meets-equally goes e op (claim p).part n s (λ xs. Gives p ih.base xs) h (equal-in p n s meets_in) ih.holds.part in inr (m.0, or-right (is_one (size p)) (part_gives (claim p).part any) m.1))
+            (or-cases (inputs_match node) (unary_meets_equally e op (claim p).part) t.2),
+        first-rows catalog db sizes goes given op p s ok.2 fits ih (told k c op p t.7 ok wf sure.1),
+      )
 
-  pub unary-sure : (k : ℕ) (c : Claim) (op : Unary) (p : Plan) (s out : Streams) → Allowed (unary k c op p) → Allowed p → phase_fits op p ≡ true → Sure p s
+  pub unary-sure : (k : ℕ) (c : Claim) (op : Unary) (p : Plan) (s out : Streams) → Allowed (unary k c op p) → Allowed p → well_formed catalog p ≡ true → phase_fits op p ≡ true → Sure p s
       → ((w : ℕ) → w < workers sizes (size p) → EachMeets catalog p (s w)) → ((w : ℕ) → w < workers sizes (size p) → EachMeets catalog (unary k c op p) (out w))
       → ((w : ℕ) → w < workers sizes (size p) → unary_rows op (s w) ≡ Some (out w)) → Sure (unary k c op p) out
-  unary-sure k c op p s out ok ok_p fits sure meets_in meets_out run =
+  unary-sure k c op p s out ok ok_p wf fits sure meets_in meets_out run =
       let node : Plan = unary k c op p in
       let here = and-right (allowed_derived catalog p) (allowed_here_derived catalog node) ok.1 in
       let t = derived-tests catalog node here in
@@ -178,7 +222,7 @@ module _ (catalog : ℕ → Relation) (db : ℕ → List Row) (sizes : ℕ → �
       let det : Columns → Columns = determined catalog p in
       let in_equal : EqualIn e n s = equal-in p n s meets_in in
       let in_pairs : PairsOf p (joined n s) = part-pairs p ok_p sure.1 ih.base ih.is_serial (claim p).part n s ih.holds.part in
-      let fit = fits-equally k c op p s here ih meets_in in
+      let fit = fits-equally k c op p s here ok_p wf fits sure meets_in in
       let r = unary-ready catalog db sizes goes given k c op p s out ok_p.2 fits ih (λ xs. PairsOf p xs) (list-pairs p ok_p sure.1 ih.base ih.is_serial)
       (λ shut xs is. serial-pairs catalog db given.meets p ok_p.0 sure.1 xs is) fit run in
       finish node out ok here sure.1 r.base r.is_serial
@@ -250,7 +294,7 @@ module _ (catalog : ℕ → Relation) (db : ℕ → List Row) (sizes : ℕ → �
       let as_left : Bool = routed_as w (left_of v) e g (claim p).part x in
       let as_right : Bool = routed_as w (right_of v) f g (claim q).part x in
       ⊎_elim
-      (λ a. any-part x (and-left (is_any x) alike a) (met (and-right (is_any x) alike a)))
+      (λ a. any-part goes n out (join_rows on base rbase) x (and-left (is_any x) alike a) (met (and-right (is_any x) alike a)))
       (λ a. ⊎_elim
       (λ b.
       let way_is = and-left (has q all || alike) as_left b in
@@ -272,12 +316,38 @@ module _ (catalog : ℕ → Relation) (db : ℕ → List Row) (sizes : ℕ → �
       met (or-cases (has p all) alike way_is)))
       (or-cases ((has q all || alike) && as_left) ((has p all || alike) && as_right) a))
       (or-cases (is_any x && alike) (join_routed v w e f g on p q x) h)
-    where
-      any-part : (x : Part) → is_any x ≡ true → SameRows (joined (workers sizes (size p)) out) (join_rows on base rbase) → PartHolds goes x (workers sizes (size p)) out (join_rows on base rbase)
-      any-part one a h = absurd (true≢false (sym a))
-      any-part any a h = h
-      any-part all a h = absurd (true≢false (sym a))
-      any-part (routed r cols) a h = absurd (true≢false (sym a))
+
+  semi-join-derived : (k : ℕ) (c : Claim) (matched : Bool) (on : List (ℕ × ℕ)) (conditions : List Condition) (p q : Plan) (s t out : Streams) (base rbase : List Row)
+      (both : Both catalog db sizes goes given p q s t base rbase) (x : Part) → part_derived catalog (binary k c (semi_join matched on conditions) p q) x ≡ true
+      → EqualIn (equal_at catalog p) (workers sizes (size p)) s → EqualIn (equal_at catalog q) (workers sizes (size p)) t
+      → EqualIn (equal_at catalog (binary k c (semi_join matched on conditions) p q)) (workers sizes (size p)) out
+      → ((w : ℕ) → w < workers sizes (size p) → matched_rows matched on conditions (s w) (t w) ≡ out w)
+      → PartHolds goes x (workers sizes (size p)) out (matched_rows matched on conditions base rbase)
+  semi-join-derived k c matched on conditions p q s t out base rbase both x h es et eo run =
+      let n : ℕ = workers sizes (size p) in
+      let w : ℕ = width catalog p in
+      let e : Equality = equal_at catalog p in
+      let f : Equality = equal_at catalog q in
+      let g : Equality = equal_at catalog (binary k c (semi_join matched on conditions) p q) in
+      let alike : Bool = routed_alike_equally e f on (claim p).part (claim q).part in
+      let to : List Row → Type 0 = λ xs. SameRows xs (matched_rows matched on conditions base rbase) in
+      let met : alike ≡ true → to (joined n out)
+      = λ a. matched-alike-equally goes e f matched on conditions (claim p).part (claim q).part n s t out base rbase a es et run both.part both.part_right in
+      let as_left : Bool = routed_as w whole_rows e g (claim p).part x in
+      ⊎_elim
+      (λ a. any-part goes n out (matched_rows matched on conditions base rbase) x (and-left (is_any x) alike a) (met (and-right (is_any x) alike a)))
+      (λ a.
+      let way_is = and-left (has q all || alike) as_left a in
+      let as_is = and-right (has q all || alike) as_left a in
+      routed-part goes w whole_rows e g (claim p).part x as_is n s out (λ xs. SameRows xs base) to es eo
+      (λ i l cs ds src test u.
+      let P : List Row → Type 0 = λ xs. list_all (λ row. test (pick cs row)) xs ≡ true in
+      subst P (run i l) (whole-stems matched on conditions (s i) (t i) cs ds src test u))
+      both.part
+      (λ z. ⊎_elim
+      (λ o. matched-whole matched on conditions n s t out base rbase run (both.right all o) (both.left any (or-right (is_one (size p)) (part_gives (claim p).part any) z)))
+      met (or-cases (has q all) alike way_is)))
+      (or-cases (is_any x && alike) (semi_join_routed w e f g on p q x) h)
 
   pub binary-sure : (k : ℕ) (c : Claim) (op : Binary) (p q : Plan) (s t out : Streams) → Allowed (binary k c op p q) → well_formed catalog p ≡ true → names_columns (width catalog p) (claim p) ≡ true
       → (ih : Holding db sizes goes p s) → ClaimedKeysHold db p → (jh : Holding db sizes goes q t) → ClaimedKeysHold db q
@@ -319,6 +389,8 @@ module _ (catalog : ℕ → Relation) (db : ℕ → List Row) (sizes : ℕ → �
       both-order : (op : Binary) (ls rs : List Row) → wide (width catalog p) ls ≡ true → sorted (claim p).order ls ≡ true → sorted (binary_order op (claim p).order) (binary_rows op ls rs) ≡ true
       both-order union ls rs v u = both-ordered catalog k (with_order []) union p q names refl ls rs v u
       both-order (join m on) ls rs v u = both-ordered catalog k (with_order (claim p).order) (join m on) p q names (prefix-self (claim p).order) ls rs v u
+      both-order (semi_join matched on conditions) ls rs v u =
+          both-ordered catalog k (with_order (claim p).order) (semi_join matched on conditions) p q names (prefix-self (claim p).order) ls rs v u
 
       followed : (op : Binary) → order_derived catalog (binary k c op p q) c.order ≡ true
           → order_follows (equal_at catalog (binary k c op p q)) (determined catalog (binary k c op p q)) (binary_order op (claim p).order) c.order ≡ true
@@ -327,6 +399,7 @@ module _ (catalog : ℕ → Relation) (db : ℕ → List Row) (sizes : ℕ → �
       matched : (op : Binary) → inputs_match_derived catalog (binary k c op p q) ≡ true → part_shown catalog (binary k c op p q) ≡ true → inputs_match (binary k c op p q) ≡ true
       matched union h g = sym (or-false (inputs_match (binary k c union p q))) ∙ h
       matched (join m on) h g = shown-match catalog k c m on p q g
+      matched (semi_join keeps_matched on conditions) h g = semi-shown-match catalog k c keeps_matched on conditions p q g
 
       derived : (op : Binary) → part_derived catalog (binary k c op p q) c.part ≡ true
           → EqualIn (equal_at catalog p) (workers sizes (size p)) s → EqualIn (equal_at catalog q) (workers sizes (size p)) t → EqualIn (equal_at catalog (binary k c op p q)) (workers sizes (size p)) out
@@ -334,6 +407,7 @@ module _ (catalog : ℕ → Relation) (db : ℕ → List Row) (sizes : ℕ → �
           → PartHolds goes c.part (workers sizes (size p)) out (binary_rows op ih.base jh.base)
       derived union h es et eo run both = union-derived p q s t out ih.base jh.base both c.part h es et run
       derived (join m on) h es et eo run both = join-derived k c m on p q s t out ih.base jh.base both c.part h es et eo run
+      derived (semi_join matched on conditions) h es et eo run both = semi-join-derived k c matched on conditions p q s t out ih.base jh.base both c.part h es et eo run
 
   -- ---- exchanges
 

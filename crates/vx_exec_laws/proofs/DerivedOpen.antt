@@ -7,7 +7,7 @@ use Rattle.vx_rows_values.specs.Order.{agree}
 use Rattle.vx_rows_values.specs.Bags.{count, SameRows}
 use Rattle.vx_rows_values.proofs.Compare.{row_eq-same, row_eq-refl}
 use Rattle.vx_catalog_relations.specs.Relation.{Relation, Meets}
-use Rattle.vx_plan_nodes.specs.Plan.{Part, one, any, all, routed, Unary, select, project, distinct, sort, group, plain, partial, final, Aggregate, Plan, scan, unary, binary, exchange, claim}
+use Rattle.vx_plan_nodes.specs.Plan.{Part, one, any, all, routed, Unary, select, project, distinct, sort, group, plain, partial, final, Aggregate, Plan, scan, unary, binary, exchange, claim, limit}
 use Rattle.vx_plan_nodes.specs.Types.{width}
 use Rattle.vx_plan_nodes.specs.Phases.{is_open, phased, spoken, Gives, listed, is_row_of}
 use Rattle.vx_plan_nodes.specs.Describe.{columns_kept, whole_rows}
@@ -24,21 +24,23 @@ use Rattle.vx_plan_facts.specs.RowFacts.{all_inputs_fit}
 use Rattle.vx_plan_facts.proofs.Columns.{HasCopies, whole-copies, kept-copies, kept-alone, equal-lifted, fixed-carried}
 use Rattle.vx_plan_facts.proofs.EachRow.{each-map, each-firsts, each-sort, each-has, each-of-had, each-same, each-joined}
 use Rattle.vx_check_rules.specs.Rules.{covers}
-use Rattle.vx_check_rules.specs.Derived.{allowed_derived, allowed_here_derived, inputs_match_derived, order_given_derived, part_shown_derived, order_shown_derived, keys_shown_derived, key_derived, members}
+use Rattle.vx_check_rules.specs.Derived.{allowed_derived, allowed_here_derived, inputs_match_derived, order_given_derived, part_shown_derived, order_shown_derived, keys_shown_derived, key_derived, members, first_rows_known_derived}
 use Rattle.vx_check_rules.specs.Rules.{sizes_match, not_replicated}
 use Rattle.vx_check_rules.specs.Claims.{PartOf}
 use Rattle.vx_exec_laws.proofs.Bags.{and-left, and-right, total-append, SameRows-sym}
 use Rattle.vx_exec_laws.proofs.Opened.{closed-spoken}
-use Rattle.vx_exec_laws.proofs.OneInput.{seven}
+use Rattle.vx_exec_laws.proofs.OneInput.{eight}
 use Rattle.vx_exec_laws.proofs.DerivedPairs.{PairOf, Pairs, input-pair, closure-pair}
 use Rattle.vx_exec_laws.proofs.DerivedSerial.{serial-pairs}
 
 -- each test at a node
 pub derived-tests : (catalog : ℕ → Relation) (p : Plan) → allowed_here_derived catalog p ≡ true
     → (sizes_match p ≡ true) × (not_replicated p ≡ true) × (inputs_match_derived catalog p ≡ true) × (order_given_derived catalog p ≡ true)
-    × (part_shown_derived catalog p ≡ true) × (order_shown_derived catalog p ≡ true) × (keys_shown_derived catalog p ≡ true)
+    × (part_shown_derived catalog p ≡ true) × (order_shown_derived catalog p ≡ true) × (keys_shown_derived catalog p ≡ true) × (first_rows_known_derived catalog p ≡ true)
 derived-tests catalog p h =
-    seven (sizes_match p) (not_replicated p) (inputs_match_derived catalog p) (order_given_derived catalog p) (part_shown_derived catalog p) (order_shown_derived catalog p) (keys_shown_derived catalog p) h
+    let t = eight (sizes_match p) (not_replicated p) (inputs_match_derived catalog p) (order_given_derived catalog p) (first_rows_known_derived catalog p) (part_shown_derived catalog p)
+    (order_shown_derived catalog p) (keys_shown_derived catalog p) h in
+    (t.0, t.1, t.2, t.3, t.5, t.6, t.7, t.4)
 
 -- ---- where rows come from
 
@@ -64,6 +66,7 @@ stems-occur catalog (unary n c (sort true cols) p) fit e base row h = absurd (tr
 stems-occur catalog (unary n c (group plain by aggregates) p) fit e base row h = h
 stems-occur catalog (unary n c (group partial by aggregates) p) fit e base row h = absurd (true≢false e)
 stems-occur catalog (unary n c (group final by aggregates) p) fit e base row h = h
+stems-occur catalog (unary n c (limit m) p) fit e base row h = h
 stems-occur catalog (binary n c op p q) fit e base row h = h
 stems-occur catalog (exchange n c k m p) fit e base row h = stems-occur catalog p fit e base row h
 
@@ -117,6 +120,7 @@ gives-each catalog (unary n c (group partial by aggregates) p) base xs h =
     subst (AllByRecursion S) h.rows_are
     (pieces-each w by aggregates (omega arith) h.pieces base h.each (λ x o. let a : count (row_eq x) (flat_map (λ t. t.1) h.pieces) ≡ count (row_eq x) base = h.whole.totals (λ r. cond (row_eq x r) 1 0) in omega (arith, a, o)))
 gives-each catalog (unary n c (group final by aggregates) p) base xs h = same-each base xs h
+gives-each catalog (unary n c (limit m) p) base xs h = same-each base xs h
 gives-each catalog (binary n c op p q) base xs h = same-each base xs h
 gives-each catalog (exchange n c k m p) base xs h = gives-each catalog p base xs h
 
@@ -134,6 +138,7 @@ listed-each catalog (unary n c (group partial by aggregates) p) base =
     (each-map (λ row. Occurs row base) S (pick by)
     (λ x o. (x, o, kept-alone by x, (let b : length (pick by x) ≡ length by = length-map by (value_at x) in omega (arith, b)))) base (each-occurs base))
 listed-each catalog (unary n c (group final by aggregates) p) base = each-occurs base
+listed-each catalog (unary n c (limit m) p) base = each-occurs base
 listed-each catalog (binary n c op p q) base = each-occurs base
 listed-each catalog (exchange n c k m p) base = listed-each catalog p base
 
@@ -166,6 +171,7 @@ open-keys catalog (unary n c (group partial by aggregates) p) ok e =
     let t = derived-tests catalog node (and-right (allowed_derived catalog p) (allowed_here_derived catalog node) ok) in
     none-pass (key_derived catalog node) c.keys (λ k. refl) t.6
 open-keys catalog (unary n c (group final by aggregates) p) ok e = absurd (true≢false (sym e))
+open-keys catalog (unary n c (limit m) p) ok e = absurd (true≢false (sym e))
 open-keys catalog (binary n c op p q) ok e = absurd (true≢false (sym e))
 open-keys catalog (exchange n c k m p) ok e =
     let node : Plan = exchange n c k m p in
@@ -230,6 +236,7 @@ module _ (catalog : ℕ → Relation) (db : ℕ → List Row) (meets : (r : ℕ)
             (input-pair w (columns_kept by) (determined catalog p) a b sa.0 sb.0 sa.2 sb.2 k.agree);
       }
   open-pair (unary n c (group final by aggregates) p) fit ok e keys base is a b sa sb = absurd (true≢false (sym e))
+  open-pair (unary n c (limit m) p) fit ok e keys base is a b sa sb = absurd (true≢false (sym e))
   open-pair (binary n c op p q) fit ok e keys base is a b sa sb = absurd (true≢false (sym e))
   open-pair (exchange n c kind m p) fit ok e keys base is a b sa sb =
       let node : Plan = exchange n c kind m p in

@@ -5,7 +5,7 @@ use Rattle.std.specs.Ordering.{ordering_then, ordering_reverse}
 use Rattle.vx_rows_values.specs.Values.{Row, val_cmp, value_at, pick}
 use Rattle.vx_rows_values.specs.Order.{compare_on, sorted}
 use Rattle.vx_rows_values.proofs.Compare.{row_cmp_total}
-use Rattle.vx_plan_nodes.specs.Plan.{by_hash, by_range, Part, one, any, all, routed, Unary, select, project, distinct, sort, group, plain, partial, final}
+use Rattle.vx_plan_nodes.specs.Plan.{by_hash, by_range, Part, one, any, all, routed, Unary, select, project, distinct, sort, group, plain, partial, final, limit}
 use Rattle.vx_plan_nodes.specs.Phases.{first_columns}
 use Rattle.vx_plan_nodes.specs.Describe.{Copying, columns_kept, source, described}
 use Rattle.vx_plan_nodes.specs.Streams.{Streams, joined}
@@ -70,6 +70,8 @@ unary-given w (select cs) e f det below =
     record { sources_are = below; under = below; are_sources = sources-whole below; in_front = prefix-self below; in_order = λ v xs h u. u }
 unary-given w (sort of_parts cols) e f det below =
     record { sources_are = cols; under = below; are_sources = sources-whole cols; in_front = prefix-self cols; in_order = λ v xs h u. u }
+unary-given w (limit m) e f det below =
+    record { sources_are = below; under = below; are_sources = sources-whole below; in_front = prefix-self below; in_order = λ v xs h u. u }
 unary-given w (project cols) e f det below = copies-given (project cols) w (columns_kept cols) e f det below
     (λ ys s b. record { sources_are = ys; under = ys; are_sources = s; in_front = prefix-self ys; in_order = λ v xs h u. begins-from v e f det xs h below ys b u })
 unary-given w (distinct cols) e f det below = copies-given (distinct cols) w (columns_kept cols) e f det below

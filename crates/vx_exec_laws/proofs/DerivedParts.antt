@@ -3,9 +3,9 @@ use Rattle.std.proofs.Common.{◌≡◌, ⊎_elim, ℕ, ◌<◌, ◌==◌, Bool,
 use Rattle.std.specs.List.{list_all, list_any, AllByRecursion}
 use Rattle.vx_rows_values.specs.Values.{Row, pick}
 use Rattle.vx_rows_values.specs.Bags.{SameRows}
-use Rattle.vx_plan_nodes.specs.Plan.{Route, Part, one, any, all, routed, Unary, select, project, distinct, sort, group, plain, partial, final}
-use Rattle.vx_plan_nodes.specs.Describe.{Copying, source, left_of, right_of, described}
-use Rattle.vx_plan_nodes.specs.Serial.{join_rows}
+use Rattle.vx_plan_nodes.specs.Plan.{Route, Part, one, any, all, routed, Unary, select, project, distinct, sort, group, plain, partial, final, limit, Condition}
+use Rattle.vx_plan_nodes.specs.Describe.{Copying, source, left_of, right_of, described, whole_rows}
+use Rattle.vx_plan_nodes.specs.Serial.{join_rows, matched_rows}
 use Rattle.vx_plan_nodes.specs.Streams.{Streams, joined}
 use Rattle.vx_plan_nodes.specs.Routes.{Routing}
 use Rattle.vx_plan_facts.specs.Equal.{Equality}
@@ -24,7 +24,8 @@ use Rattle.vx_exec_laws.proofs.Parts.{or-cases, route_eq-is, list_all-always}
 use Rattle.vx_exec_laws.proofs.Join.{pick-left, pick-minus, join-alike}
 use Rattle.vx_exec_laws.proofs.JoinOrder.{wide, join-all, all-and}
 use Rattle.vx_exec_laws.proofs.Binary.{right_columns-is, left_columns-is}
-use Rattle.vx_exec_laws.proofs.Operators.{Meets}
+use Rattle.vx_exec_laws.proofs.SemiJoin.{matched-all, matched-alike}
+use Rattle.vx_exec_laws.proofs.Operators.{Meets, same-columns}
 use Rattle.vx_exec_laws.proofs.DerivedPairs.{equal-picks}
 
 -- ---- rows with equal columns
@@ -104,6 +105,7 @@ meets-equally goes e (distinct cols) q n s stands t h p = routed-meets goes e co
 meets-equally goes e (sort of_parts cols) q n s stands t h p = absurd (true≢false (sym t))
 meets-equally goes e (group plain by aggregates) q n s stands t h p = routed-meets goes e by q n s stands t h p
 meets-equally goes e (group partial by aggregates) q n s stands t h p = absurd (true≢false (sym t))
+meets-equally goes e (limit m) q n s stands t h p = absurd (true≢false (sym t))
 meets-equally goes e (group final by aggregates) q n s stands t h p = routed-meets goes e by q n s stands t h p
 
 -- ---- K3: columns that stand for others
@@ -207,20 +209,43 @@ pair-columns e f on (a ∷ ls) (b ∷ rs) t =
       and-both (f b k.1) (equal_lists f rs rest.1) k.4 rest.4,
     )
 
--- inputs that are routed alike on columns that are equal to those that are paired: rows that are paired meet
-pub alike-equally : (goes : Routing) (e f : Equality) (on : List (ℕ × ℕ)) (pp qp : Part) (n : ℕ) (s t out : Streams) (base rbase : List Row)
-    → routed_alike_equally e f on pp qp ≡ true → EqualIn e n s → EqualIn f n t → ((w : ℕ) → w < n → join_rows on (s w) (t w) ≡ out w)
-    → PartHolds goes pp n s base → PartHolds goes qp n t rbase → SameRows (joined n out) (join_rows on base rbase)
-alike-equally goes e f on one qp n s t out base rbase ra he hf run hp hq = absurd (true≢false (sym ra))
-alike-equally goes e f on any qp n s t out base rbase ra he hf run hp hq = absurd (true≢false (sym ra))
-alike-equally goes e f on all qp n s t out base rbase ra he hf run hp hq = absurd (true≢false (sym ra))
-alike-equally goes e f on (routed r ls) one n s t out base rbase ra he hf run hp hq = absurd (true≢false (sym ra))
-alike-equally goes e f on (routed r ls) any n s t out base rbase ra he hf run hp hq = absurd (true≢false (sym ra))
-alike-equally goes e f on (routed r ls) all n s t out base rbase ra he hf run hp hq = absurd (true≢false (sym ra))
-alike-equally goes e f on (routed r ls) (routed u rs) n s t out base rbase ra he hf run hp hq =
+-- inputs that are routed alike on columns that are equal to those that are paired: what holds of inputs that are routed alike on the pairs holds of them
+by-routes : (goes : Routing) (e f : Equality) (on : List (ℕ × ℕ)) (pp qp : Part) (n : ℕ) (s t : Streams) (base rbase : List Row) (G : Type 0)
+    → routed_alike_equally e f on pp qp ≡ true → EqualIn e n s → EqualIn f n t → PartHolds goes pp n s base → PartHolds goes qp n t rbase
+    → ((r : Route) (cs ds : List ℕ) → all_pairs on cs ds ≡ true → SameRows (joined n s) base → InItsStream goes r cs n s → SameRows (joined n t) rbase → InItsStream goes r ds n t → G) → G
+by-routes goes e f on one qp n s t base rbase G ra he hf hp hq met = absurd (true≢false (sym ra))
+by-routes goes e f on any qp n s t base rbase G ra he hf hp hq met = absurd (true≢false (sym ra))
+by-routes goes e f on all qp n s t base rbase G ra he hf hp hq met = absurd (true≢false (sym ra))
+by-routes goes e f on (routed r ls) one n s t base rbase G ra he hf hp hq met = absurd (true≢false (sym ra))
+by-routes goes e f on (routed r ls) any n s t base rbase G ra he hf hp hq met = absurd (true≢false (sym ra))
+by-routes goes e f on (routed r ls) all n s t base rbase G ra he hf hp hq met = absurd (true≢false (sym ra))
+by-routes goes e f on (routed r ls) (routed u rs) n s t base rbase G ra he hf hp hq met =
     let U : Route → Type 0 = λ k. InItsStream goes k rs n t in
     let same : r ≡ u = route_eq-is r u (and-left (route_eq r u) (all_pairs_equally e f on ls rs) ra) in
     let k = pair-columns e f on ls rs (and-right (route_eq r u) (all_pairs_equally e f on ls rs) ra) in
     let right : InItsStream goes r rs n t = subst U (sym same) hq.1 in
-    join-alike goes r on k.0 k.1 n s t out base rbase k.2 run hp.0 (λ w l. test-equal e ls k.0 k.3 (λ key. goes r key n == w) (s w) (he w l) (hp.1 w l))
+    met r k.0 k.1 k.2 hp.0 (λ w l. test-equal e ls k.0 k.3 (λ key. goes r key n == w) (s w) (he w l) (hp.1 w l))
     hq.0 (λ w l. test-equal f rs k.1 k.4 (λ key. goes r key n == w) (t w) (hf w l) (right w l))
+
+-- rows that are paired meet
+pub alike-equally : (goes : Routing) (e f : Equality) (on : List (ℕ × ℕ)) (pp qp : Part) (n : ℕ) (s t out : Streams) (base rbase : List Row)
+    → routed_alike_equally e f on pp qp ≡ true → EqualIn e n s → EqualIn f n t → ((w : ℕ) → w < n → join_rows on (s w) (t w) ≡ out w)
+    → PartHolds goes pp n s base → PartHolds goes qp n t rbase → SameRows (joined n out) (join_rows on base rbase)
+alike-equally goes e f on pp qp n s t out base rbase ra he hf run hp hq =
+    by-routes goes e f on pp qp n s t base rbase (SameRows (joined n out) (join_rows on base rbase)) ra he hf hp hq
+    (λ r cs ds pairs left ls right rs. join-alike goes r on cs ds n s t out base rbase pairs run left ls right rs)
+
+-- ---- semi and anti joins
+
+pub whole-stems : (matched : Bool) (on : List (ℕ × ℕ)) (conditions : List Condition) (ls rs : List Row) → StemsFrom whole_rows ls (matched_rows matched on conditions ls rs)
+whole-stems matched on conditions ls rs cs ds c test h =
+    let P : List ℕ → Type 0 = λ v. list_all (λ row. test (pick v row)) (matched_rows matched on conditions ls rs) ≡ true in
+    subst P (sym (same-columns cs ds c)) (matched-all (λ row. test (pick ds row)) matched on conditions ls rs h)
+
+-- a left row meets all right rows that match it
+pub matched-alike-equally : (goes : Routing) (e f : Equality) (matched : Bool) (on : List (ℕ × ℕ)) (conditions : List Condition) (pp qp : Part) (n : ℕ) (s t out : Streams) (base rbase : List Row)
+    → routed_alike_equally e f on pp qp ≡ true → EqualIn e n s → EqualIn f n t → ((w : ℕ) → w < n → matched_rows matched on conditions (s w) (t w) ≡ out w)
+    → PartHolds goes pp n s base → PartHolds goes qp n t rbase → SameRows (joined n out) (matched_rows matched on conditions base rbase)
+matched-alike-equally goes e f matched on conditions pp qp n s t out base rbase ra he hf run hp hq =
+    by-routes goes e f on pp qp n s t base rbase (SameRows (joined n out) (matched_rows matched on conditions base rbase)) ra he hf hp hq
+    (λ r cs ds pairs left ls right rs. matched-alike goes r matched on conditions cs ds n s t out base rbase pairs run left ls right rs)

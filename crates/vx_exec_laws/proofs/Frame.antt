@@ -25,8 +25,8 @@ use Rattle.vx_exec_laws.proofs.Parts.{stream-most}
 use Rattle.vx_exec_laws.proofs.Opened.{listed_rows, opened, opened-as}
 use Rattle.vx_exec_laws.proofs.Phased.{by-phase}
 use Rattle.vx_exec_laws.proofs.Pieces.{final-fits}
-use Rattle.vx_exec_laws.proofs.Operators.{whole}
-use Rattle.vx_exec_laws.proofs.OneInput.{FitsStreams, tests, Holding, HoldingAt, fitting-from, scan-holds, unary-holds, close, exchange-holds}
+use Rattle.vx_exec_laws.proofs.Operators.{whole, by-limit}
+use Rattle.vx_exec_laws.proofs.OneInput.{FitsStreams, FitsRows, fits-by-tests, Holding, HoldingAt, fitting-from, scan-holds, unary-holds, close, exchange-holds}
 use Rattle.vx_exec_laws.proofs.TwoInputs.{binary-holds}
 use Rattle.vx_exec_laws.proofs.WellFormed.{well-under, well-both, well-phased, names}
 
@@ -37,7 +37,7 @@ module _ (catalog : ℕ → Relation) (db : ℕ → List Row) (sizes : ℕ → �
       let here : Bool = allowed_here catalog (unary k c op p) in
       let well = well-under catalog k c op p wf in
       let h = all-hold p run.0 well.0 (and-left (allowed catalog p) here ok) run.1 in
-      unary-holds catalog db sizes goes given k c op p run.0 s (well-phased catalog p well.0) well.1 h (and-right (allowed catalog p) here ok) run.2
+      unary-holds catalog db sizes goes given k c op p run.0 s well.0 well.1 h (and-right (allowed catalog p) here ok) run.2
   all-hold (binary k c op p q) s wf ok run =
       let here : Bool = allowed_here catalog (binary k c op p q) in
       let rest = and-right (allowed catalog p) (allowed catalog q && here) ok in
@@ -65,14 +65,18 @@ module _ (catalog : ℕ → Relation) (db : ℕ → List Row) (sizes : ℕ → �
 
   operator-fits : (op : Unary) → (is_partial op || is_final op) ≡ false → (p : Plan) (s : Streams) (ih : Holding db sizes goes p s) → FitsStreams catalog db sizes goes given op p s
       → (xs : List Row) → unary_rows op ih.base ≡ Some xs → (w : ℕ) → w < workers sizes (size p) → IsSome (unary_rows op (s w))
-  operator-fits op e p s ih fit xs g w l = ⊎_elim
-      (λ f. let m = (whole goes op e).of_bags ih.base (s w) xs (SameRows-sym (f.0 w l)) g in some-list (unary_rows op (s w)) m.out m.is)
-      (λ f. (whole goes op e).splits (workers sizes (size p)) s ih.base xs f.0 f.1 g w l)
-      (fitting-from catalog db sizes goes given op p s (λ xs. SameRows xs ih.base) ih.holds.part fit)
+  operator-fits op e p s ih fit xs g w l = by-limit
+      (λ op. (is_partial op || is_final op) ≡ false → FitsRows catalog db sizes goes given op p s → unary_rows op ih.base ≡ Some xs → IsSome (unary_rows op (s w)))
+      (λ m e fit g. refl)
+      (λ op o e fit g. ⊎_elim
+      (λ f. let m = (whole goes op e o).of_bags ih.base (s w) xs (SameRows-sym (f.0 w l)) g in some-list (unary_rows op (s w)) m.out m.is)
+      (λ f. (whole goes op e o).splits (workers sizes (size p)) s ih.base xs f.0 f.1 g w l)
+      (fitting-from catalog db sizes goes given op p s (λ xs. SameRows xs ih.base) ih.holds.part fit))
+      op e fit.0 g
 
   -- a final over parts of groups that fit
   final-fit : (keys : List ℕ) (puts : List Aggregate) (p : Plan) (s : Streams) (ih : HoldingAt db sizes goes p s) → opens keys puts p ≡ true
-      → FitsStreams catalog db sizes goes given (group final keys puts) p s
+      → FitsRows catalog db sizes goes given (group final keys puts) p s
       → (ys : List Row) → serial db p ≡ rows ys → (w : ℕ) → w < workers sizes (size p) → IsSome (group_rows keys puts (s w))
   final-fit keys puts p s ih e fit ys h w l =
       let o = opened keys puts p e in
@@ -181,7 +185,7 @@ module _ (catalog : ℕ → Relation) (db : ℕ → List Row) (sizes : ℕ → �
       below : (by : List ℕ) (aggregates : List Aggregate) (o : SerialResult) → serial db p ≡ o → HoldingAt db sizes goes p u → opens by aggregates p ≡ true
           → FitsStreams catalog db sizes goes given (group final by aggregates) p u → after o (λ ys. or_overflow k (group_rows by aggregates ys)) ≡ rows xs → IsSome (group_rows by aggregates (u w))
       below by aggregates (overflow m) g h f t e = cc
-      below by aggregates (rows ys) g h f t e = final-fit by aggregates p u h f t ys g w l
+      below by aggregates (rows ys) g h f t e = final-fit by aggregates p u h f t.0 ys g w l
 
       decide : (by : List ℕ) (aggregates : List Aggregate) (b : Bool) → list_all (group_fits by aggregates (u w)) (group_keys by (u w)) ≡ b
           → (list_all (group_fits by aggregates (u w)) (group_keys by (u w)) ≡ false → HasLargeInput (group partial by aggregates) (serial db p) ⊎ IsTooLong (group partial by aggregates) (serial db p))
@@ -192,9 +196,9 @@ module _ (catalog : ℕ → Relation) (db : ℕ → List Row) (sizes : ℕ → �
 pub no-overflow : NoOverflow
 no-overflow catalog db sizes goes given n c op p u wf ok run =
     let here : Bool = allowed_here catalog (unary n c op p) in
-    let h = all-hold catalog db sizes goes given p u (well-under catalog n c op p wf).0 (and-left (allowed catalog p) here ok) run in
-    let t = tests catalog (unary n c op p) (and-right (allowed catalog p) here ok) in
-    no-overflow-from catalog db sizes goes given n c op p u wf h (inl t.2)
+    let well = well-under catalog n c op p wf in
+    let h = all-hold catalog db sizes goes given p u well.0 (and-left (allowed catalog p) here ok) run in
+    no-overflow-from catalog db sizes goes given n c op p u wf h (fits-by-tests catalog db sizes goes given n c op p u well.0 well.1 h (and-right (allowed catalog p) here ok))
 
 -- the plan that a claim speaks of is well formed
 pub well-spoken : (catalog : ℕ → Relation) (p : Plan) → well_formed catalog p ≡ true → well_formed catalog (spoken p) ≡ true

@@ -1,5 +1,5 @@
 -- Keys: a superset of a key is one, and what has fewer rows keeps them.
-use Rattle.std.proofs.Common.{◌≡◌, ℕ, ◌+◌, ◌≤◌, Bool, true, false, cond, ◌&&◌, ⊎_elim, List, [], ◌∷◌, filter, refl, sym, ◌∙◌, subst, arith, true≢false, eqb-true, is_eq, Ordering, Less, Equal, Greater}
+use Rattle.std.proofs.Common.{◌≡◌, ℕ, zero, suc, ◌+◌, ◌≤◌, nat_le, Bool, true, false, cond, ◌&&◌, ◌||◌, ⊎_elim, List, [], ◌∷◌, filter, take, refl, sym, ◌∙◌, subst, arith, true≢false, eqb-true, leb-true, is_eq, Ordering, Less, Equal, Greater}
 use Rattle.std.specs.List.{list_all}
 use Rattle.std.specs.Ordering.{ordering_then}
 use Rattle.vx_rows_values.specs.Values.{Row, val_cmp, value_at}
@@ -69,6 +69,31 @@ covers-key (k ∷ keys) x h xs ks = ⊎_elim
     (λ first. HasKey-within k x first xs ks.0)
     (λ later. covers-key keys x later xs ks.1)
     (or-cases _ _ h)
+
+-- the first rows have fewer, and at most so many
+pub count-take : {X : Type 0} (p : X → Bool) (n : ℕ) (xs : List X) → count p (take n xs) ≤ count p xs
+count-take p zero xs = omega arith
+count-take p (suc n) [] = omega arith
+count-take p (suc n) (x ∷ xs) = let a = count-take p n xs in omega (arith, a)
+
+pub count-first : {X : Type 0} (p : X → Bool) (n : ℕ) (xs : List X) → count p (take n xs) ≤ n
+count-first p zero xs = omega arith
+count-first p (suc n) [] = omega arith
+count-first p (suc n) (x ∷ xs) =
+    let a = count-first p n xs in
+    let b = at_most_one (p x) in
+    omega (arith, a, b)
+  where
+    at_most_one : (b : Bool) → cond b 1 0 ≤ 1
+    at_most_one true = omega arith
+    at_most_one false = omega arith
+
+-- a key of so many first rows: any columns of one row at most, and a key of all rows
+pub first-key : (n : ℕ) (keys : List (List ℕ)) (x : List ℕ) → (nat_le n 1 || covers keys x) ≡ true → (xs : List Row) → KeysHold keys xs → HasKey x (take n xs)
+first-key n keys x h xs ks row = ⊎_elim
+    (λ few. let a = leb-true n 1 few in let b = count-first (agree x row) n xs in omega (arith, a, b))
+    (λ covered. let a = count-take (agree x row) n xs in let b = covers-key keys x covered xs ks row in omega (arith, a, b))
+    (or-cases (nat_le n 1) (covers keys x) h)
 
 -- keys that a test shows hold where the test is right
 pub keys-from : (test : List ℕ → Bool) (ys : List Row) → ((x : List ℕ) → test x ≡ true → HasKey x ys)

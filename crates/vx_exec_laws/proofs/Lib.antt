@@ -10,6 +10,7 @@ pub mod Join
 pub mod JoinOrder
 pub mod Widths
 pub mod Binary
+pub mod SemiJoin
 pub mod Apart
 pub mod Groups
 pub mod Pieces
@@ -20,6 +21,7 @@ pub mod Opened
 pub mod Operators
 pub mod Wide
 pub mod Places
+pub mod FirstRows
 pub mod OneInput
 pub mod TwoInputs
 pub mod Frame
@@ -53,6 +55,7 @@ pub mod DerivedOpen
 pub mod DerivedParts
 pub mod DerivedOrders
 pub mod DerivedKeys
+pub mod DerivedTotal
 pub mod DerivedNodes
 pub mod DerivedFrame
 pub mod CutFacts

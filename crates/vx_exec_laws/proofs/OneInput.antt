@@ -1,5 +1,5 @@
 -- The claims of scans, of nodes with one input, and of exchanges.
-use Rattle.std.proofs.Common.{◌≡◌, ℕ, ◌+◌, ◌<◌, Bool, true, false, cond, ◌||◌, ⊎_elim, List, [], ◌∷◌, ◌++◌, map, length, refl, sym, ap, ◌∙◌, subst, arith, true≢false, Option, Some, None, ◌⊎◌, inl, inr, zero, suc, ◌≤◌, ap₂, slice_get, not}
+use Rattle.std.proofs.Common.{◌≡◌, ℕ, ◌+◌, ◌<◌, ◌&&◌, take, Bool, true, false, cond, ◌||◌, ⊎_elim, List, [], ◌∷◌, ◌++◌, map, length, refl, sym, ap, ◌∙◌, subst, arith, true≢false, Option, Some, None, ◌⊎◌, inl, inr, zero, suc, ◌≤◌, ap₂, slice_get, not}
 use Rattle.std.proofs.lemmas.Bool.{not-true}
 use Rattle.std.specs.List.{list_all, list_any}
 use Rattle.vx_rows_values.specs.Values.{Row, pick}
@@ -8,7 +8,7 @@ use Rattle.vx_rows_values.specs.Bags.{count, SameRows}
 use Rattle.vx_rows_values.specs.Keys.{HasKey}
 use Rattle.vx_catalog_relations.specs.Catalog.{all_below}
 use Rattle.vx_catalog_relations.specs.Relation.{Relation}
-use Rattle.vx_plan_nodes.specs.Plan.{Size, Part, one, any, all, routed, Claim, Plan, scan, unary, exchange, claim, size, Unary, sort, group, ExchangeKind, route_to, round, broadcast, gather, target, is_one, partial, final, Aggregate, concat}
+use Rattle.vx_plan_nodes.specs.Plan.{Size, Part, one, any, all, routed, Claim, Plan, scan, unary, exchange, claim, size, Unary, select, project, distinct, sort, group, limit, ExchangeKind, route_to, round, broadcast, gather, target, is_one, partial, final, Aggregate, concat}
 use Rattle.vx_plan_nodes.specs.Parts.{kind_part}
 use Rattle.vx_plan_nodes.specs.Describe.{Copying, whole_rows, described}
 use Rattle.vx_plan_nodes.specs.Serial.{group_keys, group_fits, unary_rows, SerialResult, rows, or_overflow, after, serial, group_row, aggregate_of, group_rows, of_key}
@@ -16,16 +16,17 @@ use Rattle.vx_plan_nodes.specs.Streams.{Streams, joined, workers}
 use Rattle.vx_plan_nodes.specs.Routes.{Routing}
 use Rattle.vx_plan_nodes.specs.Runs.{Exchanges, Runs}
 use Rattle.vx_plan_nodes.specs.Phases.{columns_from, first_columns, merged, is_partial, is_final, is_open, opens, phase_fits, phased, Parts, spoken, Gives, listed}
-use Rattle.vx_check_rules.specs.Rules.{part_gives, has, unless_one, unary_shows, copied, covers, is_prefix, within, numbers_below, routed_within, allowed_here, sizes_match, not_replicated, inputs_match, order_given, part_shown, order_shown, keys_shown, goes_on, unary_keys}
+use Rattle.vx_plan_nodes.specs.Types.{well_formed}
+use Rattle.vx_check_rules.specs.Rules.{part_gives, has, unless_one, unary_shows, copied, covers, is_prefix, within, numbers_below, routed_within, allowed_here, sizes_match, not_replicated, inputs_match, order_given, first_rows_known, is_total_order, part_shown, order_shown, keys_shown, goes_on, unary_keys}
 use Rattle.vx_check_rules.specs.Behaviour.{sources, order_after, way, own, bare, if_so, meet, over, gives, behaviour, fits, shown_part}
 use Rattle.vx_check_rules.specs.Claims.{PartHolds, Given, PartOf, ClaimOf}
 use Rattle.vx_check_rules.proofs.Exact.{fits-exactly, parts-exactly, sources-kept, unary-gives}
 use Rattle.vx_check_rules.proofs.Bools.{or-false, or-left, any-if}
-pub use Rattle.vx_check_rules.proofs.DerivedMore.{seven}
-use Rattle.vx_exec_laws.proofs.Bags.{SameRows-sym, and-left, SameRows-refl, SameRows-trans}
+pub use Rattle.vx_check_rules.proofs.DerivedMore.{eight}
+use Rattle.vx_exec_laws.proofs.Bags.{SameRows-sym, and-left, and-right, SameRows-refl, SameRows-trans}
 use Rattle.vx_exec_laws.proofs.Parts.{InRange, single-of, from_single-of, has-part, one-worker, some-workers, or-cases}
 use Rattle.vx_exec_laws.proofs.Orders.{sorted-front, Dealt-sorted}
-use Rattle.vx_exec_laws.proofs.Keys.{covers-key, keys-from}
+use Rattle.vx_exec_laws.proofs.Keys.{first-key, covers-key, keys-from}
 use Rattle.vx_exec_laws.proofs.Linear.{Linear-map, Linear-sort, sort-total, linear-same, linear-joined}
 use Rattle.vx_exec_laws.proofs.Copies.{copied-cons}
 use Rattle.vx_exec_laws.proofs.Unary.{some-is, project-sorted}
@@ -36,17 +37,20 @@ use Rattle.vx_exec_laws.proofs.Exchange.{Dealt-same, exchange-any, broadcast-all
 use Rattle.vx_exec_laws.proofs.Opened.{closed, listed_rows, Opened, listed-wide, opened, opened-as, Gives-order, final-serial}
 use Rattle.vx_exec_laws.proofs.Pieces.{columns-long, Parts-base, Parts-joined, Parts-groups, final-groups, fits-final}
 use Rattle.vx_exec_laws.proofs.Concat.{ranged, exchange-sorted}
-use Rattle.vx_exec_laws.proofs.Operators.{Made, Meets, Whole, whole, keeps, unary-order}
+use Rattle.vx_exec_laws.proofs.Operators.{Made, Meets, Whole, whole, is_limit, by-limit, keeps, unary-order}
+use Rattle.vx_exec_laws.proofs.FirstRows.{Reports, order-tells, one-list}
+use Rattle.vx_exec_laws.proofs.WellFormed.{well-phased}
 use Rattle.vx_exec_laws.proofs.Phased.{by-phase}
 use Rattle.vx_exec_laws.proofs.Places.{part-placed, had-place, unary-place, shown-part, made-gives}
 
--- each test at a node; those of its inputs and of its part by its behaviour
+-- each test at a node, the first rows last; those of its inputs and of its part by its behaviour
 pub tests : (catalog : ℕ → Relation) (p : Plan) → allowed_here catalog p ≡ true
     → (sizes_match p ≡ true) × (not_replicated p ≡ true) × ((is_one (size p) || fits (behaviour catalog p)) ≡ true) × (order_given p ≡ true)
     × ((is_one (size p) || shown_part (behaviour catalog p) (claim p).part) ≡ true) × (order_shown catalog p ≡ true) × (keys_shown catalog p ≡ true)
+    × (first_rows_known catalog p ≡ true)
 tests catalog p h =
-    let t = seven (sizes_match p) (not_replicated p) (inputs_match p) (order_given p) (part_shown catalog p) (order_shown catalog p) (keys_shown catalog p) h in
-    (t.0, t.1, sym (fits-exactly catalog p) ∙ t.2, t.3, sym (parts-exactly catalog p (claim p).part t.2) ∙ t.4, t.5, t.6)
+    let t = eight (sizes_match p) (not_replicated p) (inputs_match p) (order_given p) (first_rows_known catalog p) (part_shown catalog p) (order_shown catalog p) (keys_shown catalog p) h in
+    (t.0, t.1, sym (fits-exactly catalog p) ∙ t.2, t.3, sym (parts-exactly catalog p (claim p).part t.2) ∙ t.5, t.6, t.7, t.4)
 
 -- the plan that a claim speaks of has serial rows, and the claim holds of them and of these streams
 pub record HoldingOf (goes : Routing) (c : Claim) (n : ℕ) (s : Streams) (o : SerialResult) (gives_of : List Row → List Row → Type 0) (listed_of : List Row → List Row) : Type 0 where
@@ -61,6 +65,35 @@ HoldingAt db sizes goes p s = HoldingOf goes (claim p) (workers sizes (size p)) 
 -- at a node that is closed
 abbrev pub Holding : (ℕ → List Row) → (ℕ → ℕ) → Routing → Plan → Streams → Type 0
 Holding db sizes goes p s = HoldingOf goes (claim p) (workers sizes (size p)) s (serial db p) (λ base xs. SameRows xs base) (λ base. base)
+
+-- at a limit's input there is one worker, whose stream is the serial list
+abbrev pub FirstRows : (ℕ → List Row) → Unary → Plan → Streams → Type 0
+FirstRows db op p s = is_limit op ≡ true → (is_one (size p) ≡ true) × ((xs : List Row) → serial db p ≡ rows xs → s 0 ≡ xs)
+
+-- at a limit's input there is one worker, and the claimed order tells the serial rows apart
+abbrev pub Told : (ℕ → List Row) → Unary → Plan → Type 0
+Told db op p = is_limit op ≡ true → (is_one (size p) ≡ true) × ((xs : List Row) → serial db p ≡ rows xs → Reports (claim p).order xs)
+
+same-rows : (xs ys : List Row) → rows xs ≡ rows ys → xs ≡ ys
+same-rows xs ys e = cc
+
+-- what is tested at a limit
+limit-known : (catalog : ℕ → Relation) (k : ℕ) (c : Claim) (op : Unary) (p : Plan) → first_rows_known catalog (unary k c op p) ≡ true → is_limit op ≡ true
+    → (is_one (size p) && is_total_order catalog p) ≡ true
+limit-known catalog k c (select cs) p h e = absurd (true≢false (sym e))
+limit-known catalog k c (project cols) p h e = absurd (true≢false (sym e))
+limit-known catalog k c (distinct cols) p h e = absurd (true≢false (sym e))
+limit-known catalog k c (sort of_parts cols) p h e = absurd (true≢false (sym e))
+limit-known catalog k c (group phase by aggregates) p h e = absurd (true≢false (sym e))
+limit-known catalog k c (limit m) p h e = h
+
+limit-closed : (op : Unary) (p : Plan) → phase_fits op p ≡ true → is_limit op ≡ true → is_open p ≡ false
+limit-closed (select cs) p h e = absurd (true≢false (sym e))
+limit-closed (project cols) p h e = absurd (true≢false (sym e))
+limit-closed (distinct cols) p h e = absurd (true≢false (sym e))
+limit-closed (sort of_parts cols) p h e = absurd (true≢false (sym e))
+limit-closed (group phase by aggregates) p h e = absurd (true≢false (sym e))
+limit-closed (limit m) p h e = not-true (is_open p) h
 
 -- an operator fits its input
 abbrev pub FitsInput : Unary → Plan → Type 0
@@ -115,17 +148,21 @@ module _ (catalog : ℕ → Relation) (db : ℕ → List Row) (sizes : ℕ → �
   fitting-at op p s stands h e = fitting goes given.in_range (workers sizes (size p)) s stands p (described op).meets (described op).copying (one-worker sizes (size p)) e h
 
   -- by the tests, or as rows that have to meet do
+  abbrev pub FitsRows : Unary → Plan → Streams → Type 0
+  FitsRows op p s = FitsInput op p ⊎ (Meets goes (described op).meets (workers sizes (size p)) s × (has p any ≡ true))
+
+  -- and a limit has the serial list
   abbrev pub FitsStreams : Unary → Plan → Streams → Type 0
-  FitsStreams op p s = FitsInput op p ⊎ (Meets goes (described op).meets (workers sizes (size p)) s × (has p any ≡ true))
+  FitsStreams op p s = FitsRows op p s × FirstRows db op p s
 
   pub fitting-from : (op : Unary) (p : Plan) (s : Streams) (stands : List Row → Type 0) → PartOf goes (claim p).part (workers sizes (size p)) s stands
-      → FitsStreams op p s → Fitting goes (described op).meets (is_one (size p)) (claim p).part (workers sizes (size p)) s stands
+      → FitsRows op p s → Fitting goes (described op).meets (is_one (size p)) (claim p).part (workers sizes (size p)) s stands
   fitting-from op p s stands h fit = ⊎_elim (λ e. fitting-at op p s stands h e)
       (λ m. inr (m.0, has-part goes given.in_range (is_one (size p)) (claim p).part any (workers sizes (size p)) s stands (one-worker sizes (size p)) m.1 h)) fit
 
   -- ---- one step for all operators over one input
 
-  unary-together : (op : Unary) (p : Plan) (s out : Streams) (from to : List Row → Type 0) → PartOf goes (claim p).part (workers sizes (size p)) s from → FitsStreams op p s
+  unary-together : (op : Unary) (p : Plan) (s out : Streams) (from to : List Row → Type 0) → PartOf goes (claim p).part (workers sizes (size p)) s from → FitsRows op p s
       → Carries goes (described op).meets (unary_rows op) from to → ((w : ℕ) → w < workers sizes (size p) → unary_rows op (s w) ≡ Some (out w))
       → has p any ≡ true → to (joined (workers sizes (size p)) out)
   unary-together op p s out from to part fit carries run e = ⊎_elim
@@ -133,7 +170,7 @@ module _ (catalog : ℕ → Relation) (db : ℕ → List Row) (sizes : ℕ → �
       (λ f. carries.joins (workers sizes (size p)) s out f.0 f.1 run)
       (fitting-from op p s from part fit)
 
-  unary-part : (op : Unary) (p : Plan) (s out : Streams) (from to : List Row → Type 0) → PartOf goes (claim p).part (workers sizes (size p)) s from → FitsStreams op p s
+  unary-part : (op : Unary) (p : Plan) (s out : Streams) (from to : List Row → Type 0) → PartOf goes (claim p).part (workers sizes (size p)) s from → FitsRows op p s
       → Carries goes (described op).meets (unary_rows op) from to → ((w : ℕ) → w < workers sizes (size p) → unary_rows op (s w) ≡ Some (out w))
       → (q : Part) → (is_one (size p) || unless_one (unary_shows op p) q) ≡ true → PartOf goes q (workers sizes (size p)) out to
   unary-part op p s out from to part fit carries run q shown =
@@ -163,13 +200,13 @@ module _ (catalog : ℕ → Relation) (db : ℕ → List Row) (sizes : ℕ → �
     pub keyed : (x : List ℕ) → unary_keys op (claim p).keys x ≡ true → HasKey x (listed_of base)
 
   -- an operator that is whole
-  pub whole-ready : (k : ℕ) (op : Unary) → (is_partial op || is_final op) ≡ false → (p : Plan) (s out : Streams) (ih : Holding db sizes goes p s) (T : List Row → Type 0) → T ih.base
-      → FitsStreams op p s → ((w : ℕ) → w < workers sizes (size p) → unary_rows op (s w) ≡ Some (out w))
+  pub whole-ready : (k : ℕ) (op : Unary) → (is_partial op || is_final op) ≡ false → is_limit op ≡ false → (p : Plan) (s out : Streams) (ih : Holding db sizes goes p s) (T : List Row → Type 0) → T ih.base
+      → FitsRows op p s → ((w : ℕ) → w < workers sizes (size p) → unary_rows op (s w) ≡ Some (out w))
       → Ready op p out T (after (serial db p) (λ xs. or_overflow k (unary_rows op xs))) (λ base xs. SameRows xs base) (λ base. base)
-  whole-ready k op e p s out ih T of_list fit run =
+  whole-ready k op e l p s out ih T of_list fit run =
       let n : ℕ = workers sizes (size p) in
       let base : List Row = ih.base in
-      let facts : Whole goes op = whole goes op e in
+      let facts : Whole goes op = whole goes op e l in
       let made : (xs : List Row) × (unary_rows op base ≡ Some xs) = ⊎_elim
       (λ f. let m = facts.of_bags (s 0) base (out 0) (f.0 0 (some (size p))) (run 0 (some (size p))) in (m.out, m.is))
       (λ f. let m = facts.joins n s out base f.0 f.1 run in (m.out, m.is))
@@ -190,9 +227,45 @@ module _ (catalog : ℕ → Relation) (db : ℕ → List Row) (sizes : ℕ → �
         keyed = λ x g. facts.keyed (claim p).keys x g base made.0 made.1 ih.holds.keys;
       }
 
+  -- a limit, at one worker that has the serial list
+  limit-ready : (k m : ℕ) (p : Plan) (s out : Streams) (ih : Holding db sizes goes p s) (T : List Row → Type 0) → T ih.base
+      → FirstRows db (limit m) p s → ((w : ℕ) → w < workers sizes (size p) → unary_rows (limit m) (s w) ≡ Some (out w))
+      → Ready (limit m) p out T (after (serial db p) (λ xs. or_overflow k (unary_rows (limit m) xs))) (λ base xs. SameRows xs base) (λ base. base)
+  limit-ready k m p s out ih T of_list fit run =
+      let n : ℕ = workers sizes (size p) in
+      let first = fit refl in
+      let single : n ≡ 1 = one-worker sizes (size p) first.0 in
+      let base : List Row = take m ih.base in
+      let is : out 0 ≡ base = sym (some-is (take m (s 0)) (out 0) (run 0 (some (size p)))) ∙ ap (take m) (first.1 ih.base ih.is_serial) in
+      let P : List Row → Type 0 = λ xs. SameRows xs base in
+      let J : ℕ → Type 0 = λ v. SameRows (joined v out) base in
+      let gathered : SameRows (joined n out) base = subst J (sym single) (subst P (sym is) (SameRows-refl base)) in
+      record {
+        base = base;
+        is_serial = ap (λ x. after x (λ xs. or_overflow k (unary_rows (limit m) xs))) ih.is_serial;
+        part = λ q shown. single-of goes given.in_range q n out P single gathered;
+        together = λ e. gathered;
+        list = ih.base;
+        list_is = of_list;
+        list_sorted = ih.holds.order.1;
+        ordered = λ cs ds below c front up. (keeps (limit m)).ordered cs ds below c front ih.base base refl up;
+        keyed = λ x g. first-key m (claim p).keys x g ih.base ih.holds.keys;
+      }
+
+  -- an operator that is whole, or a limit
+  own-ready : (k : ℕ) (op : Unary) → (is_partial op || is_final op) ≡ false → (p : Plan) (s out : Streams) (ih : Holding db sizes goes p s) (T : List Row → Type 0) → T ih.base
+      → FitsStreams op p s → ((w : ℕ) → w < workers sizes (size p) → unary_rows op (s w) ≡ Some (out w))
+      → Ready op p out T (after (serial db p) (λ xs. or_overflow k (unary_rows op xs))) (λ base xs. SameRows xs base) (λ base. base)
+  own-ready k op e p s out ih T of_list fit run = by-limit
+      (λ op. (is_partial op || is_final op) ≡ false → FitsStreams op p s → ((w : ℕ) → w < workers sizes (size p) → unary_rows op (s w) ≡ Some (out w))
+      → Ready op p out T (after (serial db p) (λ xs. or_overflow k (unary_rows op xs))) (λ base xs. SameRows xs base) (λ base. base))
+      (λ m e fit run. limit-ready k m p s out ih T of_list fit.1 run)
+      (λ op l e fit run. whole-ready k op e l p s out ih T of_list fit.0 run)
+      op e fit run
+
   -- a partial grouping
   pub partial-ready : (by : List ℕ) (aggregates : List Aggregate) (p : Plan) (s out : Streams) (ih : Holding db sizes goes p s) (T : List Row → Type 0) → T ih.base
-      → FitsStreams (group partial by aggregates) p s → ((w : ℕ) → w < workers sizes (size p) → unary_rows (group partial by aggregates) (s w) ≡ Some (out w))
+      → FitsRows (group partial by aggregates) p s → ((w : ℕ) → w < workers sizes (size p) → unary_rows (group partial by aggregates) (s w) ≡ Some (out w))
       → Ready (group partial by aggregates) p out T (serial db p) (λ base xs. Parts by aggregates base xs) (λ base. group_keys by base)
   partial-ready by aggregates p s out ih T of_list fit run =
       let op : Unary = group partial by aggregates in
@@ -220,7 +293,7 @@ module _ (catalog : ℕ → Relation) (db : ℕ → List Row) (sizes : ℕ → �
 
   -- a sort of parts: of the same parts, in an order in which the keys are listed too
   pub parts-sort-ready : (cols : List ℕ) (p : Plan) (s out : Streams) (ih : HoldingAt db sizes goes p s) (T : List Row → Type 0) → T (listed p ih.base)
-      → FitsStreams (sort true cols) p s → ((w : ℕ) → w < workers sizes (size p) → unary_rows (sort true cols) (s w) ≡ Some (out w))
+      → FitsRows (sort true cols) p s → ((w : ℕ) → w < workers sizes (size p) → unary_rows (sort true cols) (s w) ≡ Some (out w))
       → Ready (sort true cols) p out T (serial db (spoken p)) (Gives p) (λ base. sort_on cols (listed p base))
   parts-sort-ready cols p s out ih T of_list fit run =
       let op : Unary = sort true cols in
@@ -272,7 +345,7 @@ module _ (catalog : ℕ → Relation) (db : ℕ → List Row) (sizes : ℕ → �
 
   final-of : (k : ℕ) (p : Plan) (keys_of : List ℕ) (puts_of : List Aggregate) (s out : Streams) (ih : HoldingAt db sizes goes p s) (T : List Row → Type 0) → T (listed p ih.base) → (opened_is : Opened keys_of puts_of p)
       → ((xs : List Row) → serial db p ≡ rows xs → group_rows (first_columns (length opened_is.by)) (merged (length opened_is.by) opened_is.aggregates) xs ≡ Some xs)
-      → FitsStreams (group final (first_columns (length opened_is.by)) (merged (length opened_is.by) opened_is.aggregates)) p s
+      → FitsRows (group final (first_columns (length opened_is.by)) (merged (length opened_is.by) opened_is.aggregates)) p s
       → ((w : ℕ) → w < workers sizes (size p) → group_rows (first_columns (length opened_is.by)) (merged (length opened_is.by) opened_is.aggregates) (s w) ≡ Some (out w))
       → Ready (group final (first_columns (length opened_is.by)) (merged (length opened_is.by) opened_is.aggregates)) p out T
       (after (serial db p) (λ xs. or_overflow k (group_rows (first_columns (length opened_is.by)) (merged (length opened_is.by) opened_is.aggregates) xs))) (λ base xs. SameRows xs base) (λ base. base)
@@ -324,13 +397,13 @@ module _ (catalog : ℕ → Relation) (db : ℕ → List Row) (sizes : ℕ → �
 
   pub final-ready : (k : ℕ) (keys : List ℕ) (puts : List Aggregate) (p : Plan) (s out : Streams) (ih : HoldingAt db sizes goes p s) (T : List Row → Type 0) → T (listed p ih.base)
       → opens keys puts p ≡ true
-      → FitsStreams (group final keys puts) p s
+      → FitsRows (group final keys puts) p s
       → ((w : ℕ) → w < workers sizes (size p) → group_rows keys puts (s w) ≡ Some (out w))
       → Ready (group final keys puts) p out T (after (serial db p) (λ xs. or_overflow k (group_rows keys puts xs))) (λ base xs. SameRows xs base) (λ base. base)
   final-ready k keys puts p s out ih T of_list e fit run =
       let o = opened keys puts p e in
       opened-as keys puts p o
-      (λ a b. ((xs : List Row) → serial db p ≡ rows xs → group_rows a b xs ≡ Some xs) → FitsStreams (group final a b) p s
+      (λ a b. ((xs : List Row) → serial db p ≡ rows xs → group_rows a b xs ≡ Some xs) → FitsRows (group final a b) p s
       → ((w : ℕ) → w < workers sizes (size p) → group_rows a b (s w) ≡ Some (out w))
       → Ready (group final a b) p out T (after (serial db p) (λ xs. or_overflow k (group_rows a b xs))) (λ base xs. SameRows xs base) (λ base. base))
       (final-of k p keys puts s out ih T of_list o) (final-serial db keys puts p e) fit run
@@ -352,20 +425,47 @@ module _ (catalog : ℕ → Relation) (db : ℕ → List Row) (sizes : ℕ → �
       by-phase
       (λ op f. f.fits p ≡ true → FitsStreams op p s → ((w : ℕ) → w < workers sizes (size p) → unary_rows op (s w) ≡ Some (out w))
       → Ready op p out T (serial db (f.spoken_of p (spoken p) (unary k c op p))) (f.gives_of (Gives p)) (f.listed_of (listed p)))
-      (λ op w e fit run. whole-ready k op w p s out (own_rows e) T (own_list e) fit run)
-      (λ by aggregates e fit run. partial-ready by aggregates p s out (own_rows e) T (own_list e) fit run)
-      (λ cols e fit run. parts-sort-ready cols p s out ih T of_listed fit run)
-      (λ by aggregates e fit run. final-ready k by aggregates p s out ih T of_listed e fit run)
+      (λ op w e fit run. own-ready k op w p s out (own_rows e) T (own_list e) fit run)
+      (λ by aggregates e fit run. partial-ready by aggregates p s out (own_rows e) T (own_list e) fit.0 run)
+      (λ cols e fit run. parts-sort-ready cols p s out ih T of_listed fit.0 run)
+      (λ by aggregates e fit run. final-ready k by aggregates p s out ih T of_listed e fit.0 run)
       op e fit run
 
+  -- the one worker's stream is the serial list, where the claimed order tells its rows apart
+  pub first-rows : (op : Unary) (p : Plan) (s : Streams) → phased p ≡ true → phase_fits op p ≡ true → HoldingAt db sizes goes p s → Told db op p → FirstRows db op p s
+  first-rows op p s phases fits ih told e =
+      let t = told e in
+      let h = close p s phases (limit-closed op p fits e) ih in
+      let is_list : s 0 ≡ h.base = (one-list goes given.in_range (claim p) (workers sizes (size p)) s h.base (one-worker sizes (size p) t.0) h.holds).1 (t.1 h.base h.is_serial) in
+      (t.0, λ xs is. is_list ∙ same-rows h.base xs (sym h.is_serial ∙ is))
+
+  -- a limit's input by the tests of the rule table
+  told-by-tests : (k : ℕ) (c : Claim) (op : Unary) (p : Plan) (s : Streams) → well_formed catalog p ≡ true → phase_fits op p ≡ true → HoldingAt db sizes goes p s
+      → first_rows_known catalog (unary k c op p) ≡ true → Told db op p
+  told-by-tests k c op p s wf fits ih known e =
+      let single : Bool = is_one (size p) in
+      let total : Bool = is_total_order catalog p in
+      let both : (single && total) ≡ true = limit-known catalog k c op p known e in
+      let h = close p s (well-phased catalog p wf) (limit-closed op p fits e) ih in
+      let tells : Reports (claim p).order h.base = order-tells catalog db given.meets p h.base wf h.is_serial h.holds.keys (and-right single total both) in
+      let R : List Row → Type 0 = λ l. Reports (claim p).order l in
+      (and-left single total both, λ xs is. subst R (same-rows h.base xs (sym h.is_serial ∙ is)) tells)
+
+  -- the streams fit by the tests of the rule table
+  pub fits-by-tests : (k : ℕ) (c : Claim) (op : Unary) (p : Plan) (s : Streams) → well_formed catalog p ≡ true → phase_fits op p ≡ true → HoldingAt db sizes goes p s
+      → allowed_here catalog (unary k c op p) ≡ true → FitsStreams op p s
+  fits-by-tests k c op p s wf fits ih ok =
+      let t = tests catalog (unary k c op p) ok in
+      (inl t.2, first-rows op p s (well-phased catalog p wf) fits ih (told-by-tests k c op p s wf fits ih t.7))
+
   -- by the tests of the rule table
-  pub unary-holds : (k : ℕ) (c : Claim) (op : Unary) (p : Plan) (s out : Streams) → phased p ≡ true → phase_fits op p ≡ true → HoldingAt db sizes goes p s → allowed_here catalog (unary k c op p) ≡ true
+  pub unary-holds : (k : ℕ) (c : Claim) (op : Unary) (p : Plan) (s out : Streams) → well_formed catalog p ≡ true → phase_fits op p ≡ true → HoldingAt db sizes goes p s → allowed_here catalog (unary k c op p) ≡ true
       → ((w : ℕ) → w < workers sizes (size p) → unary_rows op (s w) ≡ Some (out w)) → HoldingAt db sizes goes (unary k c op p) out
-  unary-holds k c op p s out phases e ih ok run =
+  unary-holds k c op p s out wf e ih ok run =
       let h = tests catalog (unary k c op p) ok in
-      let shown = (seven (sizes_match (unary k c op p)) (not_replicated (unary k c op p)) (inputs_match (unary k c op p)) (order_given (unary k c op p)) (part_shown catalog (unary k c op p))
-      (order_shown catalog (unary k c op p)) (keys_shown catalog (unary k c op p)) ok).4 in
-      let r = unary-ready k c op p s out phases e ih (λ xs. Unit {0}) tt (λ e xs is. tt) (inl h.2) run in
+      let shown = (eight (sizes_match (unary k c op p)) (not_replicated (unary k c op p)) (inputs_match (unary k c op p)) (order_given (unary k c op p)) (first_rows_known catalog (unary k c op p))
+      (part_shown catalog (unary k c op p)) (order_shown catalog (unary k c op p)) (keys_shown catalog (unary k c op p)) ok).5 in
+      let r = unary-ready k c op p s out (well-phased catalog p wf) e ih (λ xs. Unit {0}) tt (λ e xs is. tt) (fits-by-tests k c op p s wf e ih ok) run in
       let o = unary-order catalog k c op p c.order h.5 in
       record {
         base = r.base;

@@ -1,12 +1,12 @@
 -- What the operators over one input do to rows: one record of facts for each operator.
-use Rattle.std.proofs.Common.{◌≡◌, ◌==◌, ◌+◌, ℕ, ◌<◌, Bool, true, false, cond, not, ◌||◌, List, map, filter, length, refl, sym, ap, ◌∙◌, subst, arith, true≢false, Option, Some, None, IsSome}
+use Rattle.std.proofs.Common.{◌≡◌, ◌==◌, ◌+◌, ℕ, ◌<◌, Bool, true, false, cond, not, ◌||◌, List, map, filter, length, refl, sym, ap, ◌∙◌, subst, arith, true≢false, Option, Some, None, IsSome, take}
 use Rattle.std.specs.List.{list_all}
 use Rattle.vx_rows_values.specs.Values.{Row, pick}
 use Rattle.vx_rows_values.specs.Order.{agree, sorted, sort_on}
 use Rattle.vx_rows_values.specs.Bags.{SameRows}
 use Rattle.vx_rows_values.specs.Keys.{HasKey}
 use Rattle.vx_catalog_relations.specs.Relation.{Relation, KeysHold}
-use Rattle.vx_plan_nodes.specs.Plan.{Route, Claim, Plan, unary, claim, Unary, select, project, distinct, sort, group, plain, partial, final, Aggregate}
+use Rattle.vx_plan_nodes.specs.Plan.{Route, Claim, Plan, unary, claim, Unary, select, project, distinct, sort, group, limit, plain, partial, final, Aggregate}
 use Rattle.vx_plan_nodes.specs.Types.{unary_width}
 use Rattle.vx_plan_nodes.specs.Describe.{Copying, whole_rows, columns_kept, OrderAfter, order_kept, sorted_on, described}
 use Rattle.vx_plan_nodes.specs.Phases.{is_partial, is_final}
@@ -20,7 +20,7 @@ use Rattle.vx_check_rules.proofs.Exact.{sources-whole, sources-kept, orders-exac
 use Rattle.vx_check_rules.proofs.Bools.{or-false}
 use Rattle.vx_exec_laws.proofs.Bags.{and-left, and-right, SameRows-trans}
 use Rattle.vx_exec_laws.proofs.Parts.{list_all-weaken}
-use Rattle.vx_exec_laws.proofs.Orders.{sorted-front, sorted-filter, list_all-filter}
+use Rattle.vx_exec_laws.proofs.Orders.{sorted-front, sorted-filter, sorted-take, list_all-filter, list_all-take}
 use Rattle.vx_exec_laws.proofs.Keys.{count-filter, covers-key}
 use Rattle.vx_exec_laws.proofs.Linear.{Linear, Linear-filter, Linear-map, Linear-sort, sort-total, linear-same, linear-joined}
 use Rattle.vx_exec_laws.proofs.Copies.{if_some-is, copied-alone, copied-pick}
@@ -102,6 +102,8 @@ keeps (sort of_parts cols) = keeps-whole (sorted_on cols) (unary_rows (sort of_p
 keeps (group plain by aggregates) = group-keeps by aggregates
 keeps (group partial by aggregates) = group-keeps by aggregates
 keeps (group final by aggregates) = group-keeps by aggregates
+keeps (limit n) = keeps-whole order_kept (unary_rows (limit n)) (take n) (λ xs ys e. some-is _ _ e)
+    (λ q xs. list_all-take q n xs) (λ cs below front xs h. sorted-take cs n xs (sorted-front cs below front xs h))
 
 -- the columns that those of an order that is shown are copies of begin the order that the input has, or the one that the operator makes
 pub unary-order : (catalog : ℕ → Relation) (k : ℕ) (c : Claim) (op : Unary) (p : Plan) (order : List ℕ) → orders catalog (unary k c op p) order ≡ true
@@ -128,6 +130,24 @@ pub record Made (op : List Row → Option (List Row)) (xs like : List Row) : Typ
 abbrev pub Meets : Routing → Option (List ℕ) → ℕ → Streams → Type 0
 Meets goes None n s = Unit {0}
 Meets goes (Some cols) n s = (r : Route) × (cs : List ℕ) × (within cs cols ≡ true) × InItsStream goes r cs n s
+
+-- a limit, which depends on the list and not on its rows alone
+abbrev pub is_limit : Unary → Bool
+is_limit (select cs) = false
+is_limit (project cols) = false
+is_limit (distinct cols) = false
+is_limit (sort of_parts cols) = false
+is_limit (group phase by aggregates) = false
+is_limit (limit n) = true
+
+-- what holds of limits and of all others holds of each operator
+pub by-limit : (P : Unary → Type 0) → ((n : ℕ) → P (limit n)) → ((op : Unary) → is_limit op ≡ false → P op) → (op : Unary) → P op
+by-limit P limits others (select cs) = others (select cs) refl
+by-limit P limits others (project cols) = others (project cols) refl
+by-limit P limits others (distinct cols) = others (distinct cols) refl
+by-limit P limits others (sort of_parts cols) = others (sort of_parts cols) refl
+by-limit P limits others (group phase by aggregates) = others (group phase by aggregates) refl
+by-limit P limits others (limit n) = limits n
 
 -- an operator that gives the same rows of the same rows, stream by stream too where those that have to meet do; and keys of its output
 pub record Whole (goes : Routing) (op : Unary) : Type 0 where
@@ -159,22 +179,23 @@ by-row : (goes : Routing) (op : Unary) (f : List Row → List Row) → ((xs : Li
 by-row goes op f is lin keyed =
     whole-by goes op f is (λ xs ys s. linear-same lin s) (λ n s s' base m h run. SameRows-trans (linear-joined lin n s s' run) (linear-same lin h)) keyed
 
-pub whole : (goes : Routing) (op : Unary) → (is_partial op || is_final op) ≡ false → Whole goes op
-whole goes (select cs) e = by-row goes (select cs) (filter (passes cs)) (λ xs. refl) (Linear-filter (passes cs))
+pub whole : (goes : Routing) (op : Unary) → (is_partial op || is_final op) ≡ false → is_limit op ≡ false → Whole goes op
+whole goes (select cs) e f = by-row goes (select cs) (filter (passes cs)) (λ xs. refl) (Linear-filter (passes cs))
     (λ keys x h xs ks row. let a = count-filter (agree x row) (passes cs) xs in let b = covers-key keys x h xs ks row in omega (arith, a, b))
-whole goes (project cols) e = by-row goes (project cols) (map (pick cols)) (λ xs. refl) (Linear-map (pick cols))
+whole goes (project cols) e f = by-row goes (project cols) (map (pick cols)) (λ xs. refl) (Linear-map (pick cols))
     (λ keys x h xs ks. let w = if_some-is (copied cols x) (covers keys) h in project-key cols x w.0 w.1 xs (covers-key keys w.0 w.2 xs ks))
-whole goes (distinct cols) e = whole-by goes (distinct cols) (λ xs. firsts (map (pick cols) xs)) (λ xs. refl)
+whole goes (distinct cols) e f = whole-by goes (distinct cols) (λ xs. firsts (map (pick cols) xs)) (λ xs. refl)
     (λ xs ys s. firsts-same (picks-same cols s)) (λ n s s' base m h run. firsts-joined goes m.0 m.1 cols n s s' base m.2 run h m.3)
     (λ keys x h xs ks. distinct-key cols x xs (and-left (within (numbers_below (length cols)) x) (within x (numbers_below (length cols))) h))
-whole goes (sort of_parts cols) e = by-row goes (sort of_parts cols) (sort_on cols) (λ xs. refl) (Linear-sort cols)
+whole goes (sort of_parts cols) e f = by-row goes (sort of_parts cols) (sort_on cols) (λ xs. refl) (Linear-sort cols)
     (λ keys x h xs ks row.
     let a = sort-total (λ r. cond (agree x row r) 1 0) cols xs in
     let b = covers-key keys x (and-right (not of_parts) (covers keys x) h) xs ks row in
     omega (arith, a, b))
-whole goes (group partial by aggregates) e = absurd (true≢false e)
-whole goes (group final by aggregates) e = absurd (true≢false e)
-whole goes (group plain by aggregates) e =
+whole goes (group partial by aggregates) e f = absurd (true≢false e)
+whole goes (group final by aggregates) e f = absurd (true≢false e)
+whole goes (limit n) e f = absurd (true≢false f)
+whole goes (group plain by aggregates) e f =
     let fit : List Row → Bool = λ xs. list_all (group_fits by aggregates xs) (group_keys by xs) in
     let there : (xs : List Row) → fit xs ≡ true → group_rows by aggregates xs ≡ Some (groups by aggregates xs) = λ xs t. ap (λ b. cond b (Some (groups by aggregates xs)) None) t in
     let both : (xs ys : List Row) → group_rows by aggregates xs ≡ Some ys → (fit xs ≡ true) × (groups by aggregates xs ≡ ys) = λ xs ys g. some-of (fit xs) (groups by aggregates xs) ys g in

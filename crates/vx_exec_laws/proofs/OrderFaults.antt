@@ -1,7 +1,7 @@
 -- No worker of an allowed plan ends with rows that fall, or with a packet that isn't its own.
 use Rattle.std.proofs.Common.{◌≡◌, ◌⊎◌, ℕ, Bool, true, false, ◌&&◌, List, map}
 use Rattle.vx_rows_values.specs.Values.{Row}
-use Rattle.vx_plan_nodes.specs.Plan.{Claim, Binary, union, join, Plan, scan, unary, binary, exchange, size, claim, is_one}
+use Rattle.vx_plan_nodes.specs.Plan.{Claim, Binary, union, join, Plan, scan, unary, binary, exchange, size, claim, is_one, semi_join}
 use Rattle.vx_check_rules.specs.Rules.{is_prefix, order_given, allowed, allowed_here}
 use Rattle.vx_check_rules.specs.Claims.{Given}
 use Rattle.vx_worker.specs.Fragment.{goes, RunModel, fragment}
@@ -29,6 +29,7 @@ module _ (S : RunModel) (giv : Given S.catalog S.db S.sizes (goes S)) where
       → (ts : ℕ → Trace) → RunOf S (Ends S) p ts → RunOf S (Ends S) q ts → NeededOf S op p q ts
   both-asked n c union p q okp okq t ts run more = tt
   both-asked n c (join false on) p q okp okq t ts run more = tt
+  both-asked n c (semi_join matched on conditions) p q okp okq t ts run more = tt
   both-asked n c (join true on) p q okp okq t ts run more =
       let lefts : List ℕ = map (λ x. x.0) on in
       let rights : List ℕ = map (λ x. x.1) on in

@@ -1,5 +1,5 @@
 -- Sorted lists: a front of the order, a part of the list, and what copies columns.
-use Rattle.std.proofs.Common.{◌≡◌, ℕ, ◌<◌, ◌==◌, nat_lt, Bool, true, false, cond, List, [], ◌∷◌, map, filter, refl, sym, ap, ◌∙◌, subst, arith, true≢false, eqb-true, eq-eqb, ltb-true, is_le, Ordering, Less, Equal, Greater}
+use Rattle.std.proofs.Common.{◌≡◌, ℕ, zero, suc, ◌<◌, ◌==◌, nat_lt, Bool, true, false, cond, List, [], ◌∷◌, map, filter, take, refl, sym, ap, ◌∙◌, subst, arith, true≢false, eqb-true, eq-eqb, ltb-true, is_le, Ordering, Less, Equal, Greater}
 use Rattle.std.specs.List.{list_all}
 use Rattle.std.specs.Ordering.{ordering_then}
 use Rattle.vx_rows_values.specs.Values.{Row, val_cmp, value_at}
@@ -44,6 +44,20 @@ pub sorted-filter : (cs : List ℕ) (p : Row → Bool) (xs : List Row) → sorte
 sorted-filter cs p [] h = refl
 sorted-filter cs p (x ∷ xs) h =
     sorted-cond cs (p x) x (filter p xs) (list_all-filter _ p xs (and-left _ _ h)) (sorted-filter cs p xs (and-right _ _ h))
+
+pub list_all-take : {X : Type 0} (q : X → Bool) (n : ℕ) (xs : List X) → list_all q xs ≡ true → list_all q (take n xs) ≡ true
+list_all-take q zero xs h = refl
+list_all-take q (suc n) [] h = refl
+list_all-take q (suc n) (x ∷ xs) h =
+    and-both (q x) (list_all q (take n xs)) (and-left (q x) (list_all q xs) h) (list_all-take q n xs (and-right (q x) (list_all q xs) h))
+
+pub sorted-take : (cs : List ℕ) (n : ℕ) (xs : List Row) → sorted cs xs ≡ true → sorted cs (take n xs) ≡ true
+sorted-take cs zero xs h = refl
+sorted-take cs (suc n) [] h = refl
+sorted-take cs (suc n) (x ∷ xs) h =
+    let le : Row → Bool = λ y. is_le (compare_on cs x y) in
+    and-both (list_all le (take n xs)) (sorted cs (take n xs))
+    (list_all-take le n xs (and-left (list_all le xs) (sorted cs xs) h)) (sorted-take cs n xs (and-right (list_all le xs) (sorted cs xs) h))
 
 abbrev pub rows_of : List (ℕ × Row) → List Row
 rows_of ts = map (λ t. t.1) ts

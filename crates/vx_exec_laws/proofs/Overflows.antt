@@ -4,7 +4,7 @@ use Rattle.std.proofs.Common.{◌≡◌, ◌⊎◌, inl, inr, ⊎_elim, ℕ, zer
 use Rattle.vx_rows_values.specs.Values.{Row}
 use Rattle.vx_rows_values.specs.Order.{sorted}
 use Rattle.vx_rows_values.specs.Bags.{SameRows}
-use Rattle.vx_plan_nodes.specs.Plan.{Size, ExchangeKind, target, is_one, Claim, Unary, select, project, distinct, sort, group, Binary, union, join, Aggregate, Plan, scan, unary, binary, exchange, size, claim, size_eq, Phase, plain, partial, final, route_to, round, broadcast, gather, concat}
+use Rattle.vx_plan_nodes.specs.Plan.{Size, ExchangeKind, target, is_one, Claim, Unary, select, project, distinct, sort, group, Binary, union, join, Aggregate, Plan, scan, unary, binary, exchange, size, claim, size_eq, Phase, plain, partial, final, route_to, round, broadcast, gather, concat, limit, semi_join}
 use Rattle.vx_plan_nodes.specs.Types.{well_formed}
 use Rattle.vx_plan_nodes.specs.Serial.{unary_rows, binary_rows, group_rows, SerialResult, rows, overflow, or_overflow, after, serial, IsOverflow, IsTooLong, HasTooLong, HasLargePart}
 use Rattle.vx_plan_nodes.specs.Streams.{Streams, workers, joined, Dealt}
@@ -422,6 +422,7 @@ module _ (S : RunModel) (giv : Given S.catalog S.db S.sizes (goes S)) (some : 0 
       own (project cols) ok o = absurd o
       own (distinct cols) ok o = absurd o
       own (sort of_parts cols) ok o = absurd o
+      own (limit m) ok o = absurd o
       own (group phase by aggregates) ok o = ⊎_elim
           (λ got.
           let P : List Row → Type 0 = λ xs. (group_rows by aggregates xs ≡ None) ⊎ (4611686018427387904 < length xs) in
@@ -443,6 +444,7 @@ module _ (S : RunModel) (giv : Given S.catalog S.db S.sizes (goes S)) (some : 0 
       none union o = o
       none (join true on) o = o
       none (join false on) o = o
+      none (semi_join matched on conditions) o = o
   fails (exchange n c k merge p) ok ts run w l reads begin out h node e = ⊎_elim
       (λ i. absurd i)
       (λ o. absurd o)

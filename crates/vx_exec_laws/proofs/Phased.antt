@@ -2,7 +2,7 @@
 use Rattle.std.proofs.Common.{◌≡◌, ℕ, Bool, true, false, not, ◌||◌, List, refl}
 use Rattle.vx_rows_values.specs.Values.{Row}
 use Rattle.vx_rows_values.specs.Bags.{SameRows}
-use Rattle.vx_plan_nodes.specs.Plan.{plain, partial, final, Aggregate, Unary, select, project, distinct, sort, group, Plan}
+use Rattle.vx_plan_nodes.specs.Plan.{plain, partial, final, Aggregate, Unary, select, project, distinct, sort, group, limit, Plan}
 use Rattle.vx_plan_nodes.specs.Erase.{at_once}
 use Rattle.vx_plan_nodes.specs.Phases.{is_partial, is_final, is_open, unary_open, unary_opens, phase_fits, phase_seen, seen_below, unary_spoken, UnaryGives, unary_listed}
 
@@ -63,3 +63,4 @@ by-phase P whole_ok partial_ok sort_ok final_ok (sort true cols) = sort_ok cols
 by-phase P whole_ok partial_ok sort_ok final_ok (group plain by aggregates) = whole_ok (group plain by aggregates) refl
 by-phase P whole_ok partial_ok sort_ok final_ok (group partial by aggregates) = partial_ok by aggregates
 by-phase P whole_ok partial_ok sort_ok final_ok (group final by aggregates) = final_ok by aggregates
+by-phase P whole_ok partial_ok sort_ok final_ok (limit n) = whole_ok (limit n) refl

@@ -2,11 +2,11 @@
 use Rattle.std.proofs.Common.{◌≡◌, ⊎_elim, ℕ, ◌<◌, ◌==◌, Bool, true, false, ◌&&◌, ◌||◌, List, [], ◌∷◌, ◌++◌, length, refl, sym, ap, ◌∙◌, subst, arith, true≢false, eq-eqb, eqb-true, Some}
 use Rattle.std.specs.List.{list_all, list_any}
 use Rattle.vx_rows_values.specs.Values.{Row, pick}
-use Rattle.vx_plan_nodes.specs.Plan.{Claim, Binary, binary, Route, Part, one, any, all, routed, Unary, Plan, claim, size, is_one, union, join}
+use Rattle.vx_plan_nodes.specs.Plan.{Claim, Binary, binary, Route, Part, one, any, all, routed, Unary, Plan, claim, size, is_one, union, join, semi_join, Condition}
 use Rattle.vx_plan_nodes.specs.Types.{part_columns, names_columns, width}
 use Rattle.vx_catalog_relations.specs.Relation.{Relation}
 use Rattle.vx_plan_nodes.specs.Describe.{whole_rows, left_of, right_of, described, described_both}
-use Rattle.vx_plan_nodes.specs.Serial.{unary_rows, binary_rows, join_rows}
+use Rattle.vx_plan_nodes.specs.Serial.{unary_rows, binary_rows, join_rows, matched_rows}
 use Rattle.vx_plan_nodes.specs.Streams.{Streams, joined}
 use Rattle.vx_plan_nodes.specs.Routes.{Routing}
 use Rattle.vx_catalog_relations.specs.Catalog.{all_below}
@@ -25,6 +25,7 @@ use Rattle.vx_exec_laws.proofs.Orders.{sorted-front, sorted-none}
 use Rattle.vx_exec_laws.proofs.WellFormed.{named}
 use Rattle.vx_rows_values.specs.Order.{sorted}
 use Rattle.vx_exec_laws.proofs.Operators.{keeps, same-columns}
+use Rattle.vx_exec_laws.proofs.SemiJoin.{matched-all, matched-sorted}
 
 -- ---- lists of ways
 
@@ -117,7 +118,7 @@ unary-places goes op p n w xs ys e had =
 -- rows side by side
 union-places : (goes : Routing) (v : ℕ) (p q : Plan) (n w : ℕ) (ls rs : List Row)
     → ((x : Part) → has p x ≡ true → Placed goes x n w ls) → ((x : Part) → has q x ≡ true → Placed goes x n w rs)
-    → Each (λ v. Places goes n w (ls ++ rs) v) (ways_over (described_both v union).pairs (described_both v union) (own p) (own q))
+    → Each (λ v. Places goes n w (ls ++ rs) v) (ways_over (described_both v union).meeting (described_both v union) (own p) (own q))
 union-places goes v p q n w ls rs left right =
     each-if (λ v. Places goes n w (ls ++ rs) v) (is_one (size p) || ((has p any && has q any) || (has p all && has q all))) (way whole_rows (own p ∷ own q ∷ []) ∷ [])
     (λ m. (
@@ -157,7 +158,7 @@ given-below wd (routed t cs) r ds g h =
 join-places : (goes : Routing) (m : Bool) (on : List (ℕ × ℕ)) (wd : ℕ) (p q : Plan) (n w : ℕ) (ls rs : List Row) → wide wd ls ≡ true → all_below wd (part_columns (claim p).part) ≡ true
     → Placed goes (claim p).part n w ls → Placed goes (claim q).part n w rs
     → ((x : Part) → has p x ≡ true → Placed goes x n w ls) → ((x : Part) → has q x ≡ true → Placed goes x n w rs)
-    → Each (λ v. Places goes n w (join_rows on ls rs) v) (ways_over (described_both wd (join m on)).pairs (described_both wd (join m on)) (own p) (own q))
+    → Each (λ v. Places goes n w (join_rows on ls rs) v) (ways_over (described_both wd (join m on)).meeting (described_both wd (join m on)) (own p) (own q))
 join-places goes m on wd p q n w ls rs ws below at_left at_right left right =
     let P : Way → Type 0 = λ v. Places goes n w (join_rows on ls rs) v in
     let of_left : List Way = way (left_of wd) (own p ∷ []) ∷ [] in
@@ -189,6 +190,27 @@ join-places goes m on wd p q n w ls rs ws below at_left at_right left right =
       tt,
     ))))
 
+-- left rows that are kept stand where they did
+semi-places : (goes : Routing) (m : Bool) (on : List (ℕ × ℕ)) (conditions : List Condition) (wd : ℕ) (p q : Plan) (n w : ℕ) (ls rs : List Row)
+    → Placed goes (claim p).part n w ls → ((x : Part) → has p x ≡ true → Placed goes x n w ls)
+    → Each (λ v. Places goes n w (matched_rows m on conditions ls rs) v)
+    (ways_over (described_both wd (semi_join m on conditions)).meeting (described_both wd (semi_join m on conditions)) (own p) (own q))
+semi-places goes m on conditions wd p q n w ls rs at_left left =
+    let out : List Row = matched_rows m on conditions ls rs in
+    let P : Way → Type 0 = λ v. Places goes n w out v in
+    let alike : List Way = way whole_rows (bare (claim p).part ∷ []) ∷ [] in
+    let of_left : List Way = way whole_rows (own p ∷ []) ∷ [] in
+    let met : Bool = routed_alike on (claim p).part (claim q).part in
+    let kept : (r : Route) (cs ds : List ℕ) → sources whole_rows cs ≡ Some ds → Placed goes (routed r ds) n w ls → Placed goes (routed r cs) n w out = λ r cs ds c h.
+    let Q : List ℕ → Type 0 = λ z. Placed goes (routed r z) n w out in
+    subst Q (sym (same-columns cs ds c)) (matched-all (at_place goes (routed r ds) n w) m on conditions ls rs h) in
+    each-append P (if_so met alike) (if_so (has q all) of_left)
+    (each-if P met alike (λ a. (
+      (λ r cs ds c h. kept r cs ds c (place-gives goes (claim p).part (routed r ds) n w ls (and-left (part_gives (claim p).part (routed r ds)) true h) at_left)),
+      tt,
+    )))
+    (each-if P (has q all) of_left (λ b. ((λ r cs ds c h. kept r cs ds c (left (routed r ds) (and-left (has p (routed r ds)) true h))), tt)))
+
 -- over two inputs
 pub both-places : (goes : Routing) (catalog : ℕ → Relation) (k : ℕ) (c : Claim) (op : Binary) (p q : Plan) (n w : ℕ) (ls rs : List Row) → names_columns (width catalog p) (claim p) ≡ true
     → wide (width catalog p) ls ≡ true → Placed goes (claim p).part n w ls → Placed goes (claim q).part n w rs
@@ -197,6 +219,7 @@ pub both-places : (goes : Routing) (catalog : ℕ → Relation) (k : ℕ) (c : C
 both-places goes catalog k c union p q n w ls rs names ws at_left at_right left right = union-places goes (width catalog p) p q n w ls rs left right
 both-places goes catalog k c (join m on) p q n w ls rs names ws at_left at_right left right =
     join-places goes m on (width catalog p) p q n w ls rs ws (named (width catalog p) (claim p) names).0 at_left at_right left right
+both-places goes catalog k c (semi_join m on conditions) p q n w ls rs names ws at_left at_right left right = semi-places goes m on conditions (width catalog p) p q n w ls rs at_left left
 
 -- and the order of their rows
 pub both-ordered : (catalog : ℕ → Relation) (k : ℕ) (c : Claim) (op : Binary) (p q : Plan) → names_columns (width catalog p) (claim p) ≡ true → orders catalog (binary k c op p q) c.order ≡ true
@@ -204,6 +227,7 @@ pub both-ordered : (catalog : ℕ → Relation) (k : ℕ) (c : Claim) (op : Bina
 both-ordered catalog k c union p q names h ls rs v e = sorted-front c.order [] h (ls ++ rs) (sorted-none (ls ++ rs))
 both-ordered catalog k c (join m on) p q names h ls rs v e =
     join-sorted c.order (width catalog p) on ls rs (front-below (width catalog p) c.order (claim p).order h (named (width catalog p) (claim p) names).1) v (sorted-front c.order (claim p).order h ls e)
+both-ordered catalog k c (semi_join m on conditions) p q names h ls rs v e = matched-sorted c.order m on conditions ls rs (sorted-front c.order (claim p).order h ls e)
 
 -- ---- what the lists stand for
 

@@ -2,7 +2,7 @@
 use Rattle.vx_worker.specs.Fragment.{RunModel, fragment}
 use Rattle.std.proofs.Common.{◌≡◌, ⊎_elim, ℕ, ◌<◌, true, false, List, [], ◌∷◌, ◌++◌, map, refl, sym, ap, subst, arith}
 use Rattle.vx_rows_values.specs.Values.{Row}
-use Rattle.vx_plan_nodes.specs.Plan.{ExchangeKind, target, Unary, select, project, distinct, sort, group, Binary, union, join, Plan, scan, unary, binary, exchange, size}
+use Rattle.vx_plan_nodes.specs.Plan.{ExchangeKind, target, Unary, select, project, distinct, sort, group, Binary, union, join, Plan, scan, unary, binary, exchange, size, limit, semi_join}
 use Rattle.vx_plan_nodes.specs.Streams.{workers}
 use Rattle.vx_ports.specs.Packets.{Content, last, fault, PacketView}
 use Rattle.vx_ops.specs.Ledger.{Ledger, ConsumerEnd, one_op, two_op, OwnBlame, IsFor, Came}
@@ -40,11 +40,13 @@ one-own n node (project cols) h b = b
 one-own n node (distinct cols) h b = b
 one-own n node (sort of_parts cols) h b = b
 one-own n node (group phase by aggregates) h b = b
+one-own n node (limit m) h b = b
 
 two-own : (n node : ℕ) (op : Binary) (h : Ledger) → OwnBlame (two_op n op) h (Own Stranger node) → ⊥
 two-own n node union h b = b
 two-own n node (join true on) h b = b
 two-own n node (join false on) h b = b
+two-own n node (semi_join matched on conditions) h b = b
 
 module _ (S : RunModel) where
   packets-for : (n i w : ℕ) (k : ExchangeKind) (merge : List ℕ) (p : Plan) (parts : List (List Row)) (end : Content)

@@ -1,5 +1,5 @@
 -- What the laws on runs that were cut short ask of a rule table, and that both rule tables give it.
-use Rattle.std.proofs.Common.{◌≡◌, ℕ, ◌<◌, true, List, inl}
+use Rattle.std.proofs.Common.{◌≡◌, ℕ, ◌<◌, true, List}
 use Rattle.vx_rows_values.specs.Order.{sorted}
 use Rattle.vx_plan_nodes.specs.Plan.{Claim, Unary, ExchangeKind, Plan, unary, exchange, claim, size}
 use Rattle.vx_plan_nodes.specs.Types.{well_formed}
@@ -11,7 +11,8 @@ use Rattle.vx_check_rules.specs.Claims.{Given}
 use Rattle.vx_worker.specs.Fragment.{goes, RunModel}
 use Rattle.vx_exec_laws.proofs.Bags.{and-right}
 use Rattle.vx_exec_laws.proofs.Orders.{sorted-front}
-use Rattle.vx_exec_laws.proofs.OneInput.{tests, HoldingAt, FitsStreams}
+use Rattle.vx_exec_laws.proofs.OneInput.{tests, HoldingAt, FitsStreams, fits-by-tests}
+use Rattle.vx_exec_laws.proofs.WellFormed.{well-under}
 use Rattle.vx_exec_laws.proofs.Frame.{all-hold}
 use Rattle.vx_exec_laws.proofs.DerivedFrame.{holding, fits-streams, merges-streams}
 use Rattle.vx_exec_laws.proofs.Inherited.{Inherited, IsAllowed, IsAllowedDerived, first-inherited, second-inherited}
@@ -36,7 +37,10 @@ module _ (S : RunModel) (giv : Given S.catalog S.db S.sizes (goes S)) where
     fit = λ p h. h.0;
     well = λ p h. h.1.0;
     holds = first-holds;
-    fits = λ n c op p s h run. inl (tests S.catalog (unary n c op p) (and-right (allowed S.catalog p) (allowed_here S.catalog (unary n c op p)) h.1.1)).2;
+    fits = λ n c op p s h run.
+        let well = well-under S.catalog n c op p h.1.0 in
+        fits-by-tests S.catalog S.db S.sizes (goes S) giv n c op p s well.0 well.1 (first-holds p s ((first-inherited S).input n c op p h) run)
+        (and-right (allowed S.catalog p) (allowed_here S.catalog (unary n c op p)) h.1.1);
     merges = λ n c k merge p s h run w l.
         let t = tests S.catalog (exchange n c k merge p) (and-right (allowed S.catalog p) (allowed_here S.catalog (exchange n c k merge p)) h.1.1) in
         let below = first-holds p s ((first-inherited S).sent n c k merge p h) run in

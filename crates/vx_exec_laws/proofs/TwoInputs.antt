@@ -6,9 +6,9 @@ use Rattle.vx_rows_values.specs.Bags.{SameRows}
 use Rattle.vx_rows_values.specs.Keys.{HasKey}
 use Rattle.vx_catalog_relations.specs.Relation.{Relation, KeysHold}
 use Rattle.vx_plan_nodes.specs.Types.{well_formed, names_columns, width}
-use Rattle.vx_plan_nodes.specs.Plan.{Size, Part, any, all, Claim, Plan, binary, claim, size, Binary, union, join, is_one, size_eq}
+use Rattle.vx_plan_nodes.specs.Plan.{Size, Part, any, all, Claim, Plan, binary, claim, size, Condition, Binary, union, join, semi_join, is_one, size_eq}
 use Rattle.vx_plan_nodes.specs.Describe.{whole_rows, left_of, right_of, described_both}
-use Rattle.vx_plan_nodes.specs.Serial.{binary_rows, join_rows, rows, after, serial}
+use Rattle.vx_plan_nodes.specs.Serial.{binary_rows, join_rows, matched_rows, rows, after, serial}
 use Rattle.vx_plan_nodes.specs.Streams.{Streams, joined, workers}
 use Rattle.vx_plan_nodes.specs.Routes.{Routing}
 use Rattle.vx_check_rules.specs.Rules.{part_gives, has, allowed_here, routed_alike, keys_of}
@@ -21,6 +21,7 @@ use Rattle.vx_exec_laws.proofs.Keys.{keys-from}
 use Rattle.vx_exec_laws.proofs.Wide.{serial-wide}
 use Rattle.vx_exec_laws.proofs.JoinOrder.{wide, join-key}
 use Rattle.vx_exec_laws.proofs.Join.{join-left, join-right, join-same}
+use Rattle.vx_exec_laws.proofs.SemiJoin.{matched-key, matched-same, matched-whole, matched-met}
 use Rattle.vx_exec_laws.proofs.Binary.{streams-all, union-any, append-same, join-met}
 use Rattle.vx_exec_laws.proofs.Places.{Each, each-if, each-append, Places, Stands, part-placed, both-places, both-ordered, shown-part}
 use Rattle.vx_exec_laws.proofs.WellFormed.{named}
@@ -87,7 +88,7 @@ module _ (catalog : ℕ → Relation) (db : ℕ → List Row) (sizes : ℕ → �
   -- the four ways of a join: by like routes to the left and to the right part, by a whole right input, by a whole left one
   join-stands : (m : Bool) (on : List (ℕ × ℕ)) (wd : ℕ) (p q : Plan) (s t out : Streams) (base rbase : List Row) → Both p q s t base rbase
       → ((w : ℕ) → w < workers sizes (size p) → join_rows on (s w) (t w) ≡ out w)
-      → Each (λ v. Stands (workers sizes (size p)) out (λ xs. SameRows xs (join_rows on base rbase)) v) (ways_over (described_both wd (join m on)).pairs (described_both wd (join m on)) (own p) (own q))
+      → Each (λ v. Stands (workers sizes (size p)) out (λ xs. SameRows xs (join_rows on base rbase)) v) (ways_over (described_both wd (join m on)).meeting (described_both wd (join m on)) (own p) (own q))
   join-stands m on wd p q s t out base rbase both run =
       let n : ℕ = workers sizes (size p) in
       let P : Way → Type 0 = λ v. Stands n out (λ xs. SameRows xs (join_rows on base rbase)) v in
@@ -131,11 +132,47 @@ module _ (catalog : ℕ → Relation) (db : ℕ → List Row) (sizes : ℕ → �
         keyed = λ x e. join-key on wd (claim p).keys (claim q).keys base rbase both.base_wide (named wd (claim p) names).2 keys keys_right x e;
       }
 
+  -- the two ways of a semi or an anti join: by like routes to the left part, and by a whole right input
+  semi-stands : (m : Bool) (on : List (ℕ × ℕ)) (conditions : List Condition) (wd : ℕ) (p q : Plan) (s t out : Streams) (base rbase : List Row) → Both p q s t base rbase
+      → ((w : ℕ) → w < workers sizes (size p) → matched_rows m on conditions (s w) (t w) ≡ out w)
+      → Each (λ v. Stands (workers sizes (size p)) out (λ xs. SameRows xs (matched_rows m on conditions base rbase)) v)
+      (ways_over (described_both wd (semi_join m on conditions)).meeting (described_both wd (semi_join m on conditions)) (own p) (own q))
+  semi-stands m on conditions wd p q s t out base rbase both run =
+      let n : ℕ = workers sizes (size p) in
+      let P : Way → Type 0 = λ v. Stands n out (λ xs. SameRows xs (matched_rows m on conditions base rbase)) v in
+      let met : Bool = routed_alike on (claim p).part (claim q).part in
+      let alike : List Way = way whole_rows (bare (claim p).part ∷ []) ∷ [] in
+      let of_left : List Way = way whole_rows (own p ∷ []) ∷ [] in
+      each-append P (if_so met alike) (if_so (has q all) of_left)
+      (each-if P met alike (λ a.
+      let k = matched-met goes m on conditions (claim p).part (claim q).part n s t out base rbase a run both.part both.part_right in
+      (((λ e. k.0), (λ e. absurd (true≢false (sym (and-left (part_gives (claim p).part all) true e) ∙ k.1)))), tt)))
+      (each-if P (has q all) of_left (λ b. (
+        (
+          (λ e. matched-whole m on conditions n s t out base rbase run (both.right all b) (both.left any (and-left (has p any) true e))),
+          (λ e w l.
+              let Q : List Row → Type 0 = λ xs. SameRows xs (matched_rows m on conditions base rbase) in
+              subst Q (run w l) (matched-same m on conditions (s w) base (t w) rbase (both.left all (and-left (has p all) true e) w l) (both.right all b w l))),
+        ),
+        tt,
+      )))
+
+  semi-over : (k : ℕ) (c : Claim) (m : Bool) (on : List (ℕ × ℕ)) (conditions : List Condition) (p q : Plan) (s t out : Streams) (base rbase : List Row) → Both p q s t base rbase
+      → KeysHold (claim p).keys base → ((w : ℕ) → w < workers sizes (size p) → matched_rows m on conditions (s w) (t w) ≡ out w) → Over k c (semi_join m on conditions) p q s t out base rbase
+  semi-over k c m on conditions p q s t out base rbase both keys run =
+      let n : ℕ = workers sizes (size p) in
+      record {
+        alone = λ o. matched-whole m on conditions n s t out base rbase run (both.right all (both.one_right o all)) (both.left any (both.one_left o any));
+        stands = semi-stands m on conditions (width catalog p) p q s t out base rbase both run;
+        keyed = λ x e. matched-key (claim p).keys x m on conditions base rbase e keys;
+      }
+
   pub binary-over : (k : ℕ) (c : Claim) (op : Binary) (p q : Plan) (s t out : Streams) (ih : Holding db sizes goes p s) (jh : Holding db sizes goes q t)
       → names_columns (width catalog p) (claim p) ≡ true → ((w : ℕ) → w < workers sizes (size p) → binary_rows op (s w) (t w) ≡ out w) → Both p q s t ih.base jh.base
       → Over k c op p q s t out ih.base jh.base
   binary-over k c union p q s t out ih jh names run both = union-over k c p q s t out ih.base jh.base both run
   binary-over k c (join m on) p q s t out ih jh names run both = join-over k c m on p q s t out ih.base jh.base both names ih.holds.keys jh.holds.keys run
+  binary-over k c (semi_join m on conditions) p q s t out ih jh names run both = semi-over k c m on conditions p q s t out ih.base jh.base both ih.holds.keys run
 
   -- the serial rows
   pub binary-serial : (k : ℕ) (c : Claim) (op : Binary) (p q : Plan) (s t : Streams) (ih : Holding db sizes goes p s) (jh : Holding db sizes goes q t)

@@ -4,7 +4,7 @@ use Rattle.std.specs.List.{list_all}
 use Rattle.vx_rows_values.specs.declared.value.ColType.{ColType}
 use Rattle.vx_rows_values.specs.Types.{type_at}
 use Rattle.vx_catalog_relations.specs.Catalog.{relation_at, all_below, are_distinct}
-use Rattle.vx_plan_nodes.specs.Plan.{by_hash, by_range, Part, one, any, all, routed, Claim, union, join, Plan, scan, unary, binary, exchange}
+use Rattle.vx_plan_nodes.specs.Plan.{by_hash, by_range, Part, one, any, all, routed, Claim, union, join, semi_join, Plan, scan, unary, binary, exchange}
 use Rattle.vx_plan_nodes.specs.Types.{types_of, width, part_columns, names_columns, well_formed}
 use Rattle.vx_plan_nodes.specs.Typed.{Scope, type_eq, types_eq, are_columns, range_type, bounds_at, is_part, is_claim, is_unary, is_binary, is_kind, is_size, is_output, typed, may_merge}
 use Rattle.vx_rows_values.specs.Lists.{is_some_list}
@@ -98,6 +98,20 @@ typed-well-formed s (binary n c (join m on) p q) h =
     (typed-well-formed s q (and-left (typed s q) (both_closed p q && (op_typed && out)) rest))
     (and-both (both_closed p q) nm (and-left (both_closed p q) (op_typed && out) more)
     (names-at s (binary n c (join m on) p q) c (and-right op_typed out (and-right (both_closed p q) (op_typed && out) more)))))
+typed-well-formed s (binary n c (semi_join matched on conditions) p q) h =
+    let ts : List ColType = types_of (relation_at s.catalog) p in
+    let us : List ColType = types_of (relation_at s.catalog) q in
+    let out : Bool = is_output s ts c in
+    let op_typed : Bool = is_binary ts us (semi_join matched on conditions) in
+    let rest = and-right (typed s p) (typed s q && (both_closed p q && (op_typed && out))) h in
+    let more = and-right (typed s q) (both_closed p q && (op_typed && out)) rest in
+    let nm : Bool = names_columns (width (relation_at s.catalog) p) c in
+    and-both (well_formed (relation_at s.catalog) p) (well_formed (relation_at s.catalog) q && (both_closed p q && nm))
+    (typed-well-formed s p (and-left (typed s p) (typed s q && (both_closed p q && (op_typed && out))) h))
+    (and-both (well_formed (relation_at s.catalog) q) (both_closed p q && nm)
+    (typed-well-formed s q (and-left (typed s q) (both_closed p q && (op_typed && out)) rest))
+    (and-both (both_closed p q) nm (and-left (both_closed p q) (op_typed && out) more)
+    (names-at s (binary n c (semi_join matched on conditions) p q) c (and-right op_typed out (and-right (both_closed p q) (op_typed && out) more)))))
 typed-well-formed s (exchange n c k m p) h =
     let ts : List ColType = types_of (relation_at s.catalog) p in
     let out : Bool = is_output s ts c in

@@ -2,7 +2,7 @@
 use Rattle.std.proofs.Common.{◌≡◌, ℕ, ◌==◌, Bool, true, ◌&&◌, refl, eqb-true}
 use Rattle.std.specs.List.{list_all}
 use Rattle.vx_catalog_relations.specs.Relation.{Relation}
-use Rattle.vx_plan_nodes.specs.Plan.{Claim, Plan, scan, unary, binary, exchange, claim, Unary, Binary, union, join}
+use Rattle.vx_plan_nodes.specs.Plan.{Claim, Plan, scan, unary, binary, exchange, claim, Unary, Binary, union, join, semi_join}
 use Rattle.vx_plan_nodes.specs.Types.{well_formed, names_columns, part_columns, width}
 use Rattle.vx_catalog_relations.specs.Catalog.{all_below}
 use Rattle.vx_plan_nodes.specs.Phases.{phase_fits, both_closed, phased}
@@ -31,6 +31,7 @@ well-both catalog k c union p q h =
     let t = four (well_formed catalog p) (well_formed catalog q) (both_closed p q) (same && named) h in
     (t.0, t.1, t.2, and-right same named t.3)
 well-both catalog k c (join m on) p q h = four (well_formed catalog p) (well_formed catalog q) (both_closed p q) (names_columns (width catalog (binary k c (join m on) p q)) c) h
+well-both catalog k c (semi_join matched on conditions) p q h = four (well_formed catalog p) (well_formed catalog q) (both_closed p q) (names_columns (width catalog (binary k c (semi_join matched on conditions) p q)) c) h
 
 -- the inputs of a union are equally wide
 pub union-widths : (catalog : ℕ → Relation) (k : ℕ) (c : Claim) (p q : Plan) → well_formed catalog (binary k c union p q) ≡ true → width catalog p ≡ width catalog q

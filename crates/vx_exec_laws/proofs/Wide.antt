@@ -4,7 +4,7 @@ use Rattle.std.specs.List.{AllByRecursion}
 use Rattle.vx_rows_values.specs.declared.value.ColType.{ColType}
 use Rattle.vx_rows_values.specs.Types.{Fits, type_of}
 use Rattle.vx_rows_values.specs.Values.{Row}
-use Rattle.vx_plan_nodes.specs.Plan.{Claim, Binary, union, join, Plan, scan, unary, binary, exchange}
+use Rattle.vx_plan_nodes.specs.Plan.{Claim, Binary, union, join, semi_join, Plan, scan, unary, binary, exchange}
 use Rattle.vx_catalog_relations.specs.Relation.{Relation, Meets}
 use Rattle.vx_plan_nodes.specs.Types.{width, unary_width, well_formed, names_columns}
 use Rattle.vx_plan_nodes.specs.Serial.{unary_rows, binary_rows, join_rows, SerialResult, rows, overflow, or_overflow, after, serial}
@@ -12,6 +12,7 @@ use Rattle.vx_exec_laws.proofs.Bags.{and-left, and-both}
 use Rattle.vx_exec_laws.proofs.WellFormed.{well-under, well-both, union-widths}
 use Rattle.vx_exec_laws.proofs.JoinOrder.{wide, join-all, all-append}
 use Rattle.vx_exec_laws.proofs.Widths.{length-values}
+use Rattle.vx_exec_laws.proofs.SemiJoin.{matched-all}
 use Rattle.vx_exec_laws.proofs.Operators.{keeps}
 
 -- rows that fit types have a value for each
@@ -34,6 +35,7 @@ pub both-wide : (catalog : ℕ → Relation) (k : ℕ) (c : Claim) (op : Binary)
 both-wide catalog k c union p q wf ls rs a b =
     let P : ℕ → Type 0 = λ w. wide w rs ≡ true in all-append (λ row. length row == width catalog p) ls rs a (subst P (sym (union-widths catalog k c p q wf)) b)
 both-wide catalog k c (join m on) p q wf ls rs a b = join-wide on (width catalog p) (width catalog q) ls rs a b
+both-wide catalog k c (semi_join matched on conditions) p q wf ls rs a b = matched-all (λ row. length row == width catalog p) matched on conditions ls rs a
 
 module _ (catalog : ℕ → Relation) (db : ℕ → List Row) (meets : (r : ℕ) → Meets (catalog r) (db r)) where
   pub serial-wide : (p : Plan) (xs : List Row) → well_formed catalog p ≡ true → serial db p ≡ rows xs → wide (width catalog p) xs ≡ true

@@ -3,6 +3,7 @@ pub mod DerivedSound
 pub mod DerivedFaults
 pub mod Forms
 pub mod WorkedPlans
+pub mod WorkedLimits
 pub mod WorkedRows
 pub mod Worked
 pub mod Dispatch

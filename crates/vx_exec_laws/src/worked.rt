@@ -1,6 +1,7 @@
 //! Worked plans, judged and evaluated by the definitions alone.
 
 ghost use Rattle.vx_exec_laws.specs.Worked.{WorkedPhases};
+ghost use Rattle.vx_exec_laws.specs.WorkedLimits.{WorkedLimits};
 ghost use Rattle.vx_exec_laws.specs.WorkedRows.{AreAccepted, AreRefused, HaveForms, HaveSerialRows};
 
 /// These plans are accepted.
@@ -26,4 +27,9 @@ pub fn worked_forms_compute()
 /// Groupings in two steps and exchanges that take one producer after the other: what is accepted of them, what is refused, and what they mean.
 pub fn worked_plans_compute()
     ensures { WorkedPhases }
+{}
+
+/// Limits, semi joins and anti joins: what is accepted of them, what is refused, and what they mean.
+pub fn worked_limits_compute()
+    ensures { WorkedLimits }
 {}

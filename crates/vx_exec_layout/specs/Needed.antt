@@ -1,7 +1,7 @@
 -- How many rounds a run of a plan needs at most, where each round is a step of each worker.
 use Rattle.std.specs.Prelude.{ℕ, ◌≡◌, ◌+◌, ◌*◌, List, length, nat_le, if◌then◌else◌, slice_index}
 use Rattle.vx_rows_values.specs.Values.{Row}
-use Rattle.vx_plan_nodes.specs.Plan.{Plan, scan, unary, binary, exchange, union, join, size, target}
+use Rattle.vx_plan_nodes.specs.Plan.{Plan, scan, unary, binary, exchange, union, join, semi_join, size, target}
 use Rattle.vx_plan_nodes.specs.Streams.{workers}
 
 -- the largest number of 64 bits in place of a larger one
@@ -15,12 +15,13 @@ AreSizesOf db counts = (r : ℕ) → length (db r) ≡ slice_index counts r
 -- db: the rows of each relation; sizes: the workers of each size name
 module _ (db : ℕ → List Row) (sizes : ℕ → ℕ) where
   -- the most rows that one worker may have at a node: of a scan those of its relation; of an operator over one input those of the input; of a union those of
-  -- both inputs, of a join each left row with each right one; of an exchange all rows of all its producers
+  -- both inputs, of a join each left row with each right one, of a semi or an anti join those of the left input; of an exchange all rows of all its producers
   abbrev pub most_rows : Plan → ℕ
   most_rows (scan n c r m z) = length (db r)
   most_rows (unary n c op p) = most_rows p
   most_rows (binary n c union p q) = most_rows p + most_rows q
   most_rows (binary n c (join merging on) p q) = most_rows p * most_rows q
+  most_rows (binary n c (semi_join matched on conditions) p q) = most_rows p
   most_rows (exchange n c k merge p) = workers sizes (size p) * most_rows p
 
   -- the most turns that one worker may need for its operators from a node down, besides one for each row at its top: a draw for each morsel, which has a row at

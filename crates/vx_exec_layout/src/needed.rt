@@ -1,6 +1,6 @@
 //! How many rounds a run of a plan needs at most.
 
-ghost use Rattle.std.specs.Prelude.{◌≡◌, ◌+◌, ◌*◌, ℕ, List, if◌then◌else◌};
+ghost use Rattle.std.specs.Prelude.{◌≡◌, ◌+◌, ◌*◌, ℕ, List};
 ghost use Rattle.std.specs.List.{All};
 ghost use Rattle.vx_rows_values.specs.Limits.{max_group_workers};
 ghost use Rattle.vx_rows_values.specs.Values.{Row};
@@ -31,20 +31,16 @@ fn product(a: u64, b: u64) -> u64
     a.saturating_mul(b)
 }
 
-// The work of one worker at a node over two inputs.
-fn both_work(is_union: bool, left: Work, right: Work) -> Work
-    ensures rows { result.rows ≡ capped (if is_union then left.rows + right.rows else left.rows * right.rows) }
+// The work of one worker at a node over two inputs, which may have so many rows.
+fn both_work(rows: u64, left: Work, right: Work) -> Work
+    ensures rows { result.rows ≡ rows }
     ensures turns { result.turns ≡ capped (2 * (left.rows + right.rows) + 2 + (left.turns + right.turns)) }
 {
-    let rows = sum(left.rows, right.rows);
+    let read = sum(left.rows, right.rows);
     let turns = sum(left.turns, right.turns);
     Work {
-        rows: if is_union {
-            rows
-        } else {
-            product(left.rows, right.rows)
-        },
-        turns: sum(sum(product(2, rows), 2), turns),
+        rows,
+        turns: sum(sum(product(2, read), 2), turns),
     }
 }
 
@@ -74,8 +70,13 @@ fn work_of(node: &TypedNode, worker_groups: &[u32], rows: &[u64]) -> Work
             let left = work_of(left, worker_groups, rows);
             let right = work_of(right, worker_groups, rows);
             match binary {
-                Binary::Union => both_work(true, left, right),
-                Binary::HashJoin(_) | Binary::MergeJoin(_) => both_work(false, left, right),
+                Binary::Union => both_work(sum(left.rows, right.rows), left, right),
+                Binary::HashJoin(_) | Binary::MergeJoin(_) => {
+                    both_work(product(left.rows, right.rows), left, right)
+                }
+                Binary::SemiJoin(_, _) | Binary::AntiJoin(_, _) => {
+                    both_work(left.rows, left, right)
+                }
             }
         }
         TypedNode::Exchange(_, _, input) => {

@@ -9,10 +9,12 @@ use Rattle.vx_ops.specs.Select.{select_meaning}
 use Rattle.vx_ops.specs.Project.{project_meaning}
 use Rattle.vx_match.specs.Distinct.{distinct_meaning}
 use Rattle.vx_ops.specs.Sort.{sort_meaning}
+use Rattle.vx_ops.specs.Limit.{limit_meaning}
 use Rattle.vx_ops.specs.Union.{union_meaning}
 use Rattle.vx_match.specs.Group.{group_meaning}
 use Rattle.vx_match.specs.HashJoin.{hash_join_meaning}
 use Rattle.vx_match.specs.MergeJoin.{merge_join_meaning}
+use Rattle.vx_match.specs.SemiJoin.{semi_join_meaning}
 use Rattle.vx_ops.specs.declared.turn.Want.{Want}
 use Rattle.vx_exchange.specs.Receiver.{ReceiverStands, receiver_op, receiver_types, receiver_want, receiver_most, receiver_abides, receiver-grows}
 use Rattle.vx_exchange.specs.declared.receiver.Receiver.{Receiver}
@@ -42,9 +44,11 @@ kind_meaning (kind.Project s) = project_meaning s
 kind_meaning (kind.Distinct s) = distinct_meaning s
 kind_meaning (kind.Sort s) = sort_meaning s
 kind_meaning (kind.Group s) = group_meaning s
+kind_meaning (kind.Limit s) = limit_meaning s
 kind_meaning (kind.Union s) = union_meaning s
 kind_meaning (kind.HashJoin s) = hash_join_meaning s
 kind_meaning (kind.MergeJoin s) = merge_join_meaning s
+kind_meaning (kind.SemiJoin s) = semi_join_meaning s
 kind_meaning (kind.Receiver s) = receiver_meaning s
 kind_meaning (kind.InOrder s) = in_order_meaning s
 kind_meaning (kind.Merge s) = merge_receiver_meaning s

@@ -2,8 +2,8 @@
 
 use vx_exchange::Receiver;
 use vx_exchange_receivers::{InOrderReceiver, MergeReceiver};
-use vx_match::{Distinct, Group, HashJoin, MergeJoin};
-use vx_ops::{Got, Polled, Project, Scan, Select, Sort, Source, Union, Want};
+use vx_match::{Distinct, Group, HashJoin, MergeJoin, SemiJoin};
+use vx_ops::{Got, Limit, Polled, Project, Scan, Select, Sort, Source, Union, Want};
 
 /// An operator of a fragment, by its kind: each is a source of its own crate.
 pub enum OperatorKind {
@@ -13,9 +13,11 @@ pub enum OperatorKind {
     Distinct(Distinct),
     Sort(Sort),
     Group(Group),
+    Limit(Limit),
     Union(Union),
     HashJoin(HashJoin),
     MergeJoin(MergeJoin),
+    SemiJoin(SemiJoin),
     Receiver(Receiver),
     InOrder(InOrderReceiver),
     Merge(MergeReceiver),
@@ -32,9 +34,11 @@ impl Drop for OperatorKind {
             OperatorKind::Distinct(distinct) => drop(distinct),
             OperatorKind::Sort(sort) => drop(sort),
             OperatorKind::Group(group) => drop(group),
+            OperatorKind::Limit(limit) => drop(limit),
             OperatorKind::Union(union) => drop(union),
             OperatorKind::HashJoin(join) => drop(join),
             OperatorKind::MergeJoin(join) => drop(join),
+            OperatorKind::SemiJoin(join) => drop(join),
             OperatorKind::Receiver(receiver) => drop(receiver),
             OperatorKind::InOrder(receiver) => drop(receiver),
             OperatorKind::Merge(receiver) => drop(receiver),
@@ -71,9 +75,11 @@ impl Source for OperatorKind {
             OperatorKind::Distinct(distinct) => distinct.wants(),
             OperatorKind::Sort(sort) => sort.wants(),
             OperatorKind::Group(group) => group.wants(),
+            OperatorKind::Limit(limit) => limit.wants(),
             OperatorKind::Union(union) => union.wants(),
             OperatorKind::HashJoin(join) => join.wants(),
             OperatorKind::MergeJoin(join) => join.wants(),
+            OperatorKind::SemiJoin(join) => join.wants(),
             OperatorKind::Receiver(receiver) => receiver.wants(),
             OperatorKind::InOrder(receiver) => receiver.wants(),
             OperatorKind::Merge(receiver) => receiver.wants(),
@@ -88,9 +94,11 @@ impl Source for OperatorKind {
             OperatorKind::Distinct(distinct) => distinct.turn(got),
             OperatorKind::Sort(sort) => sort.turn(got),
             OperatorKind::Group(group) => group.turn(got),
+            OperatorKind::Limit(limit) => limit.turn(got),
             OperatorKind::Union(union) => union.turn(got),
             OperatorKind::HashJoin(join) => join.turn(got),
             OperatorKind::MergeJoin(join) => join.turn(got),
+            OperatorKind::SemiJoin(join) => join.turn(got),
             OperatorKind::Receiver(receiver) => receiver.turn(got),
             OperatorKind::InOrder(receiver) => receiver.turn(got),
             OperatorKind::Merge(receiver) => receiver.turn(got),

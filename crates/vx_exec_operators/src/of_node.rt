@@ -1,11 +1,14 @@
 //! The operators of the nodes of a plan.
 
-ghost use Rattle.std.specs.Prelude.{◌≡◌, ◌≤◌, true, length, IfOk};
+ghost use Rattle.std.specs.Prelude.{◌≡◌, ◌≤◌, true, ℕ, length, map, IfOk};
 ghost use Rattle.vx_rows.specs.View.{AreColumns};
+ghost use Rattle.vx_plan_nodes.specs.Conditions.{conditions_of};
+ghost use Rattle.vx_plan_nodes.specs.Plan.{semi_join};
 ghost use Rattle.vx_plan_nodes.specs.Outline.{unary_of, binary_of, kind_of};
 ghost use Rattle.vx_plan_nodes.specs.Runs.{is_concat};
 ghost use Rattle.vx_plan_nodes.specs.Typed.{is_unary, is_binary, may_merge};
 ghost use Rattle.vx_plan_nodes.specs.Types.{unary_types, binary_types};
+ghost use Rattle.vx_match_join.specs.Matching.{op_of_matching};
 ghost use Rattle.vx_ops.specs.Ledger.{one_op, two_op, receive};
 ghost use Rattle.vx_ops.specs.Turn.{fresh_ledger};
 ghost use Rattle.vx_ops.specs.Starts.{StartsWithin};
@@ -17,10 +20,11 @@ use crate::operator::Operator;
 use std::alloc::{AllocError, Global};
 use vx_exchange::Receiver;
 use vx_exchange_receivers::{InOrderReceiver, MergeReceiver};
-use vx_match::{FirstRows, HashJoining, KeyedGroups, MergeJoin};
-use vx_ops::{Project, Select, Sort, Union};
+use vx_match::{FirstRows, HashJoining, KeyedGroups, MergeJoin, SemiJoining};
+use vx_match_join::Matching;
+use vx_ops::{Limit, Project, Select, Sort, Union};
 use vx_ops_kernels::kept_columns;
-use vx_plan_nodes::{Binary, Exchange, ExchangeKind, Unary, copied_conditions};
+use vx_plan_nodes::{Binary, Condition, Exchange, ExchangeKind, Unary, copied_conditions};
 use vx_rows_values::{ColType, KeySeed};
 
 /// The operator over one input of rows of these types, at the node with this number, to which nothing came. Keys are hashed by
@@ -67,7 +71,53 @@ pub fn unary_operator(
             let group = KeyedGroups::source(alloc, seed, number, *phase, by, aggregates, input)?;
             Ok(Operator::of(number, OperatorKind::Group(group)))
         }
+        Unary::Limit(rows) => {
+            let types = Vec::from_slice(alloc, input)?;
+            let limit = Limit::new(alloc, number, *rows, types);
+            Ok(Operator::of(number, OperatorKind::Limit(limit)))
+        }
     }
+}
+
+// Which rows a semi join, or, where `matched` is false, an anti join keeps, by these pairs of columns and these conditions.
+fn matching_of(
+    alloc: Global,
+    matched: bool,
+    on: &[(usize, usize)],
+    conditions: &[Condition],
+) -> Result<Matching, AllocError>
+    ensures on { IfOk result (λ m. m.on.items ≡ on.now) }
+    ensures op { IfOk result (λ m. op_of_matching m ≡ semi_join matched on.now (conditions_of conditions.now)) }
+{
+    let on = Vec::from_slice(alloc, on)?;
+    let conditions = copied_conditions(alloc, conditions)?;
+    Ok(Matching {
+        matched,
+        on,
+        conditions,
+    })
+}
+
+// The operator of a semi or an anti join over inputs of rows of these types, to which nothing came.
+fn semi_join_operator(
+    alloc: Global,
+    seed: KeySeed,
+    number: u32,
+    matching: Matching,
+    left: &[ColType],
+    right: &[ColType],
+) -> Result<Operator, AllocError>
+    requires left { AreColumns (length left.now) (map (λ (p : ℕ × ℕ). p.0) matching.on.items) }
+    requires right { AreColumns (length right.now) (map (λ (p : ℕ × ℕ). p.1) matching.on.items) }
+    ensures op { IfOk result (λ o. operator_op o ≡ two_op number (op_of_matching matching)) }
+    ensures stands { IfOk result (λ o. OperatorStands o fresh_ledger) }
+    ensures starts { IfOk result (λ o. StartsWithin (operator_op o) (operator_most o) (operator_idle o)) }
+    ensures left { IfOk result (λ o. (operator_types o).left ≡ left.now) }
+    ensures right { IfOk result (λ o. (operator_types o).right ≡ right.now) }
+    ensures returns { IfOk result (λ o. (operator_types o).out ≡ left.now) }
+{
+    let join = SemiJoining::source(alloc, seed, number, matching, left, right)?;
+    Ok(Operator::of(number, OperatorKind::SemiJoin(join)))
 }
 
 /// The operator over two inputs of rows of these types, at the node with this number, to which nothing came. Keys are hashed by
@@ -102,6 +152,14 @@ pub fn binary_operator(
         Binary::MergeJoin(on) => {
             let join = MergeJoin::new(alloc, number, on.as_slice(), left, right)?;
             Ok(Operator::of(number, OperatorKind::MergeJoin(join)))
+        }
+        Binary::SemiJoin(on, conditions) => {
+            let matching = matching_of(alloc, true, on.as_slice(), conditions.as_slice())?;
+            semi_join_operator(alloc, seed, number, matching, left, right)
+        }
+        Binary::AntiJoin(on, conditions) => {
+            let matching = matching_of(alloc, false, on.as_slice(), conditions.as_slice())?;
+            semi_join_operator(alloc, seed, number, matching, left, right)
         }
     }
 }

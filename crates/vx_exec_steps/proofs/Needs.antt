@@ -4,7 +4,7 @@ use Rattle.std.proofs.Math.Path.{fun_ext}
 use Rattle.std.proofs.Math.Nat.{mul-le-mul_left, mul-le-mul_right, mul-div-le}
 use Rattle.std.proofs.lemmas.Nat.{mul-le}
 use Rattle.vx_rows_values.specs.Values.{Row}
-use Rattle.vx_plan_nodes.specs.Plan.{ExchangeKind, Claim, Plan, scan, unary, binary, exchange, Binary, union, join, size, size_eq, target}
+use Rattle.vx_plan_nodes.specs.Plan.{ExchangeKind, Claim, Plan, scan, unary, binary, exchange, Binary, union, join, semi_join, size, size_eq, target}
 use Rattle.vx_plan_nodes.specs.Streams.{workers}
 use Rattle.vx_plan_nodes.specs.Workers.{workers_below, crew_size}
 use Rattle.vx_plan_nodes.specs.Numbering.{is_fit}
@@ -159,6 +159,7 @@ two-needs S m n c op p q f h t a b = record { rows = rows op; turns = turns }
     rows : (op : Binary) → frag_most (both (two_op n op) f h) (after_trace m t no-more) ≤ most_rows S.db S.sizes (binary n c op p q)
     rows union = let x = a.rows in let y = b.rows in omega (arith, x, y)
     rows (join merging on) = mul-le (frag_most f (after_trace m t no-more)) (frag_most h (after_trace m t no-more)) (most_rows S.db S.sizes p) (most_rows S.db S.sizes q) a.rows b.rows
+    rows (semi_join matched on conditions) = a.rows
 
     turns : frag_idle (both (two_op n op) f h) (after_trace m t no-more) + arrived (both (two_op n op) f h) t ≤ most_turns S.db S.sizes (binary n c op p q)
     turns =

@@ -21,9 +21,9 @@ join-long on ls rs =
     omega (arith, each, all)
 
 -- the first rows of a batch were joined with some of so many right rows
-pub probe-long : (on : List (ℕ × ℕ)) (front rest batch made rs : List Row) (read : ℕ) → front ++ rest ≡ batch → made ≡ join_rows on front rs
-    → length made + length rest * (read + length rs) ≤ length batch * (read + length rs)
-probe-long on front rest batch made rs read e m =
+pub probe-long : (on : List (ℕ × ℕ)) (front rest batch made rs : List Row) (read more : ℕ) → front ++ rest ≡ batch → made ≡ join_rows on front rs
+    → length made + length rest * (read + length rs + more) ≤ length batch * (read + length rs + more)
+probe-long on front rest batch made rs read more e m =
     let most : length made ≤ length front * length rs = subst (λ ys. length ys ≤ length front * length rs) (sym m) (join-long on front rs) in
     let parts : length batch ≡ length front + length rest = ap length (sym e) ∙ length-append front rest in
     rw parts (omega (arith, most))

@@ -1,5 +1,6 @@
 -- What a caller sees of the kernel of a hash join, and what it has read and built.
-use Rattle.std.specs.Prelude.{◌≡◌, ℕ, ◌+◌, false, List, ◌++◌, length, map}
+use Rattle.std.specs.Prelude.{◌≡◌, ℕ, ◌+◌, ◌≤◌, false, List, ◌++◌, length, map}
+use Rattle.std.proofs.Common.{le_refl, add-le-add}
 use Rattle.vx_rows_values.specs.declared.value.ColType.{ColType}
 use Rattle.vx_rows_values.specs.Values.{Row}
 use Rattle.vx_rows.specs.View.{AreColumns}
@@ -32,9 +33,13 @@ hash_joining_types s = record { left = s.left; right = s.right; out = s.left ++ 
 abbrev pub HashJoiningHasRead : HashJoiningView → List Row → Type 0
 HashJoiningHasRead s rs = s.read ≡ rs
 
--- the right rows that it has, read or built
-abbrev pub hash_joining_built : HashJoiningView → ℕ
-hash_joining_built s = length s.read + length s.built
+-- of a left row it makes one row at most with each right row: that it has, read or built, or that may still come
+abbrev pub hash_joining_each : HashJoiningView → ℕ → ℕ
+hash_joining_each s n = length s.read + length s.built + n
+
+-- a law that the trait asks for
+pub hash-joining-grows : (s : HashJoiningView) (m n : ℕ) → m ≤ n → hash_joining_each s m ≤ hash_joining_each s n
+hash-joining-grows s m n h = add-le-add (le_refl (length s.read + length s.built)) h
 
 abbrev pub HashJoiningHasBuilt : HashJoiningView → List Row → Type 0
 HashJoiningHasBuilt s rs = s.built ≡ rs

@@ -2,6 +2,8 @@ pub mod FirstRows
 pub mod Distinct
 pub mod HashJoining
 pub mod HashJoin
+pub mod SemiJoining
+pub mod SemiJoin
 pub mod KeyedGroups
 pub mod Group
 pub mod MergeJoin

@@ -101,7 +101,7 @@ impl HashJoining {
 
 impl ProbeKernel for HashJoining {
     ghost use Rattle.std.specs.Prelude.{refl};
-    ghost use Rattle.vx_match.specs.HashJoining.{hash_joining, hash_joining_types, HashJoiningHasRead, HashJoiningHasBuilt, hash_joining_built};
+    ghost use Rattle.vx_match.specs.HashJoining.{hash_joining, hash_joining_types, HashJoiningHasRead, HashJoiningHasBuilt, hash_joining_each, hash-joining-grows};
     ghost use Rattle.std.proofs.lemmas.Grind.{flat_map-append};
     ghost use Rattle.vx_plan_nodes.specs.Serial.{joined_with};
 
@@ -113,11 +113,13 @@ impl ProbeKernel for HashJoining {
 
     ghost HasBuilt = { HashJoiningHasBuilt };
 
-    ghost built = { hash_joining_built };
+    ghost each = { hash_joining_each };
 
     ghost empty = { λ s rs. refl };
 
     ghost parts = { λ s xs ys rs. flat_map-append (joined_with s.on rs) xs ys };
+
+    ghost each_grows = { hash-joining-grows };
 
     fn build(&mut self, batch: Rows) -> Result<(), AllocError> {
         self.read.append(batch)

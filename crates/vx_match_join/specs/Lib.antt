@@ -1,3 +1,4 @@
 pub mod Build
 pub mod Parts
 pub mod Sides
+pub mod Matching

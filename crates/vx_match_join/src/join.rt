@@ -62,8 +62,8 @@ struct JoinedPositions {
     rights: Vec<usize>,
 }
 
-// The end of the block that starts at row `from`, out of `count` rows.
-fn block_end(from: usize, count: usize) -> usize
+/// The end of the block that starts at row `from`, out of `count` rows.
+pub(crate) fn block_end(from: usize, count: usize) -> usize
     requires { from < count }
     ensures more { from < result }
     ensures within { result ≤ count }
@@ -130,8 +130,8 @@ fn index_chunk(
     Ok(())
 }
 
-// The keys of the rows of a batch, and the places of the rows of each.
-fn index_rows(
+/// The keys of the rows of a batch, and the places of the rows of each.
+pub(crate) fn index_rows(
     alloc: Global,
     seed: KeySeed,
     rows: &Rows,

@@ -1,7 +1,7 @@
 -- Turns of an operator that reads all of its input before it returns a row.
 use Rattle.std.proofs.Common.{◌≡◌, ℕ, List, [], ◌++◌, Some, refl, sym, ap, ◌∙◌, subst, inl, inr, Bool, true, false}
 use Rattle.vx_rows_values.specs.Values.{Row}
-use Rattle.vx_plan_nodes.specs.Plan.{Unary, select, project, distinct, sort, group}
+use Rattle.vx_plan_nodes.specs.Plan.{Unary, select, project, distinct, sort, group, limit}
 use Rattle.vx_plan_nodes.specs.Serial.{unary_rows}
 use Rattle.vx_ops.specs.Ledger.{Ledger, one_op, Begun, OwnBlame}
 use Rattle.vx_ops.specs.Begun.{begun_whole, begun_nothing}
@@ -38,6 +38,7 @@ overflows n (select cs) l e m = m
 overflows n (project cs) l e m = m
 overflows n (distinct cs) l e m = m
 overflows n (sort of_parts cs) l e m = m
+overflows n (limit rows) l e m = m
 
 module _ (n : ℕ) (op : Unary) (none : unary_rows op [] ≡ Some []) where
   begun-none : (l : Ledger) → l.gave.rows ≡ [] → Begun (one_op n op) l

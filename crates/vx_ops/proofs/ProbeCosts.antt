@@ -12,29 +12,27 @@ use Rattle.vx_ops.specs.declared.turn.Polled.TheVariants as polled
 use Rattle.vx_ops.proofs.Costs.{idle-most}
 
 -- right rows were read
-pub build-pays : (o : StreamState) (l b b' r n idle : ℕ) → b' ≤ b + n → Pays 0 (if_running o (l * (b + (r + n)))) idle (if_running o (l * (b' + r))) idle polled.Waiting
-build-pays o l b b' r n idle more =
-    let each : l * (b' + r) ≤ l * (b + (r + n)) = mul-le l (b' + r) l (b + (r + n)) (omega arith) (omega (arith, more)) in
-    let all = running-grows o (l * (b' + r)) (l * (b + (r + n))) each in
+pub build-pays : (o : StreamState) (l each each' idle : ℕ) → each' ≤ each → Pays 0 (if_running o (l * each)) idle (if_running o (l * each')) idle polled.Waiting
+build-pays o l each each' idle less =
+    let all = running-grows o (l * each') (l * each) (mul-le l each' l each (omega arith) less) in
     record { rows = omega (arith, all); turns = omega arith }
 
-joined-pays : (n r l b b' right j until : ℕ) (p : Polled) → rows_in p ≡ j → r < n → b' ≤ b → j + r * b ≤ n * b
-    → Pays 1 ((n + l) * (b + right)) (n + l + until) ((r + l) * (b' + right)) (r + l + until) p
-joined-pays n r l b b' right j until p made fewer kept joins =
-    let build : (r + l) * (b' + right) ≤ (r + l) * (b + right) = mul-le (r + l) (b' + right) (r + l) (b + right) (omega arith) (omega (arith, kept)) in
-    let later : r * right ≤ n * right = mul-le r right n right (omega (arith, fewer)) (omega arith) in
+joined-pays : (n r l each each' j until : ℕ) (p : Polled) → rows_in p ≡ j → r < n → each' ≤ each → j + r * each ≤ n * each
+    → Pays 1 ((n + l) * each) (n + l + until) ((r + l) * each') (r + l + until) p
+joined-pays n r l each each' j until p made fewer kept joins =
+    let build : (r + l) * each' ≤ (r + l) * each = mul-le (r + l) each' (r + l) each (omega arith) kept in
     let cost = idle-most 1 p in
-    record { rows = omega (arith, build, later, made, joins); turns = omega (arith, fewer, cost) }
+    record { rows = omega (arith, build, made, joins); turns = omega (arith, fewer, cost) }
 
 -- of the rows that it holds the first were joined
-pub probe-pays : (o : StreamState) (n r l b b' right j until : ℕ) (rest : Option RowsView) (p : Polled) → o ≡ Running → length (rest_rows rest) ≡ r → rows_in p ≡ j
-    → r < n → b' ≤ b → j + r * b ≤ n * b
-    → Pays 1 (if_running o ((n + l) * (b + right))) (if_running o (n + l + until)) (if_running o ((length (rest_rows rest) + l) * (b' + right))) (if_running o (length (rest_rows rest) + l + until)) p
-probe-pays o n r l b b' right j until rest p runs left made fewer kept joins = rw (runs, left) (joined-pays n r l b b' right j until p made fewer kept joins)
+pub probe-pays : (o : StreamState) (n r l each each' j until : ℕ) (rest : Option RowsView) (p : Polled) → o ≡ Running → length (rest_rows rest) ≡ r → rows_in p ≡ j
+    → r < n → each' ≤ each → j + r * each ≤ n * each
+    → Pays 1 (if_running o ((n + l) * each)) (if_running o (n + l + until)) (if_running o ((length (rest_rows rest) + l) * each')) (if_running o (length (rest_rows rest) + l + until)) p
+probe-pays o n r l each each' j until rest p runs left made fewer kept joins = rw (runs, left) (joined-pays n r l each each' j until p made fewer kept joins)
 
 -- left rows came
-pub left-most : (o : StreamState) (n l b more : ℕ) → if_running o ((n + l) * b) ≤ if_running o ((more + (l + n)) * b)
-left-most o n l b more = running-grows o ((n + l) * b) ((more + (l + n)) * b) (mul-le (n + l) b (more + (l + n)) b (omega arith) (omega arith))
+pub left-most : (o : StreamState) (n l each more : ℕ) → if_running o ((n + l) * each) ≤ if_running o ((more + (l + n)) * each)
+left-most o n l each more = running-grows o ((n + l) * each) ((more + (l + n)) * each) (mul-le (n + l) each (more + (l + n)) each (omega arith) (omega arith))
 
 pub left-idle : (o : StreamState) (n l until more : ℕ) → if_running o (n + l + until) ≤ if_running o (more + (l + n) + until)
 left-idle o n l until more = running-grows o (n + l + until) (more + (l + n) + until) (omega arith)

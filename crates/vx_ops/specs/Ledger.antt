@@ -3,7 +3,7 @@ use Rattle.std.specs.Prelude.{ℕ, ◌≡◌, ◌<◌, ◌⊎◌, true, false, L
 use Rattle.vx_rows_values.specs.Values.{Row}
 use Rattle.vx_rows_values.specs.Order.{sorted}
 use Rattle.vx_rows_values.specs.declared.value.ColType.{ColType}
-use Rattle.vx_plan_nodes.specs.Plan.{Unary, sort, group, Binary, join}
+use Rattle.vx_plan_nodes.specs.Plan.{Unary, sort, group, Binary, join, semi_join}
 use Rattle.vx_plan_nodes.specs.Serial.{unary_rows, binary_rows, group_rows}
 use Rattle.vx_plan_nodes.specs.Streams.{Dealt, joined}
 use Rattle.vx_ports.specs.Packets.{PacketView, rows_of, has_last, has_fault}
@@ -120,11 +120,13 @@ TestsPackets op l = Unit {0}
 abbrev pub IsAllGiven : Unary → Ledger → Type 0
 IsAllGiven op l = (l.left.over ≡ Ended) × (unary_rows op l.left.rows ≡ Some l.gave.rows)
 
--- a group and a sort return nothing before their input has ended, and then all that they make of it; a hash join nothing before its right input has
+-- a group and a sort return nothing before their input has ended, and then all that they make of it; a hash join, a semi and an anti join nothing before their
+-- right input has
 abbrev pub HoldsBack : Op → Ledger → Type 0
 HoldsBack (one_op n (group phase by aggregates)) l = IsAllGiven (group phase by aggregates) l ⊎ (l.gave.rows ≡ [])
 HoldsBack (one_op n (sort of_parts cols)) l = IsAllGiven (sort of_parts cols) l ⊎ (l.gave.rows ≡ [])
 HoldsBack (two_op n (join false on)) l = (l.right.over ≡ Ended) ⊎ (l.gave.rows ≡ [])
+HoldsBack (two_op n (semi_join matched on conditions)) l = (l.right.over ≡ Ended) ⊎ (l.gave.rows ≡ [])
 HoldsBack op l = Unit {0}
 
 -- what is known of a source after any turns

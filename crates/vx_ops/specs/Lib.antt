@@ -9,6 +9,7 @@ pub mod Scan
 pub mod Union
 pub mod Stepping
 pub mod Select
+pub mod Limit
 pub mod Projection
 pub mod Project
 pub mod CollectingKernel

@@ -76,13 +76,12 @@ pub probing_abides : {K : Type 0} (binary : K → Binary) (read built : K → Li
     → ProbingStands binary read built s l → Abides (probing_op binary s) l
 probing_abides binary read built s l h = h.abides
 
--- the most rows that it may still return: each left row that it holds, or that may still come, with each right row that it has, or that
--- may still come
+-- the most rows that it may still return: of each left row that it holds, or that may still come, what its kernel makes of one at most
 abbrev pub rest_count : {K : Type 0} → ProbingView K → ℕ
 rest_count s = length (rest_rows s.rest)
 
-abbrev pub probing_most : {K : Type 0} → (K → ℕ) → ProbingView K → Coming → ℕ
-probing_most built s c = if_running s.over ((rest_count s + c.left) * (built s.kernel + c.right))
+abbrev pub probing_most : {K : Type 0} → (K → ℕ → ℕ) → ProbingView K → Coming → ℕ
+probing_most each s c = if_running s.over ((rest_count s + c.left) * each s.kernel c.right)
 
 -- it may be idle where its right input ends, and for each left row: one at least is joined in a turn of its own
 abbrev pub until_ready : Bool → ℕ
@@ -92,10 +91,14 @@ until_ready true = 0
 abbrev pub probing_idle : {K : Type 0} → ProbingView K → Coming → ℕ
 probing_idle s c = if_running s.over (rest_count s + c.left + until_ready s.ready)
 
-pub probing-grows : {K : Type 0} (built : K → ℕ) (s : ProbingView K) (a b : Coming) → IsWithin a b → probing_most built s a ≤ probing_most built s b
-probing-grows built s a b h =
-    running-grows s.over ((rest_count s + a.left) * (built s.kernel + a.right)) ((rest_count s + b.left) * (built s.kernel + b.right))
-    (mul-le-mul (add-le-add (le_refl (rest_count s)) h.left) (add-le-add (le_refl (built s.kernel)) h.right))
+-- more right rows that may come make of a left row no fewer rows
+abbrev pub EachGrows : (ℕ → ℕ) → Type 0
+EachGrows each = (m n : ℕ) → m ≤ n → each m ≤ each n
+
+pub probing-grows : {K : Type 0} (each : K → ℕ → ℕ) (s : ProbingView K) → EachGrows (each s.kernel) → (a b : Coming) → IsWithin a b → probing_most each s a ≤ probing_most each s b
+probing-grows each s grows a b h =
+    running-grows s.over ((rest_count s + a.left) * each s.kernel a.right) ((rest_count s + b.left) * each s.kernel b.right)
+    (mul-le-mul (add-le-add (le_refl (rest_count s)) h.left) (grows a.right b.right h.right))
 
 pub probing-idle-grows : {K : Type 0} (s : ProbingView K) (a b : Coming) → IsWithin a b → probing_idle s a ≤ probing_idle s b
 probing-idle-grows s a b h =
@@ -103,8 +106,8 @@ probing-idle-grows s a b h =
 
 -- of an operator whose kernel computes this, over rows of these types, and has read and built this, and makes so many rows at most of a left
 -- row
-abbrev pub probing_meaning : {K : Type 0} → (K → Binary) → (K → Shape) → (K → List Row → Type 0) → (K → List Row → Type 0) → (K → ℕ) → ProbingView K → Meaning
-probing_meaning binary types read built each s = record {
+abbrev pub probing_meaning : {K : Type 0} → (K → Binary) → (K → Shape) → (K → List Row → Type 0) → (K → List Row → Type 0) → (each : K → ℕ → ℕ) → ((s : K) → EachGrows (each s)) → ProbingView K → Meaning
+probing_meaning binary types read built each grows s = record {
   stands = ProbingStands binary read built s;
   op = probing_op binary s;
   types = probing_types types s;
@@ -112,6 +115,6 @@ probing_meaning binary types read built each s = record {
   most = probing_most each s;
   idle = probing_idle s;
   abides = probing_abides binary read built s;
-  most_grows = probing-grows each s;
+  most_grows = probing-grows each s (grows s.kernel);
   idle_grows = probing-idle-grows s;
 }

@@ -27,21 +27,21 @@ pub trait ProbeKernel: Drop {
     // That the build side is ready, and is these rows.
     ghost HasBuilt: { Self → List Row → Type 0 };
 
-    // The most rows that it makes of one left row: each right row that it reads adds one at most.
-    ghost built: { Self → ℕ };
+    // The most rows that it makes of one left row, if so many right rows may still come.
+    ghost each: { Self → ℕ → ℕ };
 
     /// Reads a further batch of the right input.
     fn build(&mut self, batch: Rows) -> Result<(), AllocError>
         requires typed { batch.types ≡ (types self.old).right }
         ensures read { OnOk result ((rs : List Row) → HasRead self.old rs → HasRead self.new (rs ++ batch.rows)) }
-        ensures held { OnOk result (built self.new ≤ built self.old + length batch.rows) }
+        ensures held { OnOk result ((n : ℕ) → each self.new n ≤ each self.old (n + length batch.rows)) }
         ensures binary { binary self.new ≡ binary self.old }
         ensures types { types self.new ≡ types self.old };
 
     /// Makes the build side ready, of all that was read.
     fn finish_build(&mut self) -> Result<(), AllocError>
         ensures built { OnOk result ((rs : List Row) → HasRead self.old rs → HasBuilt self.new rs) }
-        ensures held { OnOk result (built self.new ≤ built self.old) }
+        ensures held { OnOk result ((n : ℕ) → each self.new n ≤ each self.old n) }
         ensures binary { binary self.new ≡ binary self.old }
         ensures types { types self.new ≡ types self.old };
 
@@ -51,9 +51,9 @@ pub trait ProbeKernel: Drop {
         requires typed { batch.types ≡ (types self.old).left }
         ensures probed { IfOk result (λ p. (rs : List Row) → HasBuilt self.old rs → IsProbed (binary self.old) rs batch.rows p.0.rows p.1.rows) }
         ensures fewer { IfOk result (λ p. 0 < length batch.rows → length p.1.rows < length batch.rows) }
-        ensures joins { IfOk result (λ p. length p.0.rows + length p.1.rows * built self.old ≤ length batch.rows * built self.old) }
+        ensures joins { IfOk result (λ p. (n : ℕ) → length p.0.rows + length p.1.rows * each self.old n ≤ length batch.rows * each self.old n) }
         ensures built { OnOk result ((rs : List Row) → HasBuilt self.old rs → HasBuilt self.new rs) }
-        ensures held { OnOk result (built self.new ≤ built self.old) }
+        ensures held { OnOk result ((n : ℕ) → each self.new n ≤ each self.old n) }
         ensures joined_typed { IfOk result (λ p. p.0.types ≡ (types self.old).out) }
         ensures rest_typed { IfOk result (λ p. p.1.types ≡ (types self.old).left) }
         ensures binary { binary self.new ≡ binary self.old }
@@ -64,4 +64,7 @@ pub trait ProbeKernel: Drop {
 
     // What it makes of left rows does not depend on those before them.
     ghost parts: { (s : Self) (xs ys rs : List Row) → binary_rows (binary s) (xs ++ ys) rs ≡ binary_rows (binary s) xs rs ++ binary_rows (binary s) ys rs };
+
+    // Where fewer right rows may still come, it makes no more of a left row.
+    ghost each_grows: { (s : Self) (m n : ℕ) → m ≤ n → each s m ≤ each s n };
 }

@@ -73,7 +73,7 @@ impl<K: ProbeKernel> Probing<K> {
         ensures stands { ProbingStands K.binary K.HasRead K.HasBuilt result fresh_ledger }
         ensures op { probing_op K.binary result ≡ two_op node (K.binary kernel) }
         ensures types { probing_types K.types result ≡ K.types kernel }
-        ensures most { (c : Coming) → probing_most K.built result c ≡ c.left * (K.built kernel + c.right) }
+        ensures most { (c : Coming) → probing_most K.each result c ≡ c.left * K.each kernel c.right }
         ensures idle { (c : Coming) → probing_idle result c ≡ c.left + 1 }
     {
         Probing {
@@ -106,7 +106,7 @@ impl<K: ProbeKernel> Probing<K> {
         ensures stands { (l : Ledger) → ProbingStands K.binary K.HasRead K.HasBuilt self.old l
             → ProbingStands K.binary K.HasRead K.HasBuilt self.new (after l want_of.Right (got_of.Input (polled.Gave batch)) result) }
         ensures gives { GivesRows (K.types self.old.kernel).out result }
-        ensures pays { (c : Coming) → Pays 0 (probing_most K.built self.old (with_rows want_of.Right (got_of.Input (polled.Gave batch)) c)) (probing_idle self.old c) (probing_most K.built self.new c) (probing_idle self.new c) result }
+        ensures pays { (c : Coming) → Pays 0 (probing_most K.each self.old (with_rows want_of.Right (got_of.Input (polled.Gave batch)) c)) (probing_idle self.old c) (probing_most K.each self.new c) (probing_idle self.new c) result }
         ensures op { probing_op K.binary self.new ≡ probing_op K.binary self.old }
         ensures types { probing_types K.types self.new ≡ probing_types K.types self.old }
     {
@@ -123,7 +123,7 @@ impl<K: ProbeKernel> Probing<K> {
         ensures stands { (l : Ledger) → ProbingStands K.binary K.HasRead K.HasBuilt self.old l
             → ProbingStands K.binary K.HasRead K.HasBuilt self.new (after l want_of.Right (got_of.Input polled.End) result) }
         ensures gives { GivesRows (K.types self.old.kernel).out result }
-        ensures pays { (c : Coming) → Pays 1 (probing_most K.built self.old c) (probing_idle self.old c) (probing_most K.built self.new c) (probing_idle self.new c) result }
+        ensures pays { (c : Coming) → Pays 1 (probing_most K.each self.old c) (probing_idle self.old c) (probing_most K.each self.new c) (probing_idle self.new c) result }
         ensures op { probing_op K.binary self.new ≡ probing_op K.binary self.old }
         ensures types { probing_types K.types self.new ≡ probing_types K.types self.old }
     {
@@ -144,7 +144,7 @@ impl<K: ProbeKernel> Probing<K> {
         ensures stands { (l : Ledger) → ProbingStands K.binary K.HasRead K.HasBuilt (record self.old { rest = Some batch }) l
             → ProbingStands K.binary K.HasRead K.HasBuilt self.new (gives l result) }
         ensures gives { GivesRows (K.types self.old.kernel).out result }
-        ensures pays { (c : Coming) → Pays 1 (probing_most K.built (record self.old { rest = Some batch }) c) (probing_idle (record self.old { rest = Some batch }) c) (probing_most K.built self.new c) (probing_idle self.new c) result }
+        ensures pays { (c : Coming) → Pays 1 (probing_most K.each (record self.old { rest = Some batch }) c) (probing_idle (record self.old { rest = Some batch }) c) (probing_most K.each self.new c) (probing_idle self.new c) result }
         ensures op { probing_op K.binary self.new ≡ probing_op K.binary self.old }
         ensures types { probing_types K.types self.new ≡ probing_types K.types self.old }
     {
@@ -166,7 +166,7 @@ impl<K: ProbeKernel> Probing<K> {
         ensures stands { (l : Ledger) → ProbingStands K.binary K.HasRead K.HasBuilt self.old l
             → ProbingStands K.binary K.HasRead K.HasBuilt self.new (after l want_of.Right got result) }
         ensures gives { GivesRows (K.types self.old.kernel).out result }
-        ensures pays { (c : Coming) → Pays (own_turn got) (probing_most K.built self.old (with_rows want_of.Right got c)) (probing_idle self.old (with_rows want_of.Right got c)) (probing_most K.built self.new c) (probing_idle self.new c) result }
+        ensures pays { (c : Coming) → Pays (own_turn got) (probing_most K.each self.old (with_rows want_of.Right got c)) (probing_idle self.old (with_rows want_of.Right got c)) (probing_most K.each self.new c) (probing_idle self.new c) result }
         ensures op { probing_op K.binary self.new ≡ probing_op K.binary self.old }
         ensures types { probing_types K.types self.new ≡ probing_types K.types self.old }
     {
@@ -190,7 +190,7 @@ impl<K: ProbeKernel> Probing<K> {
         ensures stands { (l : Ledger) → ProbingStands K.binary K.HasRead K.HasBuilt self.old l
             → ProbingStands K.binary K.HasRead K.HasBuilt self.new (after l want_of.Left got result) }
         ensures gives { GivesRows (K.types self.old.kernel).out result }
-        ensures pays { (c : Coming) → Pays (own_turn got) (probing_most K.built self.old (with_rows want_of.Left got c)) (probing_idle self.old (with_rows want_of.Left got c)) (probing_most K.built self.new c) (probing_idle self.new c) result }
+        ensures pays { (c : Coming) → Pays (own_turn got) (probing_most K.each self.old (with_rows want_of.Left got c)) (probing_idle self.old (with_rows want_of.Left got c)) (probing_most K.each self.new c) (probing_idle self.new c) result }
         ensures op { probing_op K.binary self.new ≡ probing_op K.binary self.old }
         ensures types { probing_types K.types self.new ≡ probing_types K.types self.old }
     {
@@ -220,13 +220,13 @@ impl<K: ProbeKernel> Source for Probing<K> {
 
     ghost want = { probing_want };
 
-    ghost most = { probing_most K.built };
+    ghost most = { probing_most K.each };
 
     ghost idle = { probing_idle };
 
     ghost abides = { probing_abides K.binary K.HasRead K.HasBuilt };
 
-    ghost most_grows = { probing-grows K.built };
+    ghost most_grows = { λ s. probing-grows K.each s (K.each_grows s.kernel) };
 
     ghost idle_grows = { probing-idle-grows };
 

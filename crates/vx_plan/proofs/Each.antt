@@ -1,7 +1,7 @@
 -- A walk that looks up each element, as a fact of the two lists.
 use Rattle.std.proofs.Common.{◌≡◌, List, [], ◌∷◌, ◌++◌, Bool, true, Result, Ok, Err, refl, sym, ap, ◌∙◌, subst, map, append_assoc, append-nil}
 use Rattle.std.specs.List.{list_all}
-use Rattle.vx_rows_values.proofs.Booleans.{and-left, and-right}
+use Rattle.vx_rows_values.proofs.Booleans.{and-left, and-right, and-both}
 use Rattle.vx_plan_json.specs.Fault.{Refusal, ◌>>=◌}
 use Rattle.vx_plan.specs.Lookup.{walk_onto}
 
@@ -49,6 +49,13 @@ walk-each f (x ∷ xs) done (y ∷ ys) h =
 pub each-again : {A B : Type 0} (f : A → Result B Refusal) (look : B → A) (p : B → Bool) → ((y : B) → p y ≡ true → f (look y) ≡ Ok y) → (ys : List B) → list_all p ys ≡ true → Each f (map look ys) ys
 each-again f look p again [] h = tt
 each-again f look p again (y ∷ ys) h = (again y (and-left (p y) (list_all p ys) h), each-again f look p again ys (and-right (p y) (list_all p ys) h))
+
+-- each of a list that was found passes a test that every answer passes
+pub each-pass : {A B : Type 0} (f : A → Result B Refusal) (p : B → Bool) → ((x : A) (y : B) → f x ≡ Ok y → p y ≡ true) → (xs : List A) (ys : List B) → Each f xs ys → list_all p ys ≡ true
+each-pass f p passes [] [] h = refl
+each-pass f p passes [] (y ∷ ys) h = absurd h
+each-pass f p passes (x ∷ xs) [] h = absurd h
+each-pass f p passes (x ∷ xs) (y ∷ ys) h = and-both (p y) (list_all p ys) (passes x y h.0) (each-pass f p passes xs ys h.1)
 
 -- each of a list that was found looks as it was asked for
 pub each-said : {A B : Type 0} (f : A → Result B Refusal) (look : B → A) → ((x : A) (y : B) → f x ≡ Ok y → look y ≡ x) → (xs : List A) (ys : List B) → Each f xs ys → map look ys ≡ xs

@@ -14,6 +14,7 @@ pub mod Passed
 pub mod Looked
 pub mod ClaimExact
 pub mod UnarySaid
+pub mod MatchExact
 pub mod UnaryAgain
 pub mod PairExact
 pub mod PlanSaid

@@ -1,5 +1,5 @@
 -- An operator over two inputs, and an exchange: what is found says the names that were asked for, and is found again by them.
-use Rattle.std.proofs.Common.{◌≡◌, ℕ, nat_lt, nat_le, List, [], ◌∷◌, ◌++◌, Bool, true, ◌&&◌, Ok, map, length, bytes_eq, refl, sym, ap, ◌∙◌, subst}
+use Rattle.std.proofs.Common.{◌≡◌, ℕ, ◌+◌, nat_lt, nat_le, List, [], ◌∷◌, ◌++◌, Bool, true, ◌&&◌, Ok, map, length, bytes_eq, refl, sym, ap, ◌∙◌, subst, length-append}
 use Rattle.std.specs.Prelude.{⊤}
 use Rattle.std.specs.List.{list_all}
 use Rattle.vx_rows_values.specs.Types.{type_at}
@@ -7,25 +7,26 @@ use Rattle.vx_rows_values.specs.Lists.{is_some_list}
 use Rattle.vx_rows_values.specs.Values.{Name}
 use Rattle.vx_rows_values.proofs.Booleans.{and-left, and-right, and-both}
 use Rattle.vx_catalog_relations.specs.Catalog.{all_below, are_distinct, are_distinct_names}
-use Rattle.vx_plan_nodes.specs.Plan.{Size, by_hash, by_range, Binary, ExchangeKind, route_to}
+use Rattle.vx_plan_nodes.specs.Plan.{Condition, Size, by_hash, by_range, Binary, ExchangeKind, route_to}
 use Rattle.vx_plan_nodes.specs.Plan as plan
 use Rattle.vx_plan_nodes.specs.Types.{binary_types}
-use Rattle.vx_plan_nodes.specs.Typed.{are_columns, type_eq, types_eq, is_pair, are_distinct_pairs, is_binary, is_size, is_routed, is_kind}
+use Rattle.vx_plan_nodes.specs.Typed.{are_columns, type_eq, types_eq, is_condition, is_pair, are_distinct_pairs, is_binary, is_size, is_routed, is_kind}
 use Rattle.vx_plan_nodes.specs.Outline.{Columns}
 use Rattle.vx_plan_nodes.specs.Names.{Names, scope_of}
-use Rattle.vx_plan_json.specs.Document.{BinaryForm, KindForm}
+use Rattle.vx_plan_json.specs.Document.{ConditionForm, BinaryForm, KindForm}
 use Rattle.vx_plan_json.specs.Document as form
 use Rattle.vx_plan_json.specs.Fault.{◌>>=◌}
-use Rattle.vx_plan.specs.Lookup.{walk_onto, find_column, find_columns, test_distinct, test_match, find_size, find_range}
-use Rattle.vx_plan.specs.Resolve.{find_pair, find_pairs, both_columns, test_join, join_pairs, Joint, binary_shape, find_kind, kind_names, kind_fits, exchange_columns, test_exchange, exchange_shape}
-use Rattle.vx_plan.specs.ByName.{names_at, pair_by_name, binary_by_name, kind_by_name}
-use Rattle.vx_plan.specs.Exact.{binary_names}
+use Rattle.vx_plan.specs.Lookup.{walk_onto, find_column, find_columns, test_distinct, test_distinct_pairs, test_match, find_size, find_range}
+use Rattle.vx_plan.specs.Resolve.{find_conditions, find_pair, find_pairs, both_columns, test_join, join_pairs, find_matches, join_matches, Joint, binary_shape, find_kind, kind_names, kind_fits, exchange_columns, test_exchange, exchange_shape}
+use Rattle.vx_plan.specs.ByName.{names_at, condition_by_name, pair_by_name, binary_by_name, kind_by_name}
+use Rattle.vx_plan.specs.Exact.{binary_names, is_first_condition, has_first_columns}
 use Rattle.vx_plan.proofs.Apart.{apart}
 use Rattle.vx_plan.proofs.Each.{ok_then, ok_last, each-walked, each-said, walk-each, each-again}
 use Rattle.vx_plan.proofs.Passed.{test_distinct-passes, test_distinct_pairs-passes}
 use Rattle.vx_plan.proofs.Looked.{AreDeclared, column-said, columns-said, range-said, size-said, column-again, columns-again, range-again, size-again, columns_once-again, is_pair_below, pairs-once}
 use Rattle.vx_plan.proofs.ClaimExact.{test_match-again, along, none-once, range-fits}
 use Rattle.vx_plan.proofs.UnarySaid.{test_distinct-distinct}
+use Rattle.vx_plan.proofs.MatchExact.{conditions-first, conditions-said, conditions-again}
 use Rattle.vx_plan.proofs.UnaryAgain.{columns-same, test_width-again}
 
 -- ---- two inputs: what was found
@@ -34,6 +35,7 @@ pub record IsJointSaid (left right : Columns) (f : BinaryForm) (o : Joint) : Typ
   pub says : binary_by_name left.names right.names o.op ≡ f
   pub named : o.columns.names ≡ binary_names o.op left.names right.names
   pub distinct : are_distinct_names o.columns.names ≡ true
+  pub firsts : has_first_columns o.op left.names right.names ≡ true
 
 pair-said : (node : ℕ) (left right : List Name) (p : Name × Name) (q : ℕ × ℕ) → find_pair node left right p ≡ Ok q → pair_by_name left right q ≡ p
 unfolding find_pair
@@ -42,22 +44,48 @@ pair-said node left right p q h =
     let u = ok_last (λ (r : ℕ). (t.0, r)) (find_column node right p.1) q t.2 in
     rw (← u.2) (rw ((column-said node left p.0 t.0 t.1).named, (column-said node right p.1 u.0 u.1).named) refl)
 
+-- the pairs of a join that were found
+pairs-said : (node : ℕ) (left right : List Name) (on : List (Name × Name)) (ps : List (ℕ × ℕ)) → find_pairs node left right on ≡ Ok ps → map (pair_by_name left right) ps ≡ on
+unfolding find_pairs
+pairs-said node left right on ps h = each-said (find_pair node left right) (pair_by_name left right) (pair-said node left right) on ps (each-walked (find_pair node left right) on ps h)
+
+record AreMatchesSaid (left right : Columns) (on : List (Name × Name)) (cs : List ConditionForm) (g : List (ℕ × ℕ) × List Condition) : Type 0 where
+  pairs : map (pair_by_name left.names right.names) g.0 ≡ on
+  conditions : map (condition_by_name (left.names ++ right.names)) g.1 ≡ cs
+  firsts : list_all (is_first_condition (left.names ++ right.names)) g.1 ≡ true
+
+matches-said : (node : ℕ) (left right : Columns) (on : List (Name × Name)) (cs : List ConditionForm) (g : List (ℕ × ℕ) × List Condition) → join_matches node left right on cs ≡ Ok g → AreMatchesSaid left right on cs g
+unfolding join_matches find_matches
+matches-said node left right on cs g h =
+    let both : List Name = left.names ++ right.names in
+    let t = ok_then _ (find_pairs node left.names right.names on >>= λ ps. find_conditions node both cs >>= λ ks. Ok (ps, ks)) g h in
+    let p = ok_then _ (find_pairs node left.names right.names on) t.0 t.1 in
+    let k = ok_last (λ (ks : List Condition). (p.0, ks)) (find_conditions node both cs) t.0 p.2 in
+    let u = ok_then _ (test_distinct_pairs node on) g t.2 in
+    let v = ok_last (λ (w : ⊤). t.0) (test_match node (list_all (is_pair left.types right.types) t.0.0 && list_all (is_condition (left.types ++ right.types)) t.0.1)) g u.2 in
+    let P : List (ℕ × ℕ) × List Condition → Type 0 = λ g. AreMatchesSaid left right on cs g in
+    subst P (k.2 ∙ v.2) (record { pairs = pairs-said node left.names right.names on p.0 p.1; conditions = conditions-said node both cs k.0 k.1; firsts = conditions-first node both cs k.0 k.1 })
+
 pub joint-said : (node : ℕ) (left right : Columns) (f : BinaryForm) (o : Joint) → are_distinct_names left.names ≡ true → binary_shape node left right f ≡ Ok o → IsJointSaid left right f o
-unfolding binary_shape join_pairs find_pairs test_join
+unfolding binary_shape join_pairs test_join
 joint-said node left right form.union o d h =
     let t = ok_last (λ (w : ⊤). record { op = plan.union; columns = left }) (test_match node (types_eq left.types right.types)) o h in
     let P : Joint → Type 0 = λ o. IsJointSaid left right form.union o in
-    subst P t.2 (record { says = refl; named = refl; distinct = d })
+    subst P t.2 (record { says = refl; named = refl; distinct = d; firsts = refl })
 joint-said node left right (form.join merging on) o d h =
     let t = ok_last (λ (ps : List (ℕ × ℕ)). record { op = plan.join merging ps; columns = both_columns left right }) (join_pairs node left right on) o h in
-    let a = ok_then _ (walk_onto (find_pair node left.names right.names) [] on) t.0 t.1 in
+    let a = ok_then _ (find_pairs node left.names right.names on) t.0 t.1 in
     let b = ok_then _ (test_join node (left.names ++ right.names) on) t.0 a.2 in
     let c = ok_then _ (test_distinct node (left.names ++ right.names)) b.0 b.1 in
     let e = ok_last (λ (w : ⊤). a.0) (test_match node (list_all (is_pair left.types right.types) a.0)) t.0 b.2 in
-    let said : map (pair_by_name left.names right.names) a.0 ≡ on =
-    each-said (find_pair node left.names right.names) (pair_by_name left.names right.names) (pair-said node left.names right.names) on a.0 (each-walked (find_pair node left.names right.names) on a.0 a.1) in
+    let said = pairs-said node left.names right.names on a.0 a.1 in
     let P : Joint → Type 0 = λ o. IsJointSaid left right (form.join merging on) o in
-    subst P t.2 (record { says = ap (λ l. form.join merging l) (ap (map (pair_by_name left.names right.names)) (sym e.2) ∙ said); named = refl; distinct = test_distinct-distinct node (left.names ++ right.names) c.0 c.1 })
+    subst P t.2 (record { says = ap (λ l. form.join merging l) (ap (map (pair_by_name left.names right.names)) (sym e.2) ∙ said); named = refl; distinct = test_distinct-distinct node (left.names ++ right.names) c.0 c.1; firsts = refl })
+joint-said node left right (form.semi_join matched on cs) o d h =
+    let t = ok_last (λ (g : List (ℕ × ℕ) × List Condition). record { op = plan.semi_join matched g.0 g.1; columns = left }) (join_matches node left right on cs) o h in
+    let g = matches-said node left right on cs t.0 t.1 in
+    let P : Joint → Type 0 = λ o. IsJointSaid left right (form.semi_join matched on cs) o in
+    subst P t.2 (record { says = rw (g.pairs, g.conditions) refl; named = refl; distinct = d; firsts = g.firsts })
 
 -- ---- two inputs: what is found again
 
@@ -94,17 +122,25 @@ pub record IsJoin (left right : Columns) (op : Binary) (output : Columns) : Type
   pub long : length output.names ≡ length output.types
   pub few : nat_le (length output.types) 64 ≡ true
   pub distinct : apart bytes_eq output.names ≡ true
+  pub firsts : has_first_columns op left.names right.names ≡ true
+
+-- typed pairs are found again
+pairs-again : (node : ℕ) (left right : Columns) (on : List (ℕ × ℕ)) → apart bytes_eq left.names ≡ true → apart bytes_eq right.names ≡ true → list_all (is_pair_below left.names right.names) on ≡ true
+    → find_pairs node left.names right.names (map (pair_by_name left.names right.names) on) ≡ Ok on
+unfolding find_pairs
+pairs-again node left right on a b below =
+    walk-each (find_pair node left.names right.names) (map (pair_by_name left.names right.names) on) [] on
+    (each-again (find_pair node left.names right.names) (pair_by_name left.names right.names) (is_pair_below left.names right.names) (λ q h. pair-again node left.names right.names q a b h) on below)
 
 pub joint-again : (node : ℕ) (left right : Columns) (op : Binary) (output : Columns) → IsJoin left right op output → binary_shape node left right (binary_by_name left.names right.names op) ≡ Ok (record { op = op; columns = output })
-unfolding binary_shape join_pairs find_pairs test_join
+unfolding binary_shape join_pairs test_join find_matches join_matches
 joint-again node left right plan.union output o =
     rw (test_match-again node (types_eq left.types right.types) o.fits, columns-same output left o.named o.typed) refl
 joint-again node left right (plan.join merging on) output o =
     let rest = and-right (is_some_list on) (list_all (is_pair left.types right.types) on && are_distinct_pairs on) o.fits in
     let typed = and-left (list_all (is_pair left.types right.types) on) (are_distinct_pairs on) rest in
     let below = pairs-below left right on o.wide_left o.wide_right typed in
-    let found = walk-each (find_pair node left.names right.names) (map (pair_by_name left.names right.names) on) [] on
-    (each-again (find_pair node left.names right.names) (pair_by_name left.names right.names) (is_pair_below left.names right.names) (λ q h. pair-again node left.names right.names q o.own_left o.own_right h) on below) in
+    let found = pairs-again node left right on o.own_left o.own_right below in
     let Q : List Name → Type 0 = λ ns. apart bytes_eq ns ≡ true in
     let R : ℕ → Type 0 = λ n. nat_le n 64 ≡ true in
     let one = test_distinct-passes node (left.names ++ right.names) (subst Q o.named o.distinct) in
@@ -112,6 +148,19 @@ joint-again node left right (plan.join merging on) output o =
     (pairs-once left.names right.names on o.own_left o.own_right below (and-right (list_all (is_pair left.types right.types) on) (are_distinct_pairs on) rest)) in
     let three = test_width-again node (length (left.names ++ right.names)) (subst R (sym o.long ∙ ap length o.named) o.few) in
     rw (found, one, two, three, test_match-again node (list_all (is_pair left.types right.types) on) typed, columns-same output (both_columns left right) o.named o.typed) refl
+joint-again node left right (plan.semi_join matched on cs) output o =
+    let pairs : Bool = list_all (is_pair left.types right.types) on in
+    let fits : Bool = list_all (is_condition (left.types ++ right.types)) cs in
+    let rest = and-right (is_some_list on) (pairs && (are_distinct_pairs on && fits)) o.fits in
+    let typed = and-left pairs (are_distinct_pairs on && fits) rest in
+    let last = and-right pairs (are_distinct_pairs on && fits) rest in
+    let below = pairs-below left right on o.wide_left o.wide_right typed in
+    let wide : length (left.names ++ right.names) ≡ length (left.types ++ right.types) =
+    length-append left.names right.names ∙ (ap (λ n. n + length right.names) o.wide_left ∙ (ap (λ n. length left.types + n) o.wide_right ∙ sym (length-append left.types right.types))) in
+    let found = pairs-again node left right on o.own_left o.own_right below in
+    let kept = conditions-again node (left.names ++ right.names) (left.types ++ right.types) cs wide (and-right (are_distinct_pairs on) fits last) o.firsts in
+    let once = test_distinct_pairs-passes node (map (pair_by_name left.names right.names) on) (pairs-once left.names right.names on o.own_left o.own_right below (and-left (are_distinct_pairs on) fits last)) in
+    rw (found, kept, once, test_match-again node (pairs && fits) (and-both pairs fits typed (and-right (are_distinct_pairs on) fits last)), columns-same output left o.named o.typed) refl
 
 -- ---- exchanges
 

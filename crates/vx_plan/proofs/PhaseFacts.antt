@@ -7,7 +7,7 @@ use Rattle.vx_rows_values.specs.declared.value.ColType.TheVariants.{Int}
 use Rattle.vx_rows_values.specs.Types.{type_at}
 use Rattle.vx_rows_values.specs.Lists.{is_some_list}
 use Rattle.vx_catalog_relations.specs.Catalog.{relation_at, all_below, are_distinct}
-use Rattle.vx_plan_nodes.specs.Plan.{Aggregate, least, greatest, sum, count_rows, select, project, distinct, sort, group, plain, partial, final}
+use Rattle.vx_plan_nodes.specs.Plan.{Aggregate, least, greatest, sum, count_rows, select, project, distinct, sort, group, limit, plain, partial, final}
 use Rattle.vx_plan_nodes.specs.Types.{types_of, aggregate_type}
 use Rattle.vx_plan_nodes.specs.Typed.{type_eq, are_columns, is_aggregate, is_unary, is_output, is_kind, may_merge, typed}
 use Rattle.vx_plan_nodes.specs.Phases.{columns_from, first_columns, merging, merged, aggregate_eq, aggregates_eq, columns_eq, is_open, opens, phase_fits}
@@ -105,6 +105,7 @@ parts-found (unary h (sort true cols) flags t) = parts-found t
 parts-found (unary h (group plain bs ks) flags t) = refl
 parts-found (unary h (group partial bs ks) flags t) = refl
 parts-found (unary h (group final bs ks) flags t) = refl
+parts-found (unary h (limit rows) flags t) = refl
 parts-found (binary h op t u) = refl
 parts-found (exchange h k m t) = parts-found t
 
@@ -127,6 +128,7 @@ parts-open (unary h (group partial bs ks) flags t) g e b =
     let P : List ℕ × List Aggregate → Type 0 = λ g. (columns_eq (first_columns (length g.0)) (first_columns (length bs)) && aggregates_eq (merged (length g.0) g.1) (merged (length bs) ks)) ≡ true in
     subst P same (and-both (columns_eq (first_columns (length bs)) (first_columns (length bs))) (aggregates_eq (merged (length bs) ks) (merged (length bs) ks)) (columns_eq-refl (first_columns (length bs))) (aggregates_eq-refl (merged (length bs) ks)))
 parts-open (unary h (group final bs ks) flags t) g e b = cc
+parts-open (unary h (limit rows) flags t) g e b = cc
 parts-open (binary h op t u) g e b = cc
 parts-open (exchange h k m t) g e b = parts-open t g e b
 
@@ -182,6 +184,7 @@ final-unary s (unary h (group partial bs ks) flags t) g e ok =
     let fit = and-right (phase_fits (group partial bs ks) (plan_in t)) (is_unary ts (group partial bs ks) && last) rest in
     subst P same (final-is ts bs ks (and-left (is_unary ts (group partial bs ks)) last fit))
 final-unary s (unary h (group final bs ks) flags t) g e ok = cc
+final-unary s (unary h (limit rows) flags t) g e ok = cc
 final-unary s (binary h op t u) g e ok = cc
 final-unary s (exchange h k m t) g e ok =
     let ts : List ColType = types_of (relation_at s.catalog) (plan_in t) in

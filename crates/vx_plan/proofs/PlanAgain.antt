@@ -77,6 +77,7 @@ final-above under names output (plan.sort true cols) renamed p h above e = above
 final-above under names output (plan.group plan.plain by aggregates) renamed p h above e = absurd (true≢false (sym e ∙ not-true (is_open p) h))
 final-above under names output (plan.group plan.partial by aggregates) renamed p h above e = absurd (true≢false (sym e ∙ not-true (is_open p) h))
 final-above under names output (plan.group plan.final by aggregates) renamed p h above e = refl
+final-above under names output (plan.limit rows) renamed p h above e = absurd (true≢false (sym e ∙ not-true (is_open p) h))
 
 same-types : (catalog : ℕ → Relation) (op : Unary) (p : Plan) → phase_fits op p ≡ true → (keys : List ℕ) (puts : List plan.Aggregate) → op ≡ plan.group plan.final keys puts → unary_types op (types_of catalog p) ≡ types_of catalog p
 same-types catalog op p fits keys puts e =
@@ -156,6 +157,7 @@ binary-again s n h op t u d ok outputs named number =
       long = node.long;
       few = node.few;
       distinct = node.own;
+      firsts = named.4;
     } in
     rw (joint-again n (columns t) (columns u) op h.columns join, node.top) refl
 

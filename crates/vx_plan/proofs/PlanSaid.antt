@@ -99,7 +99,7 @@ binary-said s n c op first second l r o hl hr h =
     let P : Columns → Type 0 = λ c. (c.names ≡ binary_names t.0.op (column_names l) (column_names r)) × (are_distinct_names c.names ≡ true) in
     let Q : Outline → Type 0 = λ o. IsTreeSaid s (form.binary c op first second) o in
     let named = subst P (sym said.columns) (joint.named, joint.distinct) in
-    subst Q u.2 (record { says = binary-tree said.claim joint.says hl.says hr.says; named = (named.0, named.1, hl.named, hr.named) })
+    subst Q u.2 (record { says = binary-tree said.claim joint.says hl.says hr.says; named = (named.0, named.1, hl.named, hr.named, joint.firsts) })
 
 exchanged-said : (s : Names) (n : ℕ) (c : ClaimForm) (kind : KindForm) (merge : List Name) (below : Tree) (i o : Outline) → IsTreeSaid s below i → exchange_typed s n c kind merge i ≡ Ok o → IsTreeSaid s (form.exchange c kind merge below) o
 unfolding exchange_typed

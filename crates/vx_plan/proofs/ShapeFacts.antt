@@ -20,7 +20,7 @@ use Rattle.vx_plan_nodes.specs.Outline.{Columns, Outline, columns, plan_in}
 use Rattle.vx_plan_json.specs.Fault.{Refusal, ◌>>=◌}
 use Rattle.vx_plan.specs.Lookup.{walk_onto, find_column, find_columns, test_distinct, test_distinct_pairs, pair_eq, test_match, test_width, find_size, find_range}
 use Rattle.vx_plan_nodes.specs.Names.{Names, scope_of}
-use Rattle.vx_plan.specs.Resolve.{find_condition, find_conditions, select_shape, Shape, output_name, find_kept, find_all_kept, kept_shape, kept_columns, project_shape, distinct_shape, sort_shape, partial_sort_shape, find_function, find_aggregates, find_group, test_group, group_columns, group_shape, test_phase, partial_shape, parts_of, sorts_before, final_shape, under_final, unary_shape, find_pair, find_pairs, test_join, join_pairs, both_columns, Joint, binary_shape, find_kind, kind_names, kind_fits, exchange_columns, test_exchange, exchange_shape}
+use Rattle.vx_plan.specs.Resolve.{find_condition, find_conditions, select_shape, Shape, output_name, find_kept, find_all_kept, kept_shape, kept_columns, project_shape, distinct_shape, sort_shape, partial_sort_shape, limit_shape, find_function, find_aggregates, find_group, test_group, group_columns, group_shape, test_phase, partial_shape, parts_of, sorts_before, final_shape, under_final, unary_shape, find_pair, find_pairs, test_join, join_pairs, both_columns, find_matches, join_matches, Joint, binary_shape, find_kind, kind_names, kind_fits, exchange_columns, test_exchange, exchange_shape}
 use Rattle.vx_plan_json.specs.Formed.{are_names, are_some_names, is_condition_form, is_output_form, is_aggregate_form, is_unary_form, is_pair_form, is_binary_form, is_kind_form, is_merge_form}
 use Rattle.vx_plan_json.proofs.Holds.{all_push, Holds, holds_then}
 use Rattle.vx_rows_values.proofs.Booleans.{and-left, and-right, and-both}
@@ -235,7 +235,7 @@ final-holds under s node t (Some g) e out h =
 -- of an operator that does not hand down that it is under a final group the input is closed
 pub shape-holds : (under : Bool) (s : Names) (node : ℕ) (t : Outline) (op : UnaryForm) → IsOutput (types_of (relation_at s.catalog) (plan_in t)) (columns t) → typed (scope_of s) (plan_in t) ≡ true → is_unary_form op ≡ true
     → (under_final under op ≡ false → is_open (plan_in t) ≡ false) → Holds (IsShape under (plan_in t) (columns t)) (unary_shape under node t op)
-unfolding unary_shape
+unfolding unary_shape limit_shape
 shape-holds under s node t (form.select cs) out typed h shut = select-holds under (plan_in t) node (columns t) cs (own-output out) (and-left (is_some_list cs) (list_all is_condition_form cs) h) (shut refl)
 shape-holds under s node t (form.project os) out typed h shut = project-holds under (plan_in t) node (columns t) os (own-output out) (and-left (is_some_list os) (list_all is_output_form os) h) (shut refl)
 shape-holds under s node t (form.distinct os) out typed h shut = distinct-holds under (plan_in t) node (columns t) os (own-output out) (and-left (is_some_list os) (list_all is_output_form os) h) (shut refl)
@@ -248,6 +248,7 @@ shape-holds under s node t (form.group by aggregates) out typed h shut =
 shape-holds under s node t (form.partial_group by aggregates) out typed h shut =
     partial-holds under (plan_in t) node (columns t) by aggregates (own-output out) (and-left (is_some_list by || is_some_list aggregates) (are_names by && list_all is_aggregate_form aggregates) h) (shut refl)
 shape-holds under s node t form.final_group out typed h shut = final-holds under s node t (parts_of t) refl out typed
+shape-holds under s node t (form.limit rows) out typed h shut = record { op = refl; output = own-output out; fits = ap not (shut refl); closed = λ e. refl }
 
 -- ---- two inputs
 
@@ -303,6 +304,39 @@ join-holds node l r on =
     (λ u t. holds_then (λ (v : ⊤). list_all (is_pair l.types r.types) ps ≡ true) (IsJoined l r on) (λ v. Ok ps) (test_match node (list_all (is_pair l.types r.types) ps)) (test_match-holds node (list_all (is_pair l.types r.types) ps))
     (λ v m. record { found = f; tested = t; typed = m })))
 
+-- the pairs of a semi or an anti join that were found
+find_matches-holds : (node : ℕ) (l r : Columns) (on : List (Name × Name)) (cs : List ConditionForm) → Holds (λ (g : List (ℕ × ℕ) × List Condition). ArePairs l r on g.0) (find_matches node l r on cs)
+unfolding find_matches
+find_matches-holds node l r on cs =
+    holds_then (ArePairs l r on) (λ (g : List (ℕ × ℕ) × List Condition). ArePairs l r on g.0) (λ ps. find_conditions node (l.names ++ r.names) cs >>= λ ks. Ok (ps, ks)) (find_pairs node l.names r.names on) (all-pairs node l r on)
+    (λ ps f. go ps f (find_conditions node (l.names ++ r.names) cs))
+  where
+    go : (ps : List (ℕ × ℕ)) → ArePairs l r on ps → (k : Result (List Condition) Refusal) → Holds (λ (g : List (ℕ × ℕ) × List Condition). ArePairs l r on g.0) (k >>= λ ks. Ok (ps, ks))
+    go ps f (Ok ks) = f
+    go ps f (Err e) = tt
+
+abbrev are_typed_matches : Columns → Columns → List (ℕ × ℕ) × List Condition → Bool
+are_typed_matches l r g = list_all (is_pair l.types r.types) g.0 && list_all (is_condition (l.types ++ r.types)) g.1
+
+record IsMatched (l r : Columns) (on : List (Name × Name)) (g : List (ℕ × ℕ) × List Condition) : Type 0 where
+  found : ArePairs l r on g.0
+  once : apart pair_eq on ≡ true
+  typed : are_typed_matches l r g ≡ true
+
+matches-holds : (node : ℕ) (l r : Columns) (on : List (Name × Name)) (cs : List ConditionForm) → Holds (IsMatched l r on) (join_matches node l r on cs)
+unfolding join_matches
+matches-holds node l r on cs =
+    holds_then (λ (g : List (ℕ × ℕ) × List Condition). ArePairs l r on g.0) (IsMatched l r on) (λ g. test_distinct_pairs node on >>= λ u. test_match node (are_typed_matches l r g) >>= λ v. Ok g) (find_matches node l r on cs) (find_matches-holds node l r on cs)
+    (λ g f. holds_then (λ (u : ⊤). apart pair_eq on ≡ true) (IsMatched l r on) (λ u. test_match node (are_typed_matches l r g) >>= λ v. Ok g) (test_distinct_pairs node on) (test_distinct_pairs-apart node on)
+    (λ u p. holds_then (λ (v : ⊤). are_typed_matches l r g ≡ true) (IsMatched l r on) (λ v. Ok g) (test_match node (are_typed_matches l r g)) (test_match-holds node (are_typed_matches l r g))
+    (λ v m. record { found = f; once = p; typed = m })))
+
+-- pairs that were found are distinct
+pairs-distinct : (l r : Columns) (on : List (Name × Name)) (ps : List (ℕ × ℕ)) → ArePairs l r on ps → apart pair_eq on ≡ true → are_distinct_pairs ps ≡ true
+pairs-distinct l r on ps f h =
+    let Q : List (Name × Name) → Type 0 = λ zs. apart pair_eq zs ≡ true in
+    distinct-pairs (name_of l.names) (name_of r.names) ps (subst Q (sym f.named) h)
+
 pub joint-holds : (node : ℕ) (l r : Columns) (op : BinaryForm) → IsOutput l.types l → IsOutput r.types r → is_binary_form op ≡ true → Holds (IsJoint l r) (binary_shape node l r op)
 unfolding binary_shape
 joint-holds node l r form.union lo ro h =
@@ -313,13 +347,23 @@ joint-holds node l r (form.join merging on) lo ro h =
     let wide : length (l.names ++ r.names) ≡ length (l.types ++ r.types) =
     length-append l.names r.names ∙ ap (λ n. n + length r.names) lo.names_are ∙ ap (λ n. length l.types + n) ro.names_are ∙ sym (length-append l.types r.types) in
     let P : ℕ → Type 0 = λ n. nat_le n 64 ≡ true in
-    let Q : List (Name × Name) → Type 0 = λ zs. apart pair_eq zs ≡ true in
     record {
       op = and-both (is_some_list ps) (list_all (is_pair l.types r.types) ps && are_distinct_pairs ps)
           (some-alike ps on j.found.count ∙ and-left (is_some_list on) (list_all is_pair_form on) h)
-          (and-both (list_all (is_pair l.types r.types) ps) (are_distinct_pairs ps) j.typed
-          (distinct-pairs (name_of l.names) (name_of r.names) ps (subst Q (sym j.found.named) j.tested.pairs)));
+          (and-both (list_all (is_pair l.types r.types) ps) (are_distinct_pairs ps) j.typed (pairs-distinct l r on ps j.found j.tested.pairs));
       output = record { types_are = refl; names_are = wide; few = subst P wide j.tested.few };
+    })
+joint-holds node l r (form.semi_join matched on cs) lo ro h =
+    holds_then (IsMatched l r on) (IsJoint l r) (λ g. Ok (record { op = plan.semi_join matched g.0 g.1; columns = l })) (join_matches node l r on cs) (matches-holds node l r on cs)
+    (λ g j.
+    let pairs : Bool = list_all (is_pair l.types r.types) g.0 in
+    let fits : Bool = list_all (is_condition (l.types ++ r.types)) g.1 in
+    let some : Bool = is_some_list on && list_all is_pair_form on in
+    record {
+      op = and-both (is_some_list g.0) (pairs && (are_distinct_pairs g.0 && fits))
+          (some-alike g.0 on j.found.count ∙ and-left (is_some_list on) (list_all is_pair_form on) (and-left some (list_all is_condition_form cs) h))
+          (and-both pairs (are_distinct_pairs g.0 && fits) (and-left pairs fits j.typed) (and-both (are_distinct_pairs g.0) fits (pairs-distinct l r on g.0 j.found j.once) (and-right pairs fits j.typed)));
+      output = lo;
     })
 
 -- ---- exchanges

@@ -23,7 +23,7 @@ use Rattle.vx_plan_nodes.proofs.PhaseEqual.{columns_eq-is, aggregates_eq-is}
 use Rattle.vx_plan_json.specs.Document.{OutputForm, AggregateForm}
 use Rattle.vx_plan_json.specs.Fault.{Refusal}
 use Rattle.vx_plan.specs.Lookup.{test_width}
-use Rattle.vx_plan.specs.Resolve.{Shape, find_side, find_condition, find_conditions, select_shape, output_name, find_kept, find_all_kept, kept_shape, kept_columns, project_shape, distinct_shape, sort_shape, partial_sort_shape, find_function, find_aggregates, find_group, test_group, group_columns, group_shape, test_phase, partial_shape, parts_of, sorts_before, final_shape, unary_shape}
+use Rattle.vx_plan.specs.Resolve.{Shape, find_side, find_condition, find_conditions, select_shape, output_name, find_kept, find_all_kept, kept_shape, kept_columns, project_shape, distinct_shape, sort_shape, partial_sort_shape, limit_shape, find_function, find_aggregates, find_group, test_group, group_columns, group_shape, test_phase, partial_shape, parts_of, sorts_before, final_shape, unary_shape}
 use Rattle.vx_plan.specs.ByName.{names_at, side_by_name, condition_by_name, kept_by_name, function_by_name, aggregates_by_name, unary_by_name, column_names}
 use Rattle.vx_plan.specs.Exact.{are_kept, UnaryNames}
 use Rattle.vx_plan.proofs.Apart.{apart}
@@ -279,6 +279,7 @@ parts-again (unary h (plan.group plan.partial bs ks) renamed t) keys puts e =
       sorted = refl;
     }
 parts-again (unary h (plan.group plan.final bs ks) renamed t) keys puts e = cc
+parts-again (unary h (plan.limit rows) renamed t) keys puts e = cc
 parts-again (binary h op t u) keys puts e = cc
 parts-again (exchange h k m t) keys puts e =
     let g = parts-again t keys puts e in
@@ -295,7 +296,7 @@ final-again node t keys puts renamed output e n o =
 pub shape-again : (under : Bool) (node : ℕ) (t : Outline) (op : Unary) (renamed : List Bool) (output : Columns) → IsOver (columns t) op renamed output → phase_fits op (plan_in t) ≡ true → (unary_open op (is_open (plan_in t)) ≡ true → under ≡ true)
     → ((keys : List ℕ) (puts : List Aggregate) → op ≡ plan.group plan.final keys puts → output.types ≡ (columns t).types)
     → unary_shape under node t (unary_by_name (column_names t) output.names op renamed) ≡ Ok (record { op = op; renamed = renamed; columns = output })
-unfolding unary_shape partial_sort_shape partial_shape
+unfolding unary_shape partial_sort_shape partial_shape limit_shape
 shape-again under node t (plan.select cs) renamed output o fits above same = select-again node (columns t) cs renamed output o
 shape-again under node t (plan.project cols) renamed output o fits above same = project-again node (columns t) cols renamed output o
 shape-again under node t (plan.distinct cols) renamed output o fits above same = distinct-again node (columns t) cols renamed output o
@@ -310,3 +311,4 @@ shape-again under node t (plan.group plan.partial by aggregates) renamed output 
     (group-again plan.partial node (columns t) by aggregates renamed output o.own o.wide (and-right (is_some_list by || is_some_list aggregates) _ o.fits) o.named o.typed o.long o.few o.distinct)
 shape-again under node t (plan.group plan.final keys puts) renamed output o fits above same =
     final-again node t keys puts renamed output fits o.named.0 (columns-same output (columns t) o.named.1 (same keys puts refl))
+shape-again under node t (plan.limit rows) renamed output o fits above same = rw (o.named.0, columns-same output (columns t) o.named.1 o.typed) refl

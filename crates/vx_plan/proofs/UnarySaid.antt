@@ -19,7 +19,7 @@ use Rattle.vx_plan_json.specs.Document as form
 use Rattle.vx_plan_json.specs.Fault.{Refusal}
 use Rattle.vx_plan_json.proofs.Holds.{holds_at}
 use Rattle.vx_plan.specs.Lookup.{walk_onto, find_column, find_columns, test_distinct, test_match, test_width}
-use Rattle.vx_plan.specs.Resolve.{Shape, find_side, find_condition, find_conditions, select_shape, output_name, find_kept, find_all_kept, kept_shape, kept_columns, project_shape, distinct_shape, sort_shape, partial_sort_shape, find_function, find_aggregates, find_group, test_group, group_columns, group_shape, test_phase, partial_shape, parts_of, sorts_before, final_shape, unary_shape}
+use Rattle.vx_plan.specs.Resolve.{Shape, find_side, find_condition, find_conditions, select_shape, output_name, find_kept, find_all_kept, kept_shape, kept_columns, project_shape, distinct_shape, sort_shape, partial_sort_shape, limit_shape, find_function, find_aggregates, find_group, test_group, group_columns, group_shape, test_phase, partial_shape, parts_of, sorts_before, final_shape, unary_shape}
 use Rattle.vx_plan.specs.ByName.{names_at, side_by_name, condition_by_name, kept_by_name, function_by_name, aggregates_by_name, unary_by_name, column_names}
 use Rattle.vx_plan.specs.Exact.{are_kept, UnaryNames}
 use Rattle.vx_plan.proofs.Apart.{apart, test_distinct-apart}
@@ -45,7 +45,7 @@ side-said node names (form.column name) x h =
     rw (← t.2) (ap (λ n. form.column n) (column-said node names name t.0 t.1).named)
 side-said node names (form.constant v) x h = let e : plan.constant v ≡ x = cc in rw (← e) refl
 
-condition-said : (node : ℕ) (names : List Name) (f : ConditionForm) (c : Condition) → find_condition node names f ≡ Ok c → condition_by_name names c ≡ f
+pub condition-said : (node : ℕ) (names : List Name) (f : ConditionForm) (c : Condition) → find_condition node names f ≡ Ok c → condition_by_name names c ≡ f
 unfolding find_condition
 condition-said node names f c h =
     let t = ok_then _ (find_column node names f.left) c h in
@@ -245,6 +245,13 @@ final-said node t (Some g) o d h =
     let P : Shape → Type 0 = λ o. IsSaid (column_names t) form.final_group o in
     subst P made.2 (record { says = refl; named = (refl, refl); distinct = d })
 
+limit-said : (t : Outline) (rows : ℕ) (o : Shape) → are_distinct_names (column_names t) ≡ true → limit_shape (columns t) rows ≡ Ok o → IsSaid (column_names t) (form.limit rows) o
+unfolding limit_shape
+limit-said t rows o d h =
+    let made : record { op = plan.limit rows; renamed = []; columns = columns t } ≡ o = cc in
+    let P : Shape → Type 0 = λ o. IsSaid (column_names t) (form.limit rows) o in
+    subst P made (record { says = refl; named = (refl, refl); distinct = d })
+
 pub shape-said : (under : Bool) (node : ℕ) (t : Outline) (f : UnaryForm) (o : Shape) → are_distinct_names (column_names t) ≡ true → unary_shape under node t f ≡ Ok o → IsSaid (column_names t) f o
 unfolding unary_shape
 shape-said under node t (form.select cs) o d h = select-said node (columns t) cs o d h
@@ -255,3 +262,4 @@ shape-said under node t (form.partial_sort names) o d h = partial_sort-said (und
 shape-said under node t (form.group by fs) o d h = plain-said node (columns t) by fs o h
 shape-said under node t (form.partial_group by fs) o d h = partial-said under node (columns t) by fs o h
 shape-said under node t form.final_group o d h = final-said node t (parts_of t) o d h
+shape-said under node t (form.limit rows) o d h = limit-said t rows o d h

@@ -1,5 +1,5 @@
 -- The document that says a typed plan: each column, relation, size and range by its name in place of its number.
-use Rattle.std.specs.Prelude.{ℕ, List, [], ◌∷◌, map, length, drop, Bool, true, false, if◌then◌else◌, Some, None, codes}
+use Rattle.std.specs.Prelude.{ℕ, List, [], ◌∷◌, ◌++◌, map, length, drop, Bool, true, false, if◌then◌else◌, Some, None, codes}
 use Rattle.vx_rows_values.specs.Values.{Name}
 use Rattle.vx_catalog_relations.specs.Naming.{name_at}
 use Rattle.vx_plan_nodes.specs.Plan.{Size, one_worker, group_of, Route, by_hash, by_range, Part, routed, Claim, Side, Condition, Aggregate, Unary, Binary, ExchangeKind, route_to}
@@ -79,6 +79,7 @@ unary_by_name names output (plan.sort true cols) renamed = form.partial_sort (na
 unary_by_name names output (plan.group plan.plain by aggregates) renamed = form.group (names_at names by) (aggregates_by_name names aggregates (drop (length by) output))
 unary_by_name names output (plan.group plan.partial by aggregates) renamed = form.partial_group (names_at names by) (aggregates_by_name names aggregates (drop (length by) output))
 unary_by_name names output (plan.group plan.final by aggregates) renamed = form.final_group
+unary_by_name names output (plan.limit rows) renamed = form.limit rows
 
 -- ---- operators over two inputs, and exchanges
 
@@ -88,6 +89,7 @@ pair_by_name left right p = (name_at left p.0, name_at right p.1)
 abbrev pub binary_by_name : List Name → List Name → Binary → BinaryForm
 binary_by_name left right plan.union = form.union
 binary_by_name left right (plan.join merging on) = form.join merging (map (pair_by_name left right) on)
+binary_by_name left right (plan.semi_join matched on cs) = form.semi_join matched (map (pair_by_name left right) on) (map (condition_by_name (left ++ right)) cs)
 
 abbrev pub sent_by_name : Names → List Name → Size → Route → List ℕ → KindForm
 sent_by_name s names z (by_hash route) cols = form.hash (size_name s z) route (names_at names cols)

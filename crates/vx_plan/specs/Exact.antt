@@ -1,10 +1,11 @@
 -- The law of resolving: a document resolves to a typed plan exactly where the plan is well named over the catalog and the document says it.
-use Rattle.std.specs.Prelude.{◌≡◌, ◌↔◌, ℕ, List, [], ◌∷◌, ◌++◌, map, length, take, Bool, true, false, ◌&&◌, ◌||◌, Ok, bytes_eq, codes}
+use Rattle.std.specs.Prelude.{◌≡◌, ◌↔◌, ℕ, List, [], ◌∷◌, ◌++◌, map, length, take, Bool, true, false, not, ◌&&◌, ◌||◌, Ok, bytes_eq, codes}
+use Rattle.std.specs.List.{list_all, list_any}
 use Rattle.vx_rows_values.specs.Values.{Name}
 use Rattle.vx_catalog_relations.specs.Relation.{Relation}
 use Rattle.vx_catalog_relations.specs.Catalog.{relation_at, are_distinct_names, IsCatalog}
 use Rattle.vx_catalog_relations.specs.Naming.{name_at}
-use Rattle.vx_plan_nodes.specs.Plan.{Unary, Binary}
+use Rattle.vx_plan_nodes.specs.Plan.{Side, Condition, Unary, Binary}
 use Rattle.vx_plan_nodes.specs.Plan as plan
 use Rattle.vx_plan_nodes.specs.Outline.{Outline, scan, unary, binary, exchange, plan_in}
 use Rattle.vx_plan_nodes.specs.Outputs.{HasOutputs}
@@ -31,19 +32,40 @@ UnaryNames (plan.sort of_parts cols) renamed names output = (renamed ≡ []) × 
 UnaryNames (plan.group plan.plain by aggregates) renamed names output = (renamed ≡ []) × (take (length by) output ≡ names_at names by)
 UnaryNames (plan.group plan.partial by aggregates) renamed names output = (renamed ≡ []) × (take (length by) output ≡ names_at names by)
 UnaryNames (plan.group plan.final by aggregates) renamed names output = (renamed ≡ []) × (output ≡ names)
+UnaryNames (plan.limit rows) renamed names output = (renamed ≡ []) × (output ≡ names)
 
--- a union has the names of its left input, a join those of both
+-- a union, a semi and an anti join have the names of their left input, a join those of both
 abbrev pub binary_names : Binary → List Name → List Name → List Name
 binary_names plan.union left right = left
 binary_names (plan.join merging on) left right = left ++ right
+binary_names (plan.semi_join matched on cs) left right = left
 
--- at every node the output's columns have the names that its operator gives them, and no two have one name
+-- no column before this one has its name
+abbrev pub is_first : List Name → ℕ → Bool
+is_first names c = not (list_any (bytes_eq (name_at names c)) (take c names))
+
+abbrev pub is_first_side : List Name → Side → Bool
+is_first_side names (plan.column c) = is_first names c
+is_first_side names (plan.constant v) = true
+
+abbrev pub is_first_condition : List Name → Condition → Bool
+is_first_condition names c = is_first names c.left && is_first_side names c.right
+
+-- of a semi and an anti join a condition is on no right column that has a left one's name
+abbrev pub has_first_columns : Binary → List Name → List Name → Bool
+has_first_columns plan.union left right = true
+has_first_columns (plan.join merging on) left right = true
+has_first_columns (plan.semi_join matched on cs) left right = list_all (is_first_condition (left ++ right)) cs
+
+-- at every node the output's columns have the names that its operator gives them, and no two have one name; and each column of a condition is the
+-- first that has its name
 abbrev pub AreNamed : List Relation → Outline → Type 0
 AreNamed catalog (scan h r shared z prefix) =
     (h.columns.names ≡ map (λ n. prefix ++ n) (relation_at catalog r).names) × (are_distinct_names h.columns.names ≡ true)
 AreNamed catalog (unary h op renamed t) = UnaryNames op renamed (column_names t) h.columns.names × (are_distinct_names h.columns.names ≡ true) × AreNamed catalog t
 AreNamed catalog (binary h op t u) =
     (h.columns.names ≡ binary_names op (column_names t) (column_names u)) × (are_distinct_names h.columns.names ≡ true) × AreNamed catalog t × AreNamed catalog u
+    × (has_first_columns op (column_names t) (column_names u) ≡ true)
 AreNamed catalog (exchange h k merge t) = (h.columns.names ≡ column_names t) × (are_distinct_names h.columns.names ≡ true) × AreNamed catalog t
 
 -- a typed plan whose names are right: it is typed, its nodes have the columns of their outputs, no size is `one`, no size and no range stands twice,

@@ -149,6 +149,10 @@ test_phase node fits = if fits then Ok tt else Err (phase_mismatch node)
 unfoldable pub partial_sort_shape : Bool → ℕ → Columns → List Name → Result Shape Refusal
 partial_sort_shape between node cols names = test_phase node between >>= λ u. sort_shape true node cols names
 
+-- the first rows have the columns of the input
+unfoldable pub limit_shape : Columns → ℕ → Result Shape Refusal
+limit_shape cols rows = Ok (record { op = plan.limit rows; renamed = []; columns = cols })
+
 unfoldable pub find_function : ℕ → List Name → FunctionForm → Result Aggregate Refusal
 find_function node names (form.least c) = find_column node names c >>= λ p. Ok (plan.least p)
 find_function node names (form.greatest c) = find_column node names c >>= λ p. Ok (plan.greatest p)
@@ -191,6 +195,7 @@ parts_made (plan.sort true cols) below = below
 parts_made (plan.group plan.plain by aggregates) below = None
 parts_made (plan.group plan.partial by aggregates) below = Some (by, aggregates)
 parts_made (plan.group plan.final by aggregates) below = None
+parts_made (plan.limit rows) below = None
 
 -- the same of the first node from here down that is neither an exchange nor a partial sort
 abbrev pub parts_of : Outline → Option (List ℕ × List Aggregate)
@@ -207,6 +212,7 @@ sort_before end (plan.distinct cols) below = true
 sort_before end (plan.sort false cols) below = true
 sort_before end (plan.sort true cols) below = all_below end cols && below
 sort_before end (plan.group phase by aggregates) below = true
+sort_before end (plan.limit rows) below = true
 
 -- the partial sorts from here down to the first node that is neither an exchange nor such a sort are on columns before this one
 abbrev pub sorts_before : ℕ → Outline → Bool
@@ -233,6 +239,7 @@ unary_shape under node t (form.partial_sort names) = partial_sort_shape (under &
 unary_shape under node t (form.group by aggregates) = group_shape plan.plain node (columns t) by aggregates
 unary_shape under node t (form.partial_group by aggregates) = partial_shape under node (columns t) by aggregates
 unary_shape under node t form.final_group = final_shape node t (parts_of t)
+unary_shape under node t (form.limit rows) = limit_shape (columns t) rows
 
 unfoldable pub unary_typed : Names → Bool → ℕ → ClaimForm → UnaryForm → Outline → Result Outline Refusal
 unary_typed s under node c op t = unary_shape under node t op >>= λ o. with_claim s node o.columns c >>= λ h. Ok (unary h o.op o.renamed t)
@@ -259,6 +266,16 @@ join_pairs node l r on =
     find_pairs node l.names r.names on >>= λ ps. test_join node (l.names ++ r.names) on >>= λ u.
     test_match node (list_all (is_pair l.types r.types) ps) >>= λ v. Ok ps
 
+-- the pairs and the conditions of a semi or an anti join. A name in a condition that both inputs have is the left one's
+unfoldable pub find_matches : ℕ → Columns → Columns → List (Name × Name) → List ConditionForm → Result (List (ℕ × ℕ) × List Condition) Refusal
+find_matches node l r on cs = find_pairs node l.names r.names on >>= λ ps. find_conditions node (l.names ++ r.names) cs >>= λ ks. Ok (ps, ks)
+
+-- all names come before a pair twice, and that before types
+unfoldable pub join_matches : ℕ → Columns → Columns → List (Name × Name) → List ConditionForm → Result (List (ℕ × ℕ) × List Condition) Refusal
+join_matches node l r on cs =
+    find_matches node l r on cs >>= λ g. test_distinct_pairs node on >>= λ u.
+    test_match node (list_all (is_pair l.types r.types) g.0 && list_all (is_condition (l.types ++ r.types)) g.1) >>= λ v. Ok g
+
 -- an operator over two inputs, and its output
 pub record Joint : Type 0 where
   pub op : Binary
@@ -267,6 +284,7 @@ pub record Joint : Type 0 where
 unfoldable pub binary_shape : ℕ → Columns → Columns → BinaryForm → Result Joint Refusal
 binary_shape node l r form.union = test_match node (types_eq l.types r.types) >>= λ u. Ok (record { op = plan.union; columns = l })
 binary_shape node l r (form.join merging on) = join_pairs node l r on >>= λ ps. Ok (record { op = plan.join merging ps; columns = both_columns l r })
+binary_shape node l r (form.semi_join matched on cs) = join_matches node l r on cs >>= λ g. Ok (record { op = plan.semi_join matched g.0 g.1; columns = l })
 
 unfoldable pub binary_typed : Names → ℕ → ClaimForm → BinaryForm → Outline → Outline → Result Outline Refusal
 binary_typed s node c op t u = binary_shape node (columns t) (columns u) op >>= λ o. with_claim s node o.columns c >>= λ h. Ok (binary h o.op t u)
@@ -325,6 +343,7 @@ under_final under (form.partial_sort names) = under
 under_final under (form.group by aggregates) = false
 under_final under (form.partial_group by aggregates) = false
 under_final under form.final_group = true
+under_final under (form.limit rows) = false
 
 -- the typed nodes of a tree whose top has this number, and the number after its last; the flag says whether the way up from here through
 -- exchanges and partial sorts alone reaches a final group

@@ -3,20 +3,21 @@
 ghost use Rattle.std.specs.Prelude.{◌≡◌, map, IfOk};
 ghost use Rattle.std.specs.Arc.{arc_value};
 ghost use Rattle.vx_plan_json.specs.Fault.{Gives};
-ghost use Rattle.vx_plan_json.specs.Document.{pair_form, binary_form};
-ghost use Rattle.vx_plan_nodes.specs.Outline.{columns_of};
-ghost use Rattle.vx_plan.specs.Resolve.{find_pair, find_pairs, both_columns, test_join, join_pairs, binary_shape};
+ghost use Rattle.vx_plan_json.specs.Document.{condition_form, pair_form, binary_form};
+ghost use Rattle.vx_plan_nodes.specs.Outline.{columns_of, condition_of};
+ghost use Rattle.vx_plan.specs.Resolve.{find_pair, find_pairs, both_columns, test_join, join_pairs, find_matches, join_matches, binary_shape};
 ghost use Rattle.vx_plan.specs.Shaped.{joint_of};
 
 use crate::columns::side_by_side;
-use crate::fits::{are_pairs, are_same_types};
+use crate::conditions::find_conditions;
+use crate::fits::{are_conditions, are_pairs, are_same_types};
 use crate::lookup::{
     find_column, test_distinct_names, test_distinct_pairs, test_match, test_width,
 };
 use std::alloc::Global;
 use std::sync::Arc;
-use vx_plan_json::{NamedBinary, PlanFault};
-use vx_plan_nodes::{Binary, Columns, Name};
+use vx_plan_json::{NamedBinary, NamedCondition, PlanFault};
+use vx_plan_nodes::{Binary, Columns, Condition, Name};
 
 /// An operator over two inputs, and its output.
 #[derive(Drop)]
@@ -120,6 +121,52 @@ fn joined(
     Ok((pairs, columns))
 }
 
+// The pairs and the conditions of a semi or an anti join. The conditions are on the columns of both inputs.
+#[tactic(auto, unfolding(crate::specs::Resolve::find_matches))]
+fn find_matches(
+    alloc: Global,
+    node: u32,
+    left: &Columns,
+    right: &Columns,
+    both: &Columns,
+    on: &[(String, String)],
+    conditions: &[NamedCondition],
+) -> Result<(Vec<(usize, usize)>, Vec<Condition>), PlanFault>
+    requires { columns_of both.now ≡ both_columns (columns_of left.now) (columns_of right.now) }
+    ensures { Gives (λ g. (g.0.items, map condition_of g.1.items)) result (find_matches node (columns_of left.now) (columns_of right.now) (map pair_form on.now) (map condition_form conditions.now)) }
+{
+    let pairs = find_pairs(
+        alloc,
+        node,
+        left.names.as_slice(),
+        right.names.as_slice(),
+        on,
+    )?;
+    let found = find_conditions(alloc, node, both.names.as_slice(), conditions)?;
+    Ok((pairs, found))
+}
+
+#[tactic(auto, unfolding(crate::specs::Resolve::join_matches))]
+fn join_matches(
+    alloc: Global,
+    node: u32,
+    left: &Columns,
+    right: &Columns,
+    on: &[(String, String)],
+    conditions: &[NamedCondition],
+) -> Result<(Vec<(usize, usize)>, Vec<Condition>), PlanFault>
+    ensures { Gives (λ g. (g.0.items, map condition_of g.1.items)) result (join_matches node (columns_of left.now) (columns_of right.now) (map pair_form on.now) (map condition_form conditions.now)) }
+{
+    let both = side_by_side(alloc, left, right)?;
+    let (pairs, found) = find_matches(alloc, node, left, right, &both, on, conditions)?;
+    test_distinct_pairs(alloc, node, on)?;
+    let (left, right) = (left.types.as_slice(), right.types.as_slice());
+    let are_typed = are_pairs(left, right, pairs.as_slice())
+        && are_conditions(both.types.as_slice(), found.as_slice());
+    test_match(node, are_typed)?;
+    Ok((pairs, found))
+}
+
 /// An operator by positions, and its output.
 #[tactic(auto, unfolding(crate::specs::Resolve::binary_shape))]
 pub fn binary_shape(
@@ -154,6 +201,24 @@ pub fn binary_shape(
             let (pairs, columns) = joined(alloc, node, left, right, on.as_slice())?;
             Ok(Joint {
                 binary: Binary::MergeJoin(pairs),
+                columns,
+            })
+        }
+        NamedBinary::SemiJoin(on, conditions) => {
+            let (on, conditions) = (on.as_slice(), conditions.as_slice());
+            let (pairs, found) = join_matches(alloc, node, left, right, on, conditions)?;
+            let columns = Arc::try_clone(left)?;
+            Ok(Joint {
+                binary: Binary::SemiJoin(pairs, found),
+                columns,
+            })
+        }
+        NamedBinary::AntiJoin(on, conditions) => {
+            let (on, conditions) = (on.as_slice(), conditions.as_slice());
+            let (pairs, found) = join_matches(alloc, node, left, right, on, conditions)?;
+            let columns = Arc::try_clone(left)?;
+            Ok(Joint {
+                binary: Binary::AntiJoin(pairs, found),
                 columns,
             })
         }

@@ -45,6 +45,7 @@ fn copied_unary(alloc: Global, unary: &Unary) -> Result<Unary, AllocError>
             let found = Vec::from_slice(alloc, aggregates.as_slice())?;
             Ok(Unary::Group(Phase::Plain, keys, found))
         }
+        Unary::Limit(rows) => Ok(Unary::Limit(*rows)),
     }
 }
 
@@ -55,6 +56,16 @@ fn copied_binary(alloc: Global, binary: &Binary) -> Result<Binary, AllocError>
         Binary::Union => Ok(Binary::Union),
         Binary::HashJoin(on) => Ok(Binary::HashJoin(Vec::from_slice(alloc, on.as_slice())?)),
         Binary::MergeJoin(on) => Ok(Binary::MergeJoin(Vec::from_slice(alloc, on.as_slice())?)),
+        Binary::SemiJoin(on, conditions) => {
+            let pairs = Vec::from_slice(alloc, on.as_slice())?;
+            let conditions = copied_conditions(alloc, conditions.as_slice())?;
+            Ok(Binary::SemiJoin(pairs, conditions))
+        }
+        Binary::AntiJoin(on, conditions) => {
+            let pairs = Vec::from_slice(alloc, on.as_slice())?;
+            let conditions = copied_conditions(alloc, conditions.as_slice())?;
+            Ok(Binary::AntiJoin(pairs, conditions))
+        }
     }
 }
 

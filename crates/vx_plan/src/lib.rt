@@ -4,6 +4,7 @@
 mod binary_nodes;
 mod claims;
 mod columns;
+mod conditions;
 mod erasing;
 mod exchange_nodes;
 mod fits;

@@ -3,23 +3,22 @@
 ghost use Rattle.std.specs.Prelude.{◌≡◌, map, string_bytes, IfOk};
 ghost use Rattle.std.specs.Arc.{arc_value};
 ghost use Rattle.vx_plan_json.specs.Fault.{Gives};
-ghost use Rattle.vx_plan_json.specs.Document.{side_form, condition_form, output_form, function_form, aggregate_form, unary_form};
-ghost use Rattle.vx_plan_nodes.specs.Outline.{side_of, condition_of, aggregate_of, phase_of, is_of_parts, columns_of, columns, outline_of};
-ghost use Rattle.vx_plan.specs.Resolve.{find_side, find_condition, find_conditions, select_shape, output_name, find_kept, find_all_kept, kept_shape, project_shape, distinct_shape, sort_shape, partial_sort_shape, find_function, find_aggregates, find_group, test_group, group_shape, partial_shape, parts_of, final_shape, unary_shape};
+ghost use Rattle.vx_plan_json.specs.Document.{condition_form, output_form, function_form, aggregate_form, unary_form};
+ghost use Rattle.vx_plan_nodes.specs.Outline.{aggregate_of, phase_of, is_of_parts, columns_of, columns, outline_of};
+ghost use Rattle.vx_plan.specs.Resolve.{select_shape, output_name, find_kept, find_all_kept, kept_shape, project_shape, distinct_shape, sort_shape, partial_sort_shape, limit_shape, find_function, find_aggregates, find_group, test_group, group_shape, partial_shape, parts_of, final_shape, unary_shape};
 ghost use Rattle.vx_plan.specs.Shaped.{shape_of};
 
 use crate::columns::{columns, group_names, group_types, kept_types, output_names, own_columns};
+use crate::conditions::find_conditions;
 use crate::fits::{are_aggregates, are_conditions};
 use crate::lookup::{find_column, find_columns, test_distinct, test_match, test_width};
 use crate::phases::{first_columns, merged, parts_of, sorts_before, test_phase};
 use std::alloc::Global;
 use std::sync::Arc;
 use vx_plan_json::{
-    NamedAggregate, NamedCondition, NamedFunction, NamedOutput, NamedSide, NamedUnary, PlanFault,
+    NamedAggregate, NamedCondition, NamedFunction, NamedOutput, NamedUnary, PlanFault,
 };
-use vx_plan_nodes::{
-    Aggregate, Columns, Condition, Name, Phase, Projected, Side, SortPhase, TypedNode, Unary,
-};
+use vx_plan_nodes::{Aggregate, Columns, Name, Phase, Projected, SortPhase, TypedNode, Unary};
 use vx_rows_values::ColType;
 
 /// An operator over one input, and its output.
@@ -27,54 +26,6 @@ use vx_rows_values::ColType;
 pub struct UnaryShape {
     pub unary: Unary,
     pub columns: Arc<Columns>,
-}
-
-#[tactic(auto, unfolding(crate::specs::Resolve::find_side))]
-fn find_side(alloc: Global, node: u32, names: &[Name], side: &NamedSide) -> Result<Side, PlanFault>
-    ensures { Gives side_of result (find_side node names.now (side_form side.now)) }
-{
-    match side {
-        NamedSide::Column(name) => {
-            let column = find_column(alloc, node, names, name.as_str())?;
-            Ok(Side::Column(column))
-        }
-        NamedSide::Constant(value) => Ok(Side::Constant(value.copy(alloc)?)),
-    }
-}
-
-#[tactic(auto, unfolding(crate::specs::Resolve::find_condition))]
-fn find_condition(
-    alloc: Global,
-    node: u32,
-    names: &[Name],
-    condition: &NamedCondition,
-) -> Result<Condition, PlanFault>
-    ensures { Gives condition_of result (find_condition node names.now (condition_form condition.now)) }
-{
-    let left = find_column(alloc, node, names, condition.left.as_str())?;
-    let right = find_side(alloc, node, names, &condition.right)?;
-    Ok(Condition {
-        left,
-        test: condition.test,
-        right,
-    })
-}
-
-#[tactic(auto, unfolding(crate::specs::Resolve::find_conditions), using(crate::proofs::WalkFacts::walk_steps))]
-fn find_conditions(
-    alloc: Global,
-    node: u32,
-    names: &[Name],
-    conditions: &[NamedCondition],
-) -> Result<Vec<Condition>, PlanFault>
-    ensures { Gives (λ v. map condition_of v.items) result (find_conditions node names.now (map condition_form conditions.now)) }
-{
-    let mut found = Vec::new(alloc);
-    for condition in conditions {
-        let one = find_condition(alloc, node, names, condition)?;
-        found.push(one)?;
-    }
-    Ok(found)
 }
 
 #[tactic(auto, unfolding(crate::specs::Resolve::select_shape))]
@@ -356,6 +307,18 @@ fn final_shape(alloc: Global, node: u32, input: &TypedNode) -> Result<UnaryShape
     })
 }
 
+// The first rows have the columns of the input.
+#[tactic(auto, unfolding(crate::specs::Resolve::limit_shape))]
+fn limit_shape(input: &Arc<Columns>, rows: u32) -> Result<UnaryShape, PlanFault>
+    ensures { Gives shape_of result (limit_shape (columns_of (arc_value input.now)) rows) }
+{
+    let columns = Arc::try_clone(input)?;
+    Ok(UnaryShape {
+        unary: Unary::Limit(rows),
+        columns,
+    })
+}
+
 /// An operator by positions, and its output. Whether the way up through exchanges and partial sorts alone reaches a final group
 /// decides for a partial one and for a partial sort, which is to have a partial group below as well.
 #[tactic(auto, unfolding(crate::specs::Resolve::unary_shape))]
@@ -389,5 +352,6 @@ pub fn unary_shape(
             partial_shape(alloc, under, node, columns, by, aggregates)
         }
         NamedUnary::FinalGroup => final_shape(alloc, node, input),
+        NamedUnary::Limit(rows) => limit_shape(columns, *rows),
     }
 }

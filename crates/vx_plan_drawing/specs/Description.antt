@@ -1,11 +1,11 @@
 -- What a node of a document does, what has its size and what it claims, in the words of the text that explains a plan.
-use Rattle.std.specs.Prelude.{ℕ, ◌++◌, Bool, true, false, cond, List, [], ◌∷◌, map, Option, Some, None, codes}
+use Rattle.std.specs.Prelude.{ℕ, ◌++◌, Bool, true, false, cond, List, [], ◌∷◌, map, Option, Some, None, codes, decimal}
 use Rattle.std.specs.Fmt.{signed_decimal}
 use Rattle.serde_json.specs.Data.{string}
 use Rattle.serde_json.specs.Written.{compact_text}
 use Rattle.vx_rows_values.specs.Values.{Val, num, text, Name}
 use Rattle.vx_rows_values.specs.Test.{test_text}
-use Rattle.vx_plan_json.specs.Document.{PartForm, one, any, all, hash_part, range_part, ClaimForm, SideForm, column, constant, ConditionForm, OutputForm, FunctionForm, least, greatest, sum, count_rows, AggregateForm, ScanForm, UnaryForm, select, project, distinct, sort, partial_sort, group, partial_group, final_group, BinaryForm, union, join, KindForm, hash, range, round, broadcast, gather, concat, Tree, scan, unary, binary, exchange}
+use Rattle.vx_plan_json.specs.Document.{PartForm, one, any, all, hash_part, range_part, ClaimForm, SideForm, column, constant, ConditionForm, OutputForm, FunctionForm, least, greatest, sum, count_rows, AggregateForm, ScanForm, UnaryForm, select, project, distinct, sort, partial_sort, group, partial_group, final_group, limit, BinaryForm, union, join, semi_join, KindForm, hash, range, round, broadcast, gather, concat, Tree, scan, unary, binary, exchange}
 
 -- texts in a row, a separator before each but the first
 abbrev pub separated : List ℕ → (is_later : Bool) → List (List ℕ) → List ℕ
@@ -101,15 +101,23 @@ unary_text (partial_sort names) = codes "partial-sort " ++ list_text names
 unary_text (group by aggregates) = codes "group " ++ group_text by aggregates
 unary_text (partial_group by aggregates) = codes "partial-group " ++ group_text by aggregates
 unary_text final_group = codes "final-group"
+unary_text (limit rows) = codes "limit " ++ decimal rows
 
 -- ---- operators over two inputs, and exchanges
 
 abbrev pub pair_text : Name × Name → List ℕ
 pair_text p = p.0 ++ (codes "=" ++ p.1)
 
+-- what a semi or an anti join asks of a left row and a right one besides
+abbrev pub where_text : List ConditionForm → List ℕ
+where_text [] = []
+where_text (c ∷ cs) = codes " where " ++ separated (codes " and ") false (map condition_text (c ∷ cs))
+
 abbrev pub binary_text : BinaryForm → List ℕ
 binary_text union = codes "union"
 binary_text (join merging on) = cond merging (codes "merge-join [") (codes "hash-join [") ++ (separated (codes ",") false (map pair_text on) ++ codes "]")
+binary_text (semi_join matched on conditions) =
+    cond matched (codes "hash-semi-join [") (codes "hash-anti-join [") ++ (separated (codes ",") false (map pair_text on) ++ (codes "]" ++ where_text conditions))
 
 abbrev pub kind_text : KindForm → List ℕ
 kind_text (hash size route names) = hash_text route names

@@ -1,9 +1,9 @@
 //! What a line says of a node's operator.
 
-ghost use Rattle.std.specs.Prelude.{◌≡◌, ◌++◌, map, option_map, string_bytes, OnOk, codes, false};
+ghost use Rattle.std.specs.Prelude.{◌≡◌, ◌++◌, map, option_map, string_bytes, OnOk, codes, decimal, false};
 ghost use Rattle.vx_rows_values.specs.ValueView.{val_of};
 ghost use Rattle.vx_plan_json.specs.Document.{side_form, condition_form, output_form, function_form, aggregate_form, scan_form, unary_form, pair_form, binary_form, kind_form, tree_of};
-ghost use Rattle.vx_plan_drawing.specs.Description.{separated, value_text, side_text, condition_text, renamed_text, kept_text, kept_list, function_text, aggregate_text, aggregates_text, group_text, unary_text, pair_text, binary_text, kind_text, merge_text, prefix_text, scan_text, description, target_name, size_name};
+ghost use Rattle.vx_plan_drawing.specs.Description.{separated, value_text, side_text, condition_text, renamed_text, kept_text, kept_list, function_text, aggregate_text, aggregates_text, group_text, unary_text, pair_text, where_text, binary_text, kind_text, merge_text, prefix_text, scan_text, description, target_name, size_name};
 
 use crate::words::{push_between, push_hash, push_list, push_range};
 use itoa::Buffer;
@@ -173,6 +173,15 @@ fn push_final(text: &mut String) -> Result<(), AllocError>
     text.push_str("final-group")
 }
 
+// Adds how many first rows a limit takes.
+fn push_limit(text: &mut String, rows: u32) -> Result<(), AllocError>
+    ensures { OnOk result (string_bytes text.new ≡ string_bytes text.old ++ (codes "limit " ++ decimal rows)) }
+{
+    let mut digits = Buffer::new();
+    text.push_str("limit ")?;
+    text.push_str(digits.format(rows))
+}
+
 // Adds an operator over one input.
 fn push_unary(alloc: Global, text: &mut String, operator: &NamedUnary) -> Result<(), AllocError>
     ensures { OnOk result (string_bytes text.new ≡ string_bytes text.old ++ unary_text (unary_form operator.now)) }
@@ -199,6 +208,7 @@ fn push_unary(alloc: Global, text: &mut String, operator: &NamedUnary) -> Result
             push_group(text, "partial-group ", by.as_slice(), aggregates.as_slice())
         }
         NamedUnary::FinalGroup => push_final(text),
+        NamedUnary::Limit(rows) => push_limit(text, *rows),
     }
 }
 
@@ -223,14 +233,57 @@ fn push_join(text: &mut String, word: &str, on: &[(String, String)]) -> Result<(
     text.push_str("]")
 }
 
+// Adds the conditions of a semi or an anti join, if there are any.
+fn push_where(
+    alloc: Global,
+    text: &mut String,
+    conditions: &[NamedCondition],
+) -> Result<(), AllocError>
+    ensures { OnOk result (string_bytes text.new ≡ string_bytes text.old ++ where_text (map condition_form conditions.now)) }
+{
+    if conditions.is_empty() {
+        return Ok(());
+    }
+    text.push_str(" where ")?;
+    push_conditions(alloc, text, conditions)
+}
+
+// Adds the word of a semi or an anti join, its pairs, in brackets, and its conditions.
+fn push_semi_join(
+    alloc: Global,
+    text: &mut String,
+    word: &str,
+    on: &[(String, String)],
+    conditions: &[NamedCondition],
+) -> Result<(), AllocError>
+    ensures { OnOk result (string_bytes text.new ≡ string_bytes text.old ++ (word.now ++ (separated (codes ",") false (map pair_text (map pair_form on.now)) ++ (codes "]" ++ where_text (map condition_form conditions.now))))) }
+{
+    push_join(text, word, on)?;
+    push_where(alloc, text, conditions)
+}
+
 // Adds an operator over two inputs.
-fn push_binary(text: &mut String, operator: &NamedBinary) -> Result<(), AllocError>
+fn push_binary(alloc: Global, text: &mut String, operator: &NamedBinary) -> Result<(), AllocError>
     ensures { OnOk result (string_bytes text.new ≡ string_bytes text.old ++ binary_text (binary_form operator.now)) }
 {
     match operator {
         NamedBinary::Union => text.push_str("union"),
         NamedBinary::HashJoin(on) => push_join(text, "hash-join [", on.as_slice()),
         NamedBinary::MergeJoin(on) => push_join(text, "merge-join [", on.as_slice()),
+        NamedBinary::SemiJoin(on, conditions) => push_semi_join(
+            alloc,
+            text,
+            "hash-semi-join [",
+            on.as_slice(),
+            conditions.as_slice(),
+        ),
+        NamedBinary::AntiJoin(on, conditions) => push_semi_join(
+            alloc,
+            text,
+            "hash-anti-join [",
+            on.as_slice(),
+            conditions.as_slice(),
+        ),
     }
 }
 
@@ -301,7 +354,7 @@ pub fn push_description(alloc: Global, text: &mut String, node: &Node) -> Result
     match node {
         Node::Scan(_, scan) => push_scan(text, scan),
         Node::Unary(_, operator, _) => push_unary(alloc, text, operator),
-        Node::Binary(_, operator, _, _) => push_binary(text, operator),
+        Node::Binary(_, operator, _, _) => push_binary(alloc, text, operator),
         Node::Exchange(_, kind, merge, _) => push_exchange(text, kind, merge.as_slice()),
     }
 }

@@ -1,5 +1,5 @@
 -- Facts of each row of a list: they hold of lists that are made of it.
-use Rattle.std.proofs.Common.{ℕ, zero, suc, ◌≡◌, ◌≢◌, ◌+◌, ◌<◌, ◌≤◌, ◌==◌, nat_lt, Bool, true, false, cond, not, List, [], ◌∷◌, ◌++◌, map, filter, flat_map, refl, sym, subst, arith, true≢false, ltb-true, eqb-true, eq-eqb}
+use Rattle.std.proofs.Common.{ℕ, zero, suc, ◌≡◌, ◌≢◌, ◌+◌, ◌<◌, ◌≤◌, ◌==◌, nat_lt, Bool, true, false, cond, not, List, [], ◌∷◌, ◌++◌, map, filter, flat_map, take, refl, sym, subst, arith, true≢false, ltb-true, eqb-true, eq-eqb}
 use Rattle.std.proofs.lemmas.Bool.{eqb-false}
 use Rattle.std.specs.List.{list_all, AllByRecursion}
 use Rattle.std.specs.Ordering.{is_le}
@@ -41,6 +41,12 @@ each-front P (x ∷ xs) ys h = (h.0, each-front P xs ys h.1)
 pub each-back : (P : Row → Type 0) (xs ys : List Row) → AllByRecursion P (xs ++ ys) → AllByRecursion P ys
 each-back P [] ys h = h
 each-back P (x ∷ xs) ys h = each-back P xs ys h.1
+
+-- of the first ones
+pub each-take : (P : Row → Type 0) (n : ℕ) (xs : List Row) → AllByRecursion P xs → AllByRecursion P (take n xs)
+each-take P zero xs h = tt
+each-take P (suc n) [] h = tt
+each-take P (suc n) (x ∷ xs) h = (h.0, each-take P n xs h.1)
 
 pub each-flat : (P Q : Row → Type 0) (g : Row → List Row) → ((x : Row) → P x → AllByRecursion Q (g x)) → (xs : List Row) → AllByRecursion P xs
     → AllByRecursion Q (flat_map g xs)

@@ -1,7 +1,7 @@
 -- What is kept of nodes, where one more answer is kept, and where inputs are asked.
 use Rattle.std.proofs.Common.{◌≡◌, ◌∙◌, ℕ, zero, suc, ◌+◌, ◌<◌, inl, inr, ◌⊎◌, ⊎_elim, List, [], ◌∷◌, ◌++◌, length, length-append, take, drop, get_or, set, refl, sym, ap, subst, arith, Bool, true, false, true≢false, Option, Some, None, slice_get, option_map, map}
 use Rattle.vx_catalog_relations.specs.Relation.{Relation}
-use Rattle.vx_plan_nodes.specs.Plan.{Plan, number, claim, scan, unary, binary, exchange, union, join}
+use Rattle.vx_plan_nodes.specs.Plan.{Plan, number, claim, scan, unary, binary, exchange, union, join, semi_join}
 use Rattle.vx_plan_nodes.specs.Types.{width}
 use Rattle.vx_plan_facts.specs.declared.answers.Answer as rust_answer
 use Rattle.vx_plan_facts.specs.declared.answers.Answers as rust_answers
@@ -153,6 +153,7 @@ stands-left catalog all keys (scan n c r m z) h = tt
 stands-left catalog all keys (unary n c op p) h = h.1
 stands-left catalog all keys (binary n c union p q) h = tt
 stands-left catalog all keys (binary n c (join m on) p q) h = h.1
+stands-left catalog all keys (binary n c (semi_join matched on conditions) p q) h = h.1
 stands-left catalog all keys (exchange n c k m p) h = h.1
 
 stands-right : (catalog : ℕ → Relation) (all : List Plan) (keys : List (List ℕ)) (p : Plan) → StandAmong all p → InputStandsAmong all (right_input catalog (with_keys keys p))
@@ -160,6 +161,7 @@ stands-right catalog all keys (scan n c r m z) h = tt
 stands-right catalog all keys (unary n c op p) h = tt
 stands-right catalog all keys (binary n c union p q) h = tt
 stands-right catalog all keys (binary n c (join m on) p q) h = h.2
+stands-right catalog all keys (binary n c (semi_join matched on conditions) p q) h = tt
 stands-right catalog all keys (exchange n c k m p) h = tt
 
 module _ (catalog : ℕ → Relation) (all : List Plan) (facts : List Facts) (old : List rust_answers.Answers) (keys : List (List ℕ)) (q : Plan) (h : IsKnownWith catalog all facts old keys q) where

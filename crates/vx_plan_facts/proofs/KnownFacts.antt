@@ -5,7 +5,7 @@ use Rattle.std.proofs.lemmas.List.{append-nil}
 use Rattle.vx_rows_values.specs.Limits.{max_columns}
 use Rattle.vx_rows_values.proofs.Booleans.{and-left, and-right}
 use Rattle.vx_catalog_relations.specs.Relation.{Relation}
-use Rattle.vx_plan_nodes.specs.Plan.{Claim, Unary, Binary, union, join, ExchangeKind, Plan, scan, unary, binary, exchange}
+use Rattle.vx_plan_nodes.specs.Plan.{Claim, Unary, Binary, union, join, semi_join, ExchangeKind, Plan, scan, unary, binary, exchange}
 use Rattle.vx_plan_nodes.specs.Numbering.{nodes, is_numbered}
 use Rattle.vx_plan_nodes.specs.Phases.{phase_fits, both_closed}
 use Rattle.vx_plan_nodes.specs.Types.{width, names_columns, well_formed}
@@ -115,6 +115,11 @@ known-both catalog known n c op p q h =
         → (well_formed catalog p ≡ true) × (well_formed catalog q ≡ true)
     formed-both catalog n c union p q h =
         let rest = both_closed p q && ((width catalog p == width catalog q) && names_columns (width catalog p) c) in (
+          and-left (well_formed catalog p) (well_formed catalog q && rest) h,
+          and-left (well_formed catalog q) rest (and-right (well_formed catalog p) (well_formed catalog q && rest) h),
+        )
+    formed-both catalog n c (semi_join matched on conditions) p q h =
+        let rest = both_closed p q && names_columns (width catalog p) c in (
           and-left (well_formed catalog p) (well_formed catalog q && rest) h,
           and-left (well_formed catalog q) rest (and-right (well_formed catalog p) (well_formed catalog q && rest) h),
         )

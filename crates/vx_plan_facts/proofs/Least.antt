@@ -6,7 +6,7 @@ use Rattle.vx_rows_values.specs.Lists.{is_some_list}
 use Rattle.vx_rows_values.proofs.Booleans.{and-left, and-right, and-both}
 use Rattle.vx_catalog_relations.specs.Relation.{Relation}
 use Rattle.vx_catalog_relations.specs.Catalog.{all_below}
-use Rattle.vx_plan_nodes.specs.Plan.{Claim, claim, Plan, scan, unary, binary, exchange, Binary, union, join}
+use Rattle.vx_plan_nodes.specs.Plan.{Claim, claim, Plan, scan, unary, binary, exchange, Binary, union, join, semi_join}
 use Rattle.vx_plan_nodes.specs.Phases.{first_columns, phase_fits, both_closed}
 use Rattle.vx_plan_nodes.specs.Types.{width, part_columns, names_columns, well_formed}
 use Rattle.vx_plan_nodes.specs.Describe.{Copying, whole_rows, left_of, right_of, source, described}
@@ -142,6 +142,7 @@ both-more v w union left right l r s t more c e = e
 both-more v w (join m on) left right l r s t more c e =
     or-more (by_input w (left_of v) left s c) (by_input w (right_of v) right s c) (by_input w (left_of v) left t c) (by_input w (right_of v) right t c)
     (input-more w (left_of v) left l s t more c) (input-more w (right_of v) right r s t more c) e
+both-more v w (semi_join matched on conditions) left right l r s t more c e = input-more w whole_rows left l s t more c e
 
 -- ---- all nodes
 
@@ -193,6 +194,10 @@ claim-named catalog (binary n c union p q) h =
     (and-right (well_formed catalog p) (well_formed catalog q && (both_closed p q && (same && named))) h)))
 claim-named catalog (binary n c (join m on) p q) h =
     let named = names_columns (width catalog p + width catalog q) c in
+    and-right (both_closed p q) named
+    (and-right (well_formed catalog q) (both_closed p q && named) (and-right (well_formed catalog p) (well_formed catalog q && (both_closed p q && named)) h))
+claim-named catalog (binary n c (semi_join matched on conditions) p q) h =
+    let named = names_columns (width catalog p) c in
     and-right (both_closed p q) named
     (and-right (well_formed catalog q) (both_closed p q && named) (and-right (well_formed catalog p) (well_formed catalog q && (both_closed p q && named)) h))
 claim-named catalog (exchange n c k m p) h = and-right (well_formed catalog p) (names_columns (width catalog p) c) h

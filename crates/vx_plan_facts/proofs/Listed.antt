@@ -12,7 +12,7 @@ use Rattle.vx_rows_values.proofs.Booleans.{and-left, and-right, and-both}
 use Rattle.vx_rows_values.proofs.Compare.{row_eq-same}
 use Rattle.vx_rows_values.proofs.KeyFacts.{to-key, from-key}
 use Rattle.vx_catalog_relations.specs.Relation.{Relation, KeysHold}
-use Rattle.vx_plan_nodes.specs.Plan.{Plan, scan, unary, binary, exchange, select, project, distinct, sort, group, plain, partial, final, Aggregate}
+use Rattle.vx_plan_nodes.specs.Plan.{Plan, scan, unary, binary, exchange, select, project, distinct, sort, group, limit, plain, partial, final, Aggregate}
 use Rattle.vx_plan_nodes.specs.Phases.{spoken, listed}
 use Rattle.vx_plan_nodes.specs.Types.{width}
 use Rattle.vx_plan_nodes.specs.Describe.{columns_kept, whole_rows}
@@ -170,6 +170,7 @@ keys-of db keys (unary n c (group partial by aggregates) p) h ys e =
     let made = unary-made db n (group partial by aggregates) p ys e in
     group-keys-hold keys by aggregates made.0 ys made.2 (h made.0 made.1)
 keys-of db keys (unary n c (group final by aggregates) p) h ys e = h ys e
+keys-of db keys (unary n c (limit m) p) h ys e = h ys e
 keys-of db keys (binary n c op p q) h ys e = h ys e
 keys-of db keys (exchange n c k m p) h ys e = keys-of db keys p h ys e
 
@@ -227,6 +228,7 @@ listed-facts catalog db (unary n c (group partial by aggregates) p) f base e a o
     let x = first-stem by base a o in
     key-facts (width catalog p) (length aggregates) (equal_at catalog p) (fixed_at catalog p) by a x.0 (facts-here catalog db p f.1 base e x.0 x.1) x.2
 listed-facts catalog db (unary n c (group final by aggregates) p) f base e a o = short-facts (f.0 base e a o)
+listed-facts catalog db (unary n c (limit m) p) f base e a o = short-facts (f.0 base e a o)
 listed-facts catalog db (binary n c op p q) f base e a o = short-facts (f.0 base e a o)
 listed-facts catalog db (exchange n c k m p) f base e a o = listed-facts catalog db p f.1 base e a o
 
@@ -265,6 +267,7 @@ determined-in-listed catalog db (unary n c (group partial by aggregates) p) f h 
     (closed-holds catalog db p f.1 h.1 base e x.0 y.0 x.1 y.1))
 determined-in-listed catalog db (unary n c (group final by aggregates) p) f h base e a b o u =
     closed-holds catalog db (unary n c (group final by aggregates) p) f h base e a b o u
+determined-in-listed catalog db (unary n c (limit m) p) f h base e a b o u = closed-holds catalog db (unary n c (limit m) p) f h base e a b o u
 determined-in-listed catalog db (binary n c op p q) f h base e a b o u = closed-holds catalog db (binary n c op p q) f h base e a b o u
 determined-in-listed catalog db (exchange n c k m p) f h base e a b o u =
     let w = width catalog p in

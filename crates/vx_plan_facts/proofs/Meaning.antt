@@ -12,7 +12,7 @@ use Rattle.vx_rows_values.proofs.Booleans.{and-left, and-right}
 use Rattle.vx_rows_values.proofs.Compare.{val_cmp_total, row_eq-refl, row_eq-same}
 use Rattle.vx_rows_values.proofs.KeyFacts.{from-key}
 use Rattle.vx_catalog_relations.specs.Relation.{Relation, KeysHold}
-use Rattle.vx_plan_nodes.specs.Plan.{Plan, scan, unary, binary, exchange, union, join}
+use Rattle.vx_plan_nodes.specs.Plan.{Plan, scan, unary, binary, exchange, union, join, semi_join}
 use Rattle.vx_plan_nodes.specs.Phases.{first_columns}
 use Rattle.vx_plan_nodes.specs.Types.{width}
 use Rattle.vx_plan_nodes.specs.Describe.{Copying, whole_rows, left_of, right_of, source, described}
@@ -23,7 +23,7 @@ use Rattle.vx_plan_facts.specs.RowFacts.{MeetsFacts}
 use Rattle.vx_plan_facts.specs.Determined.{Columns, column_in, is_copy_of, sources_in, by_input, by_rows, repeated, closure, by_none, by_both, determined}
 use Rattle.vx_plan_facts.specs.DeterminedFacts.{occurs, AgreeOn, AgreeOnFirst, FactsAt, FactsHold, DeterminedHolds}
 use Rattle.vx_plan_facts.proofs.Tests.{or-cases, any-first}
-use Rattle.vx_plan_facts.proofs.Stems.{IsCopyOf, unary-stem, copy-itself, copy-left, copy-right, join-stem, unary-made, binary-made}
+use Rattle.vx_plan_facts.proofs.Stems.{IsCopyOf, unary-stem, copy-itself, copy-left, copy-right, join-stem, matched-stem, unary-made, binary-made}
 
 -- ---- columns past the end
 
@@ -213,6 +213,18 @@ determined-holds catalog db (binary n c (join m on) p q) facts keys zs e a b o u
     (λ s. input-agrees w (width catalog q) (right_of v) right a b x.1 y.1 (copy-right v w a x.0 x.1 x.4 xw) (copy-right v w b y.0 y.1 y.4 yw)
     (determined-holds catalog db q facts.2 keys.2 made.1 made.3 x.1 y.1 x.3 y.3) t g d l s)
     (or-cases (by_input w (left_of v) left t d) (by_input w (right_of v) right t d) r))
+determined-holds catalog db (binary n c (semi_join matched on conditions) p q) facts keys zs e a b o u =
+    let w = width catalog p in
+    let op = semi_join matched on conditions in
+    let node = binary n c op p q in
+    let made = binary-made op (serial db p) (serial db q) zs e in
+    let P : Row → List Row → Type 0 = λ row l. occurs row l ≡ true in
+    let x = matched-stem matched on conditions made.0 made.1 a (subst (P a) (sym made.4) o) in
+    let y = matched-stem matched on conditions made.0 made.1 b (subst (P b) (sym made.4) u) in
+    closure-agrees w (equal_at catalog node) (fixed_at catalog node) c.keys (by_input w whole_rows (determined catalog p)) zs a b
+    (short-facts (facts.0 zs e a o)) (short-facts (facts.0 zs e b u)) (keys.0 zs e) o u
+    (input-agrees w w whole_rows (determined catalog p) a b a b (copy-itself w a) (copy-itself w b)
+    (determined-holds catalog db p facts.1 keys.1 made.0 made.2 a b x y))
 determined-holds catalog db (exchange n c k m p) facts keys xs e a b o u =
     let w = width catalog p in
     closure-agrees w (equal_at catalog p) (fixed_at catalog p) c.keys (by_input w whole_rows (determined catalog p)) xs a b

@@ -1,7 +1,7 @@
 -- With more keys the same columns determine more.
 use Rattle.std.proofs.Common.{◌≡◌, ℕ, zero, suc, ◌||◌, List, [], refl, sym, ap, subst}
 use Rattle.vx_catalog_relations.specs.Relation.{Relation}
-use Rattle.vx_plan_nodes.specs.Plan.{Plan, scan, unary, binary, exchange, Binary, union, join}
+use Rattle.vx_plan_nodes.specs.Plan.{Plan, scan, unary, binary, exchange, Binary, union, join, semi_join}
 use Rattle.vx_plan_nodes.specs.Types.{width}
 use Rattle.vx_plan_nodes.specs.Describe.{Copying, whole_rows, left_of, right_of, source, described}
 use Rattle.vx_plan_facts.specs.Equal.{Equality, each_itself, equal_at}
@@ -47,6 +47,7 @@ both-less v w union left right l r h k s c e = e
 both-less v w (join m on) left right l r h k s c e =
     or-more (by_input w (left_of v) left s c) (by_input w (right_of v) right s c) (by_input w (left_of v) l s c) (by_input w (right_of v) r s c)
     (input-less w (left_of v) left l h s c) (input-less w (right_of v) right r k s c) e
+both-less v w (semi_join matched on conditions) left right l r h k s c e = input-less w whole_rows left l h s c e
 
 -- plans that differ in their claims have the same columns
 abbrev pub AreAlike : (ℕ → Relation) → Plan → Plan → Type 0

@@ -1,5 +1,5 @@
 -- Operators that name columns of their inputs, and copies of these.
-use Rattle.std.proofs.Common.{◌≡◌, ◌∙◌, ℕ, zero, suc, ◌+◌, ◌<◌, ◌==◌, ◌||◌, length-append, arith, Bool, true, nat_lt, List, [], ◌∷◌, map, length, ap, refl, ◌&&◌, slice_get}
+use Rattle.std.proofs.Common.{◌≡◌, ◌∙◌, ℕ, zero, suc, ◌+◌, ◌<◌, ◌==◌, ◌||◌, length-append, arith, Bool, true, nat_lt, List, [], ◌∷◌, ◌++◌, map, length, ap, refl, ◌&&◌, slice_get}
 use Rattle.std.specs.List.{list_all}
 use Rattle.std.proofs.lemmas.Bool.{and_parts, and_from, eq-eqb}
 use Rattle.std.proofs.lemmas.List.{length-map}
@@ -9,7 +9,7 @@ use Rattle.vx_rows_values.specs.Types.{type_at}
 use Rattle.vx_rows_values.specs.Lists.{is_some_list}
 use Rattle.vx_catalog_relations.specs.Relation.{Relation}
 use Rattle.vx_catalog_relations.specs.Catalog.{all_below, are_distinct, relation_at}
-use Rattle.vx_plan_nodes.specs.Plan.{Side, column, constant, Condition, Unary, select, project, distinct, sort, group, Phase, plain, partial, final, Aggregate, Binary, union, join, Claim, Size, ExchangeKind, Plan, scan, unary, binary, exchange}
+use Rattle.vx_plan_nodes.specs.Plan.{Side, column, constant, Condition, Unary, select, project, distinct, sort, group, limit, Phase, plain, partial, final, Aggregate, Binary, union, join, semi_join, Claim, Size, ExchangeKind, Plan, scan, unary, binary, exchange}
 use Rattle.vx_plan_nodes.specs.Phases.{phase_fits, both_closed}
 use Rattle.vx_plan_nodes.specs.Types.{types_of, unary_types, binary_types, aggregate_type, width, unary_width, binary_width}
 use Rattle.vx_plan_nodes.specs.Typed.{type_eq, types_eq, are_columns, is_side, is_condition, is_aggregate, is_unary, is_pair, are_distinct_pairs, is_binary, typed}
@@ -49,10 +49,12 @@ unary_types-width (group phase by aggregates) types =
     length-append (map (type_at types) by) (map (aggregate_type types) aggregates)
     ∙ ap (λ k. k + length (map (aggregate_type types) aggregates)) (length-map by (type_at types))
     ∙ ap (λ k. length by + k) (length-map aggregates (aggregate_type types))
+unary_types-width (limit m) types = refl
 
 binary_types-width : (op : Binary) (ts us : List ColType) → length (binary_types op ts us) ≡ binary_width op (length ts) (length us)
 binary_types-width union ts us = refl
 binary_types-width (join m on) ts us = length-append ts us
+binary_types-width (semi_join matched on conditions) ts us = refl
 
 pub types-width : (catalog : ℕ → Relation) (p : Plan) → length (types_of catalog p) ≡ width catalog p
 types-width catalog (scan n c r m z) = refl
@@ -87,6 +89,7 @@ unary-names types (group phase by aggregates) h =
     let p = and_parts (is_some_list by || is_some_list aggregates) (are_columns (length types) by && list_all (is_aggregate types) aggregates) h in
     let q = and_parts (are_columns (length types) by) (list_all (is_aggregate types) aggregates) p.1 in
     (and_parts (all_below (length types) by) (are_distinct by) q.0).0
+unary-names types (limit m) h = refl
 
 same-types : (ts us : List ColType) → types_eq ts us ≡ true → (length us == length ts) ≡ true
 same-types ts us h = eq-eqb (length us) (length ts) (go ts us h)
@@ -110,6 +113,9 @@ both-name ts us union h = same-types ts us h
 both-name ts us (join m on) h =
     let p = and_parts (is_some_list on) (list_all (is_pair ts us) on && are_distinct_pairs on) h in
     pairs-name ts us on (and_parts (list_all (is_pair ts us) on) (are_distinct_pairs on) p.1).0
+both-name ts us (semi_join matched on conditions) h =
+    let p = and_parts (is_some_list on) (list_all (is_pair ts us) on && (are_distinct_pairs on && list_all (is_condition (ts ++ us)) conditions)) h in
+    pairs-name ts us on (and_parts (list_all (is_pair ts us) on) (are_distinct_pairs on && list_all (is_condition (ts ++ us)) conditions) p.1).0
 
 -- the relation of a typed scan is there
 pub typed-scan : (catalog : List Relation) (x : Plan) (n : ℕ) (c : Claim) (r : ℕ) (m : Bool) (z : Size) → x ≡ scan n c r m z → IsTypedOver catalog x → r < length catalog

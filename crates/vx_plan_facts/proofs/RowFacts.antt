@@ -1,5 +1,5 @@
 -- Equal and fixed columns hold of each row that an operator makes, and so of each serial row.
-use Rattle.std.proofs.Common.{ℕ, suc, ◌≡◌, ◌+◌, nat_lt, Bool, true, false, cond, ◌&&◌, ◌||◌, List, [], ◌∷◌, ◌++◌, map, filter, length, refl, sym, ap, ◌∙◌, subst, arith, true≢false, eqb-true, eq-eqb, Option, Some, None, length-append}
+use Rattle.std.proofs.Common.{ℕ, suc, ◌≡◌, ◌+◌, nat_lt, Bool, true, false, not, cond, ◌&&◌, ◌||◌, List, [], ◌∷◌, ◌++◌, map, filter, take, length, refl, sym, ap, ◌∙◌, subst, arith, true≢false, eqb-true, eq-eqb, Option, Some, None, length-append}
 use Rattle.std.proofs.lemmas.List.{length-map}
 use Rattle.std.specs.List.{list_all, AllByRecursion}
 use Rattle.vx_rows_values.specs.declared.value.ColType.{ColType}
@@ -10,16 +10,16 @@ use Rattle.vx_rows_values.proofs.Booleans.{and-left, and-right, and-both}
 use Rattle.vx_rows_values.proofs.Compare.{row_eq-same}
 use Rattle.vx_catalog_relations.specs.Relation.{Relation}
 use Rattle.vx_catalog_relations.specs.Catalog.{relation_at}
-use Rattle.vx_plan_nodes.specs.Plan.{Condition, Aggregate, plain, partial, final, Unary, select, project, distinct, sort, group, Binary, union, join, Plan, scan, unary, binary, exchange}
+use Rattle.vx_plan_nodes.specs.Plan.{Condition, Aggregate, plain, partial, final, Unary, select, project, distinct, sort, group, limit, Binary, union, join, semi_join, Plan, scan, unary, binary, exchange}
 use Rattle.vx_plan_nodes.specs.Types.{aggregate_type, unary_types, binary_types, types_of, unary_width, binary_width, width}
 use Rattle.vx_plan_nodes.specs.Typed.{type_eq, types_eq, is_pair, are_distinct_pairs, is_unary, is_binary, is_kind, is_output, are_columns, may_merge, typed}
 use Rattle.vx_plan_nodes.specs.Phases.{phase_fits, both_closed}
 use Rattle.vx_plan_nodes.specs.Describe.{Copying, whole_rows, columns_kept, left_of, right_of}
-use Rattle.vx_plan_nodes.specs.Serial.{passes, firsts, matches, joined_with, aggregate_of, of_key, group_keys, group_row, group_fits, group_rows, unary_rows, binary_rows, SerialResult, rows, overflow, or_overflow, after, serial}
+use Rattle.vx_plan_nodes.specs.Serial.{passes, firsts, matches, joined_with, is_matched, aggregate_of, of_key, group_keys, group_row, group_fits, group_rows, unary_rows, binary_rows, SerialResult, rows, overflow, or_overflow, after, serial}
 use Rattle.vx_plan_facts.specs.Equal.{Equality, lifted, with_conditions, with_pairs, equal_at}
 use Rattle.vx_plan_facts.specs.Fixed.{Values, carried_values, tested_values, shared_values, has_value, fixed_at}
 use Rattle.vx_plan_facts.specs.RowFacts.{HasEqual, HasFixed, MeetsFacts, MeetsAt, EachMeets, EachWide, inputs_fit, all_inputs_fit, TypedInputsFit, ScanMeets, UnaryMeets, BinaryMeets, ExchangeMeets, SerialMeets}
-use Rattle.vx_plan_facts.proofs.EachRow.{each-weaken, each-map, each-filter, each-append, each-flat, each-firsts, each-sort}
+use Rattle.vx_plan_facts.proofs.EachRow.{each-weaken, each-map, each-filter, each-append, each-flat, each-firsts, each-sort, each-take}
 use Rattle.vx_plan_facts.proofs.Columns.{HasCopies, whole-copies, kept-copies, kept-alone, left-copies, right-copies, equal-lifted, equal-either, equal-conditions, equal-pairs, has-filter, fixed-carried, fixed-shared, fixed-both, fixed-conditions}
 
 -- ---- rows read by scans
@@ -79,6 +79,12 @@ grouped-meet by aggregates w e f xs h =
     (group_keys by xs)
     (each-firsts Key (map (pick by) xs) (each-map (MeetsFacts w e f) Key (pick by) (λ row t. (row, t, refl)) xs h))
 
+-- a row of the input as it is
+whole-meets : (catalog : ℕ → Relation) (p : Plan) (row : Row) → MeetsAt catalog p row
+    → MeetsFacts (width catalog p) (lifted whole_rows (equal_at catalog p)) (carried_values whole_rows (fixed_at catalog p)) row
+whole-meets catalog p row t =
+    copied-meets whole_rows (width catalog p) (width catalog p) (equal_at catalog p) (fixed_at catalog p) row row (whole-copies row) t.wide t
+
 some-is : (xs ys : List Row) → Some xs ≡ Some ys → xs ≡ ys
 some-is xs ys e = cc
 
@@ -111,12 +117,14 @@ unary-meets catalog n c (distinct cols) p xs ys e h =
 unary-meets catalog n c (sort of_parts cols) p xs ys e h =
     let N : Plan = unary n c (sort of_parts cols) p in
     subst (EachMeets catalog N) (some-is _ ys e)
-    (each-sort (MeetsAt catalog N) cols xs
-    (each-weaken (MeetsAt catalog p) (MeetsAt catalog N)
-    (λ row t. copied-meets whole_rows (width catalog p) (width catalog p) (equal_at catalog p) (fixed_at catalog p) row row (whole-copies row) t.wide t) xs h))
+    (each-sort (MeetsAt catalog N) cols xs (each-weaken (MeetsAt catalog p) (MeetsAt catalog N) (whole-meets catalog p) xs h))
 unary-meets catalog n c (group plain by aggregates) p xs ys e h = group-meets catalog p by aggregates xs ys e h
 unary-meets catalog n c (group partial by aggregates) p xs ys e h = group-meets catalog p by aggregates xs ys e h
 unary-meets catalog n c (group final by aggregates) p xs ys e h = group-meets catalog p by aggregates xs ys e h
+unary-meets catalog n c (limit m) p xs ys e h =
+    let N : Plan = unary n c (limit m) p in
+    subst (EachMeets catalog N) (some-is (take m xs) ys e)
+    (each-take (MeetsAt catalog N) m xs (each-weaken (MeetsAt catalog p) (MeetsAt catalog N) (whole-meets catalog p) xs h))
 
 -- ---- operators over two inputs
 
@@ -171,6 +179,10 @@ binary-meets catalog n c (join m on) p q fit xs ys h k =
           alike = a;
           fixed = fixed-shared (v + w) (with_pairs v on (λ a b. le a b || re a b)) (λ d. lf d ++ rf d) (l ++ r) a (λ d. fixed-both lf rf (l ++ r) lv rv d);
         }
+binary-meets catalog n c (semi_join true on conditions) p q fit xs ys h k =
+    each-filter (MeetsAt catalog p) (MeetsAt catalog p) (is_matched on conditions ys) (λ row e t. t) xs h
+binary-meets catalog n c (semi_join false on conditions) p q fit xs ys h k =
+    each-filter (MeetsAt catalog p) (MeetsAt catalog p) (λ l. not (is_matched on conditions ys l)) (λ row e t. t) xs h
 
 -- ---- serial rows
 
@@ -220,10 +232,12 @@ unary_types-width (group phase by aggregates) types =
     length-append (map (type_at types) by) (map (aggregate_type types) aggregates)
     ∙ ap (λ k. k + length (map (aggregate_type types) aggregates)) (length-map by (type_at types))
     ∙ ap (λ k. length by + k) (length-map aggregates (aggregate_type types))
+unary_types-width (limit m) types = refl
 
 binary_types-width : (op : Binary) (ts us : List ColType) → length (binary_types op ts us) ≡ binary_width op (length ts) (length us)
 binary_types-width union ts us = refl
 binary_types-width (join m on) ts us = length-append ts us
+binary_types-width (semi_join matched on conditions) ts us = refl
 
 -- as many types as columns
 types-width : (catalog : ℕ → Relation) (p : Plan) → length (types_of catalog p) ≡ width catalog p
@@ -254,6 +268,7 @@ typed-fits ts us union h = eq-eqb (length ts) (length us) (same-types ts us h)
 typed-fits ts us (join m on) h =
     let pairs : Bool = list_all (is_pair ts us) on in
     pairs-below ts us on (and-left pairs (are_distinct_pairs on) (and-right (is_some_list on) (pairs && are_distinct_pairs on) h))
+typed-fits ts us (semi_join matched on conditions) h = refl
 
 pub typed-inputs-fit : TypedInputsFit
 typed-inputs-fit s (scan n c r m z) h = refl

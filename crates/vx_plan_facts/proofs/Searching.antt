@@ -6,7 +6,7 @@ use Rattle.std.proofs.lemmas.Bool.Decides.{nat_tests}
 use Rattle.vx_rows_values.specs.Limits.{max_columns}
 use Rattle.vx_rows_values.proofs.Booleans.{and-left, and-right, and-both}
 use Rattle.vx_catalog_relations.specs.Relation.{Relation}
-use Rattle.vx_plan_nodes.specs.Plan.{Claim, claim, number, Unary, select, project, distinct, sort, group, plain, partial, final, union, join, Plan, scan, unary, binary, exchange}
+use Rattle.vx_plan_nodes.specs.Plan.{Claim, claim, number, Unary, select, project, distinct, sort, group, limit, plain, partial, final, union, join, semi_join, Plan, scan, unary, binary, exchange}
 use Rattle.vx_plan_nodes.specs.Phases.{phase_fits, both_closed}
 use Rattle.vx_plan_nodes.specs.Numbering.{nodes}
 use Rattle.vx_plan_nodes.specs.Types.{width, unary_width, part_columns, names_columns, well_formed}
@@ -194,6 +194,7 @@ left-adds catalog (binary n c union p q) s d h = h
 left-adds catalog (binary n c (join m on) p q) s d h =
     let w = width catalog p + width catalog q in
     or-left (by_input w (left_of (width catalog p)) (determined catalog p) s d) (by_input w (right_of (width catalog p)) (determined catalog q) s d) h
+left-adds catalog (binary n c (semi_join matched on conditions) p q) s d h = h
 left-adds catalog (exchange n c k m p) s d h = h
 
 right-adds : (catalog : ℕ → Relation) (p : Plan) (s : Columns) (d : ℕ) → by_asked catalog (width catalog p) (right_input catalog p) s d ≡ true → by_inputs catalog p s d ≡ true
@@ -203,6 +204,7 @@ right-adds catalog (binary n c union p q) s d h = absurd (true≢false (sym h))
 right-adds catalog (binary n c (join m on) p q) s d h =
     let w = width catalog p + width catalog q in
     or-right (by_input w (left_of (width catalog p)) (determined catalog p) s d) (by_input w (right_of (width catalog p)) (determined catalog q) s d) h
+right-adds catalog (binary n c (semi_join matched on conditions) p q) s d h = absurd (true≢false (sym h))
 right-adds catalog (exchange n c k m p) s d h = absurd (true≢false (sym h))
 
 inputs-add : (catalog : ℕ → Relation) (p : Plan) (s : Columns) (d : ℕ) → by_inputs catalog p s d ≡ true
@@ -213,6 +215,7 @@ inputs-add catalog (binary n c union p q) s d h = inl h
 inputs-add catalog (binary n c (join m on) p q) s d h =
     let w = width catalog p + width catalog q in
     or-cases (by_input w (left_of (width catalog p)) (determined catalog p) s d) (by_input w (right_of (width catalog p)) (determined catalog q) s d) h
+inputs-add catalog (binary n c (semi_join matched on conditions) p q) s d h = inl h
 inputs-add catalog (exchange n c k m p) s d h = inl h
 
 pub wide-enough : (catalog : ℕ → Relation) (p : Plan) → is_within catalog p ≡ true → width catalog p ≤ max_columns
@@ -257,6 +260,7 @@ unary-reaches v (sort of_parts cols) h = whole-reaches v
 unary-reaches v (group plain by aggregates) h = λ c x l e. kept-reaches v by h c x e
 unary-reaches v (group partial by aggregates) h = λ c x l e. kept-reaches v by h c x e
 unary-reaches v (group final by aggregates) h = λ c x l e. kept-reaches v by h c x e
+unary-reaches v (limit m) h = whole-reaches v
 
 left-reaches : (v u : ℕ) → Reaches (v + u) (left_of v) v
 left-reaches v u c x l e = go (nat_lt c v) refl e
@@ -304,6 +308,17 @@ known-left catalog facts (binary n c (join m on) p q) known =
       narrow = few-enough w (wide-enough catalog (binary n c (join m on) p q) known.within);
       reaches = left-reaches (width catalog p) (width catalog q);
     }
+known-left catalog facts (binary n c (semi_join matched on conditions) p q) known =
+    let w = width catalog p in
+    record {
+      known = record {
+        formed = and-left (well_formed catalog p) (well_formed catalog q && (both_closed p q && names_columns w c)) known.formed;
+        within = and-left (is_within catalog p) (is_within catalog q && nat_le w max_columns) known.within;
+        numbered = known.numbered.1;
+      };
+      narrow = few-enough w (wide-enough catalog (binary n c (semi_join matched on conditions) p q) known.within);
+      reaches = whole-reaches w;
+    }
 known-left catalog facts (exchange n c k m p) known =
     record {
       known = record {
@@ -331,6 +346,7 @@ known-right catalog facts (binary n c (join m on) p q) known =
       narrow = few-enough w (wide-enough catalog (binary n c (join m on) p q) known.within);
       reaches = right-reaches (width catalog p) (width catalog q);
     }
+known-right catalog facts (binary n c (semi_join matched on conditions) p q) known = tt
 known-right catalog facts (exchange n c k m p) known = tt
 
 -- ---- the search
@@ -436,6 +452,7 @@ left-same catalog keys (scan n c r m z) = refl
 left-same catalog keys (unary n c op p) = refl
 left-same catalog keys (binary n c union p q) = refl
 left-same catalog keys (binary n c (join m on) p q) = refl
+left-same catalog keys (binary n c (semi_join matched on conditions) p q) = refl
 left-same catalog keys (exchange n c k m p) = refl
 
 pub right-same : (catalog : ℕ → Relation) (keys : List (List ℕ)) (p : Plan) → right_input catalog (with_keys keys p) ≡ right_input catalog p
@@ -443,6 +460,7 @@ right-same catalog keys (scan n c r m z) = refl
 right-same catalog keys (unary n c op p) = refl
 right-same catalog keys (binary n c union p q) = refl
 right-same catalog keys (binary n c (join m on) p q) = refl
+right-same catalog keys (binary n c (semi_join matched on conditions) p q) = refl
 right-same catalog keys (exchange n c k m p) = refl
 
 pub width-same : (catalog : ℕ → Relation) (keys : List (List ℕ)) (p : Plan) → width catalog (with_keys keys p) ≡ width catalog p
@@ -480,6 +498,7 @@ left-smaller catalog (scan n c r m z) = omega arith
 left-smaller catalog (unary n c op p) = omega arith
 left-smaller catalog (binary n c union p q) = omega arith
 left-smaller catalog (binary n c (join m on) p q) = omega arith
+left-smaller catalog (binary n c (semi_join matched on conditions) p q) = omega arith
 left-smaller catalog (exchange n c k m p) = omega arith
 
 pub right-smaller : (catalog : ℕ → Relation) (p : Plan) → asked-size (right_input catalog p) < 4 * nodes p + 1
@@ -487,6 +506,7 @@ right-smaller catalog (scan n c r m z) = omega arith
 right-smaller catalog (unary n c op p) = omega arith
 right-smaller catalog (binary n c union p q) = omega arith
 right-smaller catalog (binary n c (join m on) p q) = omega arith
+right-smaller catalog (binary n c (semi_join matched on conditions) p q) = omega arith
 right-smaller catalog (exchange n c k m p) = omega arith
 
 -- ---- from the code
@@ -547,6 +567,17 @@ aside-formed catalog (binary n c union p q) h =
     (and-both d (e && bare) (and-left d (e && named) hd) (and-both e bare (and-left e named he) (aside-named w c (and-right e named he)))))
 aside-formed catalog (binary n c (join m on) p q) h =
     let w = width catalog p + width catalog q in
+    let a = well_formed catalog p in
+    let b = well_formed catalog q in
+    let d = both_closed p q in
+    let named = names_columns w c in
+    let bare = names_columns w (claim_with [] c) in
+    let hb = and-right a (b && (d && named)) h in
+    let hd = and-right b (d && named) hb in
+    and-both a (b && (d && bare)) (and-left a (b && (d && named)) h)
+    (and-both b (d && bare) (and-left b (d && named) hb) (and-both d bare (and-left d named hd) (aside-named w c (and-right d named hd))))
+aside-formed catalog (binary n c (semi_join matched on conditions) p q) h =
+    let w = width catalog p in
     let a = well_formed catalog p in
     let b = well_formed catalog q in
     let d = both_closed p q in

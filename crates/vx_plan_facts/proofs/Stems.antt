@@ -1,14 +1,14 @@
 -- The rows of an operator's list come from rows of its inputs, whose values they have in the columns that are copies.
-use Rattle.std.proofs.Common.{◌≡◌, ℕ, zero, suc, ◌+◌, ◌-◌, ◌<◌, ◌≤◌, nat_lt, nat_le, Bool, true, false, not, cond, ◌||◌, ◌⊎◌, inl, inr, ⊎_elim, List, [], ◌∷◌, ◌++◌, map, filter, length, refl, sym, ap, ◌∙◌, subst, arith, true≢false, is_le, Option, Some, None, slice_get, ltb-true, leb-true, append-nil}
+use Rattle.std.proofs.Common.{◌≡◌, ℕ, zero, suc, ◌+◌, ◌-◌, ◌<◌, ◌≤◌, nat_lt, nat_le, Bool, true, false, not, cond, ◌||◌, ◌⊎◌, inl, inr, ⊎_elim, List, [], ◌∷◌, ◌++◌, map, filter, take, length, refl, sym, ap, ◌∙◌, subst, arith, true≢false, is_le, Option, Some, None, slice_get, ltb-true, leb-true, append-nil}
 use Rattle.std.specs.List.{list_all}
 use Rattle.vx_rows_values.specs.Values.{Row, row_eq, value_at, pick}
 use Rattle.vx_rows_values.specs.Order.{compare_on, insert_sorted, sort_on}
 use Rattle.vx_rows_values.specs.Bags.{count}
 use Rattle.vx_rows_values.proofs.Booleans.{and-left, and-right, and-both}
 use Rattle.vx_rows_values.proofs.Compare.{row_eq-refl, row_eq-same}
-use Rattle.vx_plan_nodes.specs.Plan.{Plan, Unary, select, project, distinct, sort, group, plain, partial, final, Binary, Aggregate}
+use Rattle.vx_plan_nodes.specs.Plan.{Plan, Condition, Unary, select, project, distinct, sort, group, limit, plain, partial, final, Binary, Aggregate}
 use Rattle.vx_plan_nodes.specs.Describe.{Copying, whole_rows, columns_kept, left_of, right_of, source, described}
-use Rattle.vx_plan_nodes.specs.Serial.{passes, firsts, matches, joined_with, join_rows, aggregate_of, of_key, group_keys, group_row, group_fits, group_rows, unary_rows, binary_rows, SerialResult, rows, overflow, or_overflow, after, serial}
+use Rattle.vx_plan_nodes.specs.Serial.{passes, firsts, matches, joined_with, join_rows, is_matched, matched_rows, aggregate_of, of_key, group_keys, group_row, group_fits, group_rows, unary_rows, binary_rows, SerialResult, rows, overflow, or_overflow, after, serial}
 use Rattle.vx_plan_facts.specs.DeterminedFacts.{occurs}
 use Rattle.vx_plan_facts.proofs.Tests.{or-cases, or-left, or-right, all-more}
 
@@ -92,6 +92,11 @@ all-firsts q (x ∷ xs) h =
     and-both (q x) (list_all q (filter (λ y. not (row_eq x y)) (firsts xs))) (and-left (q x) (list_all q xs) h)
     (all-filter q (λ y. not (row_eq x y)) (firsts xs) (all-firsts q xs (and-right (q x) (list_all q xs) h)))
 
+all-take : (q : Row → Bool) (n : ℕ) (xs : List Row) → list_all q xs ≡ true → list_all q (take n xs) ≡ true
+all-take q zero xs h = refl
+all-take q (suc n) [] h = refl
+all-take q (suc n) (x ∷ xs) h = and-both (q x) (list_all q (take n xs)) (and-left (q x) (list_all q xs) h) (all-take q n xs (and-right (q x) (list_all q xs) h))
+
 -- ---- values of rows that are put together
 
 pub value-left : (l r : Row) (c : ℕ) → c < length l → value_at (l ++ r) c ≡ value_at l c
@@ -174,6 +179,7 @@ unary-stem w (sort of_parts cols) xs ys e a o = whole-stem w (sort_on cols) (λ 
 unary-stem w (group plain by aggregates) xs ys e a o = group-stem w by aggregates xs ys e a o
 unary-stem w (group partial by aggregates) xs ys e a o = group-stem w by aggregates xs ys e a o
 unary-stem w (group final by aggregates) xs ys e a o = group-stem w by aggregates xs ys e a o
+unary-stem w (limit m) xs ys e a o = whole-stem w (take m) (λ q l h. all-take q m l h) xs ys e a o
 
 -- ---- joins
 
@@ -208,6 +214,14 @@ join-stem on (l ∷ ls) rs a o =
     (l, w.0, or-left (row_eq l l) (occurs l ls) (row_eq-refl l), there, w.2))
     (λ later. let w = join-stem on ls rs a later in (w.0, w.1, or-right (row_eq w.0 l) (occurs w.0 ls) w.2, w.3, w.4))
     (occurs-append a (joined_with on rs l) (join_rows on ls rs) o)
+
+-- a left row that is kept is one of the left rows
+pub matched-stem : (matched : Bool) (on : List (ℕ × ℕ)) (conditions : List Condition) (ls rs : List Row) (a : Row) → occurs a (matched_rows matched on conditions ls rs) ≡ true → occurs a ls ≡ true
+matched-stem true on conditions ls rs a o =
+    at-occurring (λ y. occurs y ls) a (filter (is_matched on conditions rs) ls) (all-filter (λ y. occurs y ls) (is_matched on conditions rs) ls (all-occur ls)) o
+matched-stem false on conditions ls rs a o =
+    let apart : Row → Bool = λ l. not (is_matched on conditions rs l) in
+    at-occurring (λ y. occurs y ls) a (filter apart ls) (all-filter (λ y. occurs y ls) apart ls (all-occur ls)) o
 
 -- ---- the lists that the serial meaning makes
 

@@ -2,7 +2,7 @@
 use Rattle.std.specs.Prelude.{◌≡◌, ◌<◌, ℕ, nat_lt, nat_le, Bool, true, false, ◌&&◌, ◌||◌, ⊤, List, Option, Some, None}
 use Rattle.vx_rows_values.specs.Limits.{max_columns}
 use Rattle.vx_catalog_relations.specs.Relation.{Relation}
-use Rattle.vx_plan_nodes.specs.Plan.{Claim, union, join, Plan, scan, unary, binary, exchange}
+use Rattle.vx_plan_nodes.specs.Plan.{Claim, union, join, semi_join, Plan, scan, unary, binary, exchange}
 use Rattle.vx_plan_nodes.specs.Types.{width, well_formed}
 use Rattle.vx_plan_nodes.specs.Describe.{Copying, whole_rows, left_of, right_of, source, described}
 use Rattle.vx_plan_facts.specs.Facts.{Facts, AreNumbered}
@@ -41,12 +41,13 @@ pub record IsKnown (catalog : ℕ → Relation) (facts : List Facts) (p : Plan) 
 abbrev pub Input : Type 0
 Input = Copying × Plan
 
--- the inputs that a node asks: the one below it, or the two of a join
+-- the inputs that a node asks: the one below it, the two of a join, or the left one of a semi or an anti join
 abbrev pub left_input : (ℕ → Relation) → Plan → Option Input
 left_input catalog (scan n c r m z) = None
 left_input catalog (unary n c op p) = Some ((described op).copying, p)
 left_input catalog (binary n c union p q) = None
 left_input catalog (binary n c (join merging on) p q) = Some (left_of (width catalog p), p)
+left_input catalog (binary n c (semi_join matched on conditions) p q) = Some (whole_rows, p)
 left_input catalog (exchange n c k m p) = Some (whole_rows, p)
 
 abbrev pub right_input : (ℕ → Relation) → Plan → Option Input

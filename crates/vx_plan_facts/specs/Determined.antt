@@ -4,7 +4,7 @@ use Rattle.std.specs.Prelude.{ℕ, zero, suc, ◌==◌, Bool, false, ◌&&◌, �
 use Rattle.std.specs.List.{list_all, list_any}
 use Rattle.vx_rows_values.specs.Lists.{is_some_list}
 use Rattle.vx_catalog_relations.specs.Relation.{Relation}
-use Rattle.vx_plan_nodes.specs.Plan.{Binary, union, join, Plan, scan, unary, binary, exchange}
+use Rattle.vx_plan_nodes.specs.Plan.{Binary, union, join, semi_join, Plan, scan, unary, binary, exchange}
 use Rattle.vx_plan_nodes.specs.Phases.{first_columns}
 use Rattle.vx_plan_nodes.specs.Types.{width}
 use Rattle.vx_plan_nodes.specs.Describe.{Copying, whole_rows, source, left_of, right_of, described}
@@ -48,10 +48,11 @@ closure w e f keys inputs s = repeated w (λ t c. by_rows w e f keys t c || inpu
 abbrev pub by_none : Columns → Columns
 by_none s c = false
 
--- rows side by side say nothing of one another; a joined row has a row of each input
+-- rows side by side say nothing of one another; a joined row has a row of each input, and a kept left row is one
 abbrev pub by_both : (v w : ℕ) → Binary → (left right : Columns → Columns) → Columns → Columns
 by_both v w union left right = by_none
 by_both v w (join merging on) left right = λ s c. by_input w (left_of v) left s c || by_input w (right_of v) right s c
+by_both v w (semi_join matched on conditions) left right = by_input w whole_rows left
 
 -- what the columns of a set determine at a node
 abbrev pub determined : (ℕ → Relation) → Plan → Columns → Columns

@@ -1,7 +1,7 @@
 -- Columns that are equal in every row of a node: by conditions, by the pairs of joins, and as copies of equal columns. They are derived, never claimed.
 use Rattle.std.specs.Prelude.{ℕ, ◌+◌, ◌==◌, Bool, false, ◌&&◌, ◌||◌, List, [], ◌∷◌, Option, Some}
 use Rattle.vx_catalog_relations.specs.Relation.{Relation}
-use Rattle.vx_plan_nodes.specs.Plan.{column, equal, Test, Side, Condition, Unary, select, Binary, union, join, Plan, scan, unary, binary, exchange}
+use Rattle.vx_plan_nodes.specs.Plan.{column, equal, Test, Side, Condition, Unary, select, Binary, union, join, semi_join, Plan, scan, unary, binary, exchange}
 use Rattle.vx_plan_nodes.specs.Types.{width}
 use Rattle.vx_plan_nodes.specs.Describe.{Copying, source, left_of, right_of, described}
 
@@ -44,10 +44,12 @@ abbrev pub unary_equal : Unary → Equality → Equality
 unary_equal (select cs) e = with_conditions cs e
 unary_equal op e = lifted (described op).copying e
 
--- of two inputs, the left one w columns wide: rows side by side have what both have, joined rows what each has and the pairs
+-- of two inputs, the left one w columns wide: rows side by side have what both have, joined rows what each has and the pairs, and kept left rows what the left
+-- one has
 abbrev pub binary_equal : ℕ → Binary → Equality → Equality → Equality
 binary_equal w union e f = λ a b. e a b && f a b
 binary_equal w (join merging on) e f = with_pairs w on (λ a b. lifted (left_of w) e a b || lifted (right_of w) f a b)
+binary_equal w (semi_join matched on conditions) e f = e
 
 -- the equal columns of a node
 abbrev pub equal_at : (ℕ → Relation) → Plan → Equality

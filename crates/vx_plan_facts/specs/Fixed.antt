@@ -4,7 +4,7 @@ use Rattle.std.specs.List.{list_any}
 use Rattle.std.specs.Ordering.{is_eq}
 use Rattle.vx_rows_values.specs.Values.{Val, val_cmp}
 use Rattle.vx_catalog_relations.specs.Relation.{Relation}
-use Rattle.vx_plan_nodes.specs.Plan.{constant, equal, Test, Side, Condition, Unary, select, Binary, union, join, Plan, scan, unary, binary, exchange}
+use Rattle.vx_plan_nodes.specs.Plan.{constant, equal, Test, Side, Condition, Unary, select, Binary, union, join, semi_join, Plan, scan, unary, binary, exchange}
 use Rattle.vx_plan_nodes.specs.Phases.{first_columns}
 use Rattle.vx_plan_nodes.specs.Types.{width}
 use Rattle.vx_plan_nodes.specs.Describe.{Copying, source, left_of, right_of, described}
@@ -48,6 +48,7 @@ unary_fixed w e op f = carried_values (described op).copying f
 abbrev pub binary_fixed : (v w : ℕ) → Equality → Binary → Values → Values → Values
 binary_fixed v w e union f g = λ c. filter (has_value (g c)) (f c)
 binary_fixed v w e (join merging on) f g = shared_values w e (λ c. carried_values (left_of v) f c ++ carried_values (right_of v) g c)
+binary_fixed v w e (semi_join matched on conditions) f g = f
 
 -- the fixed columns of a node, with their values
 abbrev pub fixed_at : (ℕ → Relation) → Plan → Values

@@ -3,7 +3,7 @@ use Rattle.std.specs.Prelude.{◌≡◌, ℕ, ◌==◌, nat_lt, Bool, true, ◌&
 use Rattle.std.specs.List.{list_all}
 use Rattle.vx_catalog_relations.specs.Relation.{Relation}
 use Rattle.vx_catalog_relations.specs.Catalog.{all_below}
-use Rattle.vx_plan_nodes.specs.Plan.{Side, column, constant, Condition, Unary, select, project, distinct, sort, group, Binary, union, join, Plan}
+use Rattle.vx_plan_nodes.specs.Plan.{Side, column, constant, Condition, Unary, select, project, distinct, sort, group, limit, Binary, union, join, semi_join, Plan}
 use Rattle.vx_plan_nodes.specs.Typed.{Scope, typed}
 
 abbrev pub side_within : ℕ → Side → Bool
@@ -20,6 +20,7 @@ names_within w (project cols) = all_below w cols
 names_within w (distinct cols) = all_below w cols
 names_within w (sort of_parts cols) = true
 names_within w (group phase by aggregates) = all_below w by
+names_within w (limit n) = true
 
 -- a pair of one of the first v and one of the first w columns
 abbrev pub pair_within : ℕ → ℕ → ℕ × ℕ → Bool
@@ -29,6 +30,7 @@ pair_within v w p = nat_lt p.0 v && nat_lt p.1 w
 abbrev pub both_within : ℕ → ℕ → Binary → Bool
 both_within v w union = w == v
 both_within v w (join merging on) = list_all (pair_within v w) on
+both_within v w (semi_join matched on conditions) = list_all (pair_within v w) on
 
 -- a typed plan over these relations
 abbrev pub IsTypedOver : List Relation → Plan → Type 0

@@ -4,7 +4,7 @@ use Rattle.std.specs.List.{list_all, AllByRecursion}
 use Rattle.vx_rows_values.specs.Values.{Val, Row, value_at}
 use Rattle.vx_catalog_relations.specs.Relation.{Relation}
 use Rattle.vx_catalog_relations.specs.Catalog.{relation_at}
-use Rattle.vx_plan_nodes.specs.Plan.{Claim, Size, Unary, Binary, union, join, ExchangeKind, Plan, scan, unary, binary, exchange}
+use Rattle.vx_plan_nodes.specs.Plan.{Claim, Size, Unary, Binary, union, join, semi_join, ExchangeKind, Plan, scan, unary, binary, exchange}
 use Rattle.vx_plan_nodes.specs.Types.{width}
 use Rattle.vx_plan_nodes.specs.Typed.{Scope, typed}
 use Rattle.vx_plan_nodes.specs.Serial.{unary_rows, binary_rows, rows, serial}
@@ -37,10 +37,11 @@ EachMeets catalog p xs = AllByRecursion (MeetsAt catalog p) xs
 abbrev pub EachWide : ℕ → List Row → Type 0
 EachWide w xs = AllByRecursion (λ row. length row ≡ w) xs
 
--- of two inputs v and w columns wide: those of a union are equally wide, and a join compares columns that its left input has
+-- of two inputs v and w columns wide: those of a union are equally wide, and a join compares columns that its left input has. Left rows that are kept say nothing of the right ones
 abbrev pub inputs_fit : (v w : ℕ) → Binary → Bool
 inputs_fit v w union = v == w
 inputs_fit v w (join merging on) = list_all (λ p. nat_lt p.0 v) on
+inputs_fit v w (semi_join matched on conditions) = true
 
 -- the same at every node; it is a part of being typed
 abbrev pub all_inputs_fit : (ℕ → Relation) → Plan → Bool

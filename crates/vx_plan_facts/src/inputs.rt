@@ -17,7 +17,7 @@ use crate::copies::{Copies, Input};
 use crate::facts::ColumnFacts;
 use vx_plan_nodes::{Binary, Copying, TypedNode};
 
-/// The left and the right input that a node asks. A union asks neither.
+/// The left and the right input that a node asks. A union asks neither, and a semi or an anti join its left one alone.
 pub fn inputs<'p>(
     node: &'p TypedNode,
     facts: &[ColumnFacts<'_>],
@@ -38,6 +38,17 @@ pub fn inputs<'p>(
                 None,
             )
         }
+        TypedNode::Binary(_, Binary::SemiJoin(_, _) | Binary::AntiJoin(_, _), input, _)
+        | TypedNode::Exchange(_, _, input) => {
+            let copies = Copies::Of(Copying::WholeRows);
+            (
+                Some(Input {
+                    copies,
+                    node: input,
+                }),
+                None,
+            )
+        }
         TypedNode::Binary(_, _, left, right) => {
             let behind = facts[left.head().number as usize].width();
             let lefts = Input {
@@ -49,16 +60,6 @@ pub fn inputs<'p>(
                 node: right,
             };
             (Some(lefts), Some(rights))
-        }
-        TypedNode::Exchange(_, _, input) => {
-            let copies = Copies::Of(Copying::WholeRows);
-            (
-                Some(Input {
-                    copies,
-                    node: input,
-                }),
-                None,
-            )
         }
     }
 }

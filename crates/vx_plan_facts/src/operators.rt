@@ -38,7 +38,7 @@ pub fn after_unary<'p>(
     match operator {
         Unary::Select(conditions) => selected(alloc, conditions.as_slice(), below),
         Unary::Project(kept) | Unary::Distinct(kept) => carried(alloc, copying, kept.len(), below),
-        Unary::Sort(_, _) => below.copy(alloc),
+        Unary::Sort(_, _) | Unary::Limit(_) => below.copy(alloc),
         Unary::Group(_, by, aggregates) => {
             carried(alloc, copying, by.len() + aggregates.len(), below)
         }
@@ -58,5 +58,6 @@ pub fn of_both<'p>(
     match operator {
         Binary::Union => united(alloc, left, right),
         Binary::HashJoin(on) | Binary::MergeJoin(on) => joined(alloc, on.as_slice(), left, right),
+        Binary::SemiJoin(_, _) | Binary::AntiJoin(_, _) => left.copy(alloc),
     }
 }

@@ -11,11 +11,11 @@ use Rattle.vx_rows_values.specs.Test as comparison
 use Rattle.vx_catalog_json.specs.Look.{name_in, each_onto}
 use Rattle.vx_plan_json.specs.Look.{name_at, text_at, value_in, each_in, some_in}
 use Rattle.vx_rows_values.specs.Lists.{is_some_list}
-use Rattle.vx_plan_json.specs.Document.{PartForm, one, any, all, hash_part, range_part, ClaimForm, SideForm, column, constant, ConditionForm, OutputForm, FunctionForm, least, greatest, sum, count_rows, AggregateForm, ScanForm, UnaryForm, select, project, distinct, sort, partial_sort, group, partial_group, final_group, BinaryForm, union, join, KindForm, hash, range, round, broadcast, gather, concat, Tree, scan, unary, binary, exchange, Document, tree_nodes, tree_levels}
+use Rattle.vx_plan_json.specs.Document.{PartForm, one, any, all, hash_part, range_part, ClaimForm, SideForm, column, constant, ConditionForm, OutputForm, FunctionForm, least, greatest, sum, count_rows, AggregateForm, ScanForm, UnaryForm, select, project, distinct, sort, partial_sort, group, partial_group, final_group, limit, BinaryForm, union, join, semi_join, KindForm, hash, range, round, broadcast, gather, concat, Tree, scan, unary, binary, exchange, Document, tree_nodes, tree_levels}
 use Rattle.vx_rows_values.specs.Ranges.{RangeForm}
 use Rattle.vx_plan_json.specs.Form.{names_in, some_names_in, hash_part_in, range_part_in, part_in, keys_in, claim_in, claimed, test_named, side_in, condition_in, renamed_in, output_in, function_at, aggregate_in, pair_in}
 use Rattle.vx_plan_json.specs.Formed.{are_names, are_some_names, is_range_form, is_head_form, is_part_form, is_claim_form, is_side_form, is_condition_form, is_new_name, is_output_form, is_function_form, is_aggregate_form, is_scan_form, is_unary_form, is_pair_form, is_binary_form, is_kind_form, is_merge_form, is_tree_form, has_few_keys, are_keys_few}
-use Rattle.vx_plan_json.specs.Operators.{OwnForm, own_scan, own_unary, own_binary, own_exchange, own_in, own_claim, own_under, scan_in, scan_own, select_in, outputs_in, sort_in, partial_sort_in, sorted_in, lists_in, group_in, partial_in, final_in, phased_in, unary_in, unary_own, join_in, union_in, hash_in, range_in, sized_in, gather_in, concat_in, kind_in, merge_in, exchange_own}
+use Rattle.vx_plan_json.specs.Operators.{OwnForm, own_scan, own_unary, own_binary, own_exchange, own_in, own_claim, own_under, scan_in, scan_own, select_in, outputs_in, sort_in, partial_sort_in, sorted_in, lists_in, group_in, partial_in, final_in, phased_in, rows_in, limit_in, unary_in, unary_own, inner_in, matches_in, join_in, union_in, hash_in, range_in, sized_in, gather_in, concat_in, kind_in, merge_in, exchange_own}
 use Rattle.vx_plan_json.specs.Reading.{node_in, declared_in, head_of, head_in, document_in}
 use Rattle.vx_plan_json.specs.Written.{list_json, names_json, value_json, with_some, with_text, range_json, part_json, with_part, claim_members, with_object, with_claim, with_side, condition_json, output_json, with_function, aggregate_json, pair_json, with_scan, with_unary, with_binary, with_kind, scan_json, unary_json, binary_json, exchange_json, node_json, with_flag, document_json}
 use Rattle.vx_plan_json.proofs.Holds.{and-left, and-right}
@@ -197,7 +197,7 @@ scan-back c s h k =
     (λ e c g. scan_claimed e c g s.relation s.shared s.size s.prefix r z) c h
 
 unary_bare : (op : UnaryForm) (d : Data) → is_unary_form op ≡ true → own_in (object (put (codes "input") d (with_unary op no_members))) ≡ Some (own_unary bare op d)
-unfolding own_in text_at unary_own unary_in select_in outputs_in sort_in partial_sort_in sorted_in lists_in group_in partial_in final_in phased_in claimed
+unfolding own_in text_at unary_own unary_in select_in outputs_in sort_in partial_sort_in sorted_in lists_in group_in partial_in final_in phased_in rows_in limit_in claimed
 unary_bare (select cs) d h = rw (some-back is_condition_form condition_in condition_json condition-back cs h) refl
 unary_bare (project os) d h = rw (some-back is_output_form output_in output_json output-back os h) refl
 unary_bare (distinct os) d h = rw (some-back is_output_form output_in output_json output-back os h) refl
@@ -210,10 +210,11 @@ unary_bare (partial_group [] []) d h = cc
 unary_bare (partial_group [] (a ∷ as')) d h = rw (names-back [] refl, list-back is_aggregate_form aggregate_in aggregate_json aggregate-back (a ∷ as') h) refl
 unary_bare (partial_group (n ∷ ns) as') d h = rw (names-back (n ∷ ns) (and-left (are_names (n ∷ ns)) (list_all is_aggregate_form as') h), list-back is_aggregate_form aggregate_in aggregate_json aggregate-back as' (and-right (are_names (n ∷ ns)) (list_all is_aggregate_form as') h)) refl
 unary_bare final_group d h = refl
+unary_bare (limit rows) d h = rw h refl
 
 unary_claimed : (e : Data) (c : ClaimForm) → claim_in e ≡ Some c → (op : UnaryForm) (d : Data) → is_unary_form op ≡ true
     → own_in (object (put (codes "input") d (with_unary op (member (codes "claim") e no_members)))) ≡ Some (own_unary c op d)
-unfolding own_in text_at unary_own unary_in select_in outputs_in sort_in partial_sort_in sorted_in lists_in group_in partial_in final_in phased_in claimed
+unfolding own_in text_at unary_own unary_in select_in outputs_in sort_in partial_sort_in sorted_in lists_in group_in partial_in final_in phased_in rows_in limit_in claimed
 unary_claimed e c g (select cs) d h = rw (g, some-back is_condition_form condition_in condition_json condition-back cs h) refl
 unary_claimed e c g (project os) d h = rw (g, some-back is_output_form output_in output_json output-back os h) refl
 unary_claimed e c g (distinct os) d h = rw (g, some-back is_output_form output_in output_json output-back os h) refl
@@ -226,23 +227,39 @@ unary_claimed e c g (partial_group [] []) d h = cc
 unary_claimed e c g (partial_group [] (a ∷ as')) d h = rw (g, names-back [] refl, list-back is_aggregate_form aggregate_in aggregate_json aggregate-back (a ∷ as') h) refl
 unary_claimed e c g (partial_group (n ∷ ns) as') d h = rw (g, names-back (n ∷ ns) (and-left (are_names (n ∷ ns)) (list_all is_aggregate_form as') h), list-back is_aggregate_form aggregate_in aggregate_json aggregate-back as' (and-right (are_names (n ∷ ns)) (list_all is_aggregate_form as') h)) refl
 unary_claimed e c g final_group d h = rw g refl
+unary_claimed e c g (limit rows) d h = rw (g, h) refl
 
 unary-back : (c : ClaimForm) (op : UnaryForm) (d : Data) → is_claim_form c ≡ true → is_unary_form op ≡ true → own_in (unary_json c op d) ≡ Some (own_unary c op d)
 unary-back c op d h k =
     by_claim (λ ms c. own_in (object (put (codes "input") d (with_unary op ms))) ≡ Some (own_unary c op d)) (unary_bare op d k) (λ e c g. unary_claimed e c g op d k) c h
 
+-- the pairs of a join that looks for matches, and its conditions, if there are any
+pairs-back : (on : List (Name × Name)) (conditions : List ConditionForm) → is_binary_form (semi_join true on conditions) ≡ true → some_in pair_in (list_json pair_json on) ≡ Some on
+pairs-back on conditions h = some-back is_pair_form pair_in pair_json pair-back on (and-left (is_some_list on && list_all is_pair_form on) (list_all is_condition_form conditions) h)
+
+where-back : (on : List (Name × Name)) (c : ConditionForm) (cs : List ConditionForm) → is_binary_form (semi_join true on (c ∷ cs)) ≡ true → some_in condition_in (list_json condition_json (c ∷ cs)) ≡ Some (c ∷ cs)
+where-back on c cs h = some-back is_condition_form condition_in condition_json condition-back (c ∷ cs) (and-right (is_some_list on && list_all is_pair_form on) (list_all is_condition_form (c ∷ cs)) h)
+
 binary_bare : (op : BinaryForm) (d f : Data) → is_binary_form op ≡ true → own_in (object (put (codes "right") f (put (codes "left") d (with_binary op no_members)))) ≡ Some (own_binary bare op d f)
-unfolding own_in text_at union_in join_in claimed
+unfolding own_in text_at union_in inner_in matches_in join_in claimed
 binary_bare union d f h = refl
 binary_bare (join true on) d f h = rw (some-back is_pair_form pair_in pair_json pair-back on h) refl
 binary_bare (join false on) d f h = rw (some-back is_pair_form pair_in pair_json pair-back on h) refl
+binary_bare (semi_join true on []) d f h = rw (pairs-back on [] h) refl
+binary_bare (semi_join true on (c ∷ cs)) d f h = rw (pairs-back on (c ∷ cs) h, where-back on c cs h) refl
+binary_bare (semi_join false on []) d f h = rw (pairs-back on [] h) refl
+binary_bare (semi_join false on (c ∷ cs)) d f h = rw (pairs-back on (c ∷ cs) h, where-back on c cs h) refl
 
 binary_claimed : (e : Data) (c : ClaimForm) → claim_in e ≡ Some c → (op : BinaryForm) (d f : Data) → is_binary_form op ≡ true
     → own_in (object (put (codes "right") f (put (codes "left") d (with_binary op (member (codes "claim") e no_members))))) ≡ Some (own_binary c op d f)
-unfolding own_in text_at union_in join_in claimed
+unfolding own_in text_at union_in inner_in matches_in join_in claimed
 binary_claimed e c g union d f h = rw g refl
 binary_claimed e c g (join true on) d f h = rw (g, some-back is_pair_form pair_in pair_json pair-back on h) refl
 binary_claimed e c g (join false on) d f h = rw (g, some-back is_pair_form pair_in pair_json pair-back on h) refl
+binary_claimed e c g (semi_join true on []) d f h = rw (g, pairs-back on [] h) refl
+binary_claimed e c g (semi_join true on (x ∷ xs)) d f h = rw (g, pairs-back on (x ∷ xs) h, where-back on x xs h) refl
+binary_claimed e c g (semi_join false on []) d f h = rw (g, pairs-back on [] h) refl
+binary_claimed e c g (semi_join false on (x ∷ xs)) d f h = rw (g, pairs-back on (x ∷ xs) h, where-back on x xs h) refl
 
 binary-back : (c : ClaimForm) (op : BinaryForm) (d f : Data) → is_claim_form c ≡ true → is_binary_form op ≡ true → own_in (binary_json c op d f) ≡ Some (own_binary c op d f)
 binary-back c op d f h k =

@@ -2,15 +2,15 @@
 use Rattle.std.proofs.Common.{◌≡◌, ℕ, zero, suc, ◌+◌, List, [], ◌∷◌, ◌++◌, Bool, true, false, cond, ltb, ◌&&◌, Option, Some, None, option_map, option_and_then, Result, Ok, Err, codes, bytes_eq, refl}
 use Rattle.std.specs.List.{list_all}
 use Rattle.serde_json.specs.Data.{Data}
-use Rattle.serde_json.specs.Find.{get, as_str}
+use Rattle.serde_json.specs.Find.{get, as_str, as_number, as_u64}
 use Rattle.vx_catalog_json.specs.Look.{has_only}
 use Rattle.vx_plan_json.specs.Look.{name_at, text_at, each_in, some_in, or_default}
 use Rattle.vx_rows_values.specs.Lists.{is_some_list}
 use Rattle.vx_plan_json.specs.Fault.{Refusal, too_deep, ◌>>=◌}
 use Rattle.vx_rows_values.specs.Values.{Name}
-use Rattle.vx_plan_json.specs.Document.{AggregateForm, select, project, distinct, sort, partial_sort, group, partial_group, final_group, BinaryForm, union, join, hash, range, round, broadcast, gather, concat, KindForm, Tree, unary, binary, exchange}
+use Rattle.vx_plan_json.specs.Document.{ConditionForm, AggregateForm, select, project, distinct, sort, partial_sort, group, partial_group, final_group, limit, BinaryForm, union, join, semi_join, hash, range, round, broadcast, gather, concat, KindForm, Tree, unary, binary, exchange}
 use Rattle.vx_plan_json.specs.Form.{names_in, some_names_in, claimed, condition_in, output_in, aggregate_in, pair_in}
-use Rattle.vx_plan_json.specs.Operators.{OwnForm, own_scan, own_unary, own_binary, own_exchange, mode_named, scan_in, scan_own, select_in, outputs_in, sort_in, partial_sort_in, sort_named, sort_by, sorted_in, group_or, lists_in, group_in, partial_in, final_in, phase_named, group_by, phased_in, unary_in, unary_own, method_named, join_in, union_in, binary_own, hash_in, range_in, sized_in, gather_in, concat_in, kind_in, merge_in, merge_by, exchange_own, own_named, own_in, own_claim, if_few_keys, own_under}
+use Rattle.vx_plan_json.specs.Operators.{OwnForm, own_scan, own_unary, own_binary, own_exchange, mode_named, scan_in, scan_own, select_in, outputs_in, sort_in, partial_sort_in, sort_named, sort_by, sorted_in, group_or, lists_in, group_in, partial_in, final_in, phase_named, group_by, phased_in, if_small, rows_in, limit_in, unary_in, unary_own, method_named, inner_in, matches_by, matches_in, join_named, join_by, join_in, union_in, binary_own, hash_in, range_in, sized_in, gather_in, concat_in, kind_in, merge_in, merge_by, exchange_own, own_named, own_in, own_claim, if_few_keys, own_under}
 use Rattle.vx_plan_json.specs.Reading.{node_in, with_inputs}
 use Rattle.vx_plan_json.specs.Formed.{are_names, are_some_names, is_claim_form, is_condition_form, is_output_form, is_aggregate_form, is_scan_form, is_group_form, is_unary_form, is_pair_form, is_binary_form, is_kind_form, is_merge_form, is_tree_form, has_few_keys}
 use Rattle.vx_plan_json.proofs.Holds.{and-left, and-right, and-both, Within, within_then, within_any, within_map, within_if, Holds, holds_then}
@@ -123,6 +123,23 @@ phased-within : (d : Data) → Within is_unary_form (phased_in d)
 unfolding phased_in
 phased-within d = group_by-within (get (codes "phase") d) d
 
+if_small-within : (n : ℕ) → Within (λ k. ltb k 4294967296) (if_small n)
+if_small-within n = go (ltb n 4294967296) refl
+  where
+    go : (b : Bool) → ltb n 4294967296 ≡ b → Within (λ k. ltb k 4294967296) (cond b (Some n) None)
+    go true h = h
+    go false h = tt
+
+rows-within : (d : Data) → Within (λ k. ltb k 4294967296) (rows_in d)
+unfolding rows_in
+rows-within d = within_any (λ k. ltb k 4294967296) if_small (option_and_then as_u64 (as_number d)) if_small-within
+
+limit-within : (d : Data) → Within is_unary_form (limit_in d)
+unfolding limit_in
+limit-within d =
+    within_if is_unary_form (has_only (codes "op" ∷ codes "rows" ∷ codes "input" ∷ codes "claim" ∷ []) d) _ None
+    (within_map (λ k. ltb k 4294967296) is_unary_form limit (option_and_then rows_in (get (codes "rows") d)) (within_any (λ k. ltb k 4294967296) rows_in (get (codes "rows") d) rows-within) (λ n h. h)) tt
+
 unary-within : (s : List ℕ) (d : Data) → Within is_unary_form (unary_in s d)
 unfolding unary_in
 unary-within s d =
@@ -130,7 +147,8 @@ unary-within s d =
     (within_if is_unary_form (bytes_eq s (codes "project")) (option_map project (outputs_in d)) _ (within_map (λ xs. is_some_list xs && list_all is_output_form xs) is_unary_form project (outputs_in d) (outputs-within d) (λ os h. h))
     (within_if is_unary_form (bytes_eq s (codes "distinct")) (option_map distinct (outputs_in d)) _ (within_map (λ xs. is_some_list xs && list_all is_output_form xs) is_unary_form distinct (outputs_in d) (outputs-within d) (λ os h. h))
     (within_if is_unary_form (bytes_eq s (codes "sort")) (sorted_in d) _ (sorted-within d)
-    (within_if is_unary_form (bytes_eq s (codes "group")) (phased_in d) None (phased-within d) tt))))
+    (within_if is_unary_form (bytes_eq s (codes "group")) (phased_in d) _ (phased-within d)
+    (within_if is_unary_form (bytes_eq s (codes "limit")) (limit_in d) None (limit-within d) tt)))))
 
 unary_own-within : (s : List ℕ) (d : Data) → Within is_own_form (unary_own s d)
 unfolding unary_own is_own_form
@@ -139,13 +157,58 @@ unary_own-within s d =
     (λ op h. within_then is_claim_form is_own_form (λ c. option_and_then (λ i. Some (own_unary c op i)) (get (codes "input") d)) (claimed d) (claimed-within d)
     (λ c k. within_any is_own_form (λ i. Some (own_unary c op i)) (get (codes "input") d) (λ i. and-both (is_claim_form c) (is_unary_form op) k h)))
 
-join-within : (d : Data) → Within is_binary_form (join_in d)
-unfolding join_in
-join-within d =
-    within_if is_binary_form (has_only (codes "op" ∷ codes "method" ∷ codes "on" ∷ codes "left" ∷ codes "right" ∷ codes "claim" ∷ []) d) _ None
+inner-within : (d : Data) → Within is_binary_form (inner_in d)
+unfolding inner_in
+inner-within d =
+    within_if is_binary_form (has_only (codes "op" ∷ codes "method" ∷ codes "kind" ∷ codes "on" ∷ codes "left" ∷ codes "right" ∷ codes "claim" ∷ []) d) _ None
     (within_any is_binary_form (λ m. option_and_then (λ on. Some (join m on)) (option_and_then (some_in pair_in) (get (codes "on") d))) (option_and_then method_named (text_at (codes "method") d))
     (λ m. within_then (λ xs. is_some_list xs && list_all is_pair_form xs) is_binary_form (λ on. Some (join m on)) (option_and_then (some_in pair_in) (get (codes "on") d))
     (some_at is_pair_form pair_in pair-within (codes "on") d) (λ on h. h))) tt
+
+-- pairs of which there is one, and conditions
+are_matches : List (Name × Name) × List ConditionForm → Bool
+are_matches g = (is_some_list g.0 && list_all is_pair_form g.0) && list_all is_condition_form g.1
+
+where-within : (o : Option Data) → Within (list_all is_condition_form) (or_default [] (some_in condition_in) o)
+where-within None = refl
+where-within (Some d) = go (some_in condition_in d) (some_within is_condition_form condition_in condition-within d)
+  where
+    go : (o : Option (List ConditionForm)) → Within (λ cs. is_some_list cs && list_all is_condition_form cs) o → Within (list_all is_condition_form) o
+    go None h = tt
+    go (Some cs) h = and-right (is_some_list cs) (list_all is_condition_form cs) h
+
+matches_by-within : (m : Bool) (d : Data) → Within are_matches (matches_by m d)
+unfolding are_matches
+matches_by-within true d = tt
+matches_by-within false d =
+    within_then (λ xs. is_some_list xs && list_all is_pair_form xs) are_matches (λ on. option_and_then (λ cs. Some (on, cs)) (or_default [] (some_in condition_in) (get (codes "where") d))) (option_and_then (some_in pair_in) (get (codes "on") d))
+    (some_at is_pair_form pair_in pair-within (codes "on") d)
+    (λ on h. within_then (list_all is_condition_form) are_matches (λ cs. Some (on, cs)) (or_default [] (some_in condition_in) (get (codes "where") d)) (where-within (get (codes "where") d))
+    (λ cs k. and-both (is_some_list on && list_all is_pair_form on) (list_all is_condition_form cs) h k))
+
+matches-within : (d : Data) → Within are_matches (matches_in d)
+unfolding matches_in
+matches-within d =
+    within_if are_matches (has_only (codes "op" ∷ codes "method" ∷ codes "kind" ∷ codes "on" ∷ codes "where" ∷ codes "left" ∷ codes "right" ∷ codes "claim" ∷ []) d) _ None
+    (within_any are_matches (λ m. matches_by m d) (option_and_then method_named (text_at (codes "method") d)) (λ m. matches_by-within m d)) tt
+
+semi-within : (matched : Bool) (d : Data) → Within is_binary_form (option_map (λ g. semi_join matched g.0 g.1) (matches_in d))
+unfolding are_matches
+semi-within matched d = within_map are_matches is_binary_form (λ (g : List (Name × Name) × List ConditionForm). semi_join matched g.0 g.1) (matches_in d) (matches-within d) (λ g h. h)
+
+join_named-within : (s : List ℕ) (d : Data) → Within is_binary_form (join_named s d)
+join_named-within s d =
+    within_if is_binary_form (bytes_eq s (codes "inner")) (inner_in d) _ (inner-within d)
+    (within_if is_binary_form (bytes_eq s (codes "semi")) _ _ (semi-within true d)
+    (within_if is_binary_form (bytes_eq s (codes "anti")) _ None (semi-within false d) tt))
+
+join_by-within : (o : Option Data) (d : Data) → Within is_binary_form (join_by o d)
+join_by-within None d = inner-within d
+join_by-within (Some k) d = within_any is_binary_form (λ s. join_named s d) (as_str k) (λ s. join_named-within s d)
+
+join-within : (d : Data) → Within is_binary_form (join_in d)
+unfolding join_in
+join-within d = join_by-within (get (codes "kind") d) d
 
 union-within : (d : Data) → Within is_binary_form (union_in d)
 unfolding union_in

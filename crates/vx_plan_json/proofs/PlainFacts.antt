@@ -4,15 +4,15 @@ use Rattle.std.proofs.lemmas.Bool.{or_from}
 use Rattle.std.proofs.Math.Nat.{max-le, le-max_left, le-max_right}
 use Rattle.std.specs.Ordering.{nat_cmp, match_ordering}
 use Rattle.std.specs.Cmp.Lexicographic.{slice_cmp}
-use Rattle.serde_json.specs.Data.{Data, boolean, string, object, Members, no_members, member, put, depth, items_depth, members_depth}
+use Rattle.serde_json.specs.Data.{Data, boolean, number, unsigned, string, object, Members, no_members, member, put, depth, items_depth, members_depth}
 use Rattle.serde_json.specs.Written.{has_float, items_have_float, members_have_float}
 use Rattle.serde_json.specs.View.{items_of, members_view}
 use Rattle.serde_json.specs.declared.value.Value.{Value}
 use Rattle.vx_rows_values.specs.Values.{Val, num, text, Name}
 use Rattle.vx_rows_values.specs.Test.{test_text}
-use Rattle.vx_plan_json.specs.Document.{PartForm, one, any, all, hash_part, range_part, ClaimForm, SideForm, column, constant, ConditionForm, OutputForm, FunctionForm, least, greatest, sum, count_rows, AggregateForm, ScanForm, UnaryForm, select, project, distinct, sort, partial_sort, group, partial_group, final_group, BinaryForm, union, join, KindForm, hash, range, round, broadcast, gather, concat, Tree, scan, unary, binary, exchange, Document, tree_levels}
+use Rattle.vx_plan_json.specs.Document.{PartForm, one, any, all, hash_part, range_part, ClaimForm, SideForm, column, constant, ConditionForm, OutputForm, FunctionForm, least, greatest, sum, count_rows, AggregateForm, ScanForm, UnaryForm, select, project, distinct, sort, partial_sort, group, partial_group, final_group, limit, BinaryForm, union, join, semi_join, KindForm, hash, range, round, broadcast, gather, concat, Tree, scan, unary, binary, exchange, Document, tree_levels}
 use Rattle.vx_rows_values.specs.Ranges.{RangeForm}
-use Rattle.vx_plan_json.specs.Written.{list_json, names_json, value_json, with_some, with_text, range_json, part_json, with_part, claim_members, with_object, with_claim, with_side, condition_json, renamed_json, output_json, with_call, with_function, aggregate_json, pair_json, with_some_text, mode_text, with_scan, with_lists, with_phase, with_unary, method_text, with_binary, with_kind, node_json, with_flag, document_json}
+use Rattle.vx_plan_json.specs.Written.{list_json, names_json, value_json, with_some, with_text, range_json, part_json, with_part, claim_members, with_object, with_claim, with_side, condition_json, renamed_json, output_json, with_call, with_function, aggregate_json, pair_json, with_some_text, mode_text, with_scan, with_lists, with_phase, with_unary, method_text, kind_text, with_join, with_matches, with_binary, with_kind, node_json, with_flag, document_json}
 
 -- no deeper than n, and without floats
 pub record IsPlain (n : ℕ) (d : Data) : Type 0 where
@@ -179,11 +179,20 @@ with_unary-plain (partial_sort cols) ms q =
 with_unary-plain (group by aggregates) ms q = lists-plain by aggregates _ (with_text-plain 3 (codes "op") (codes "group") ms q)
 with_unary-plain (partial_group by aggregates) ms q = lists-plain by aggregates _ (phase-plain (codes "partial") ms q)
 with_unary-plain final_group ms q = phase-plain (codes "final") ms q
+with_unary-plain (limit rows) ms q = put-plain 3 (codes "rows") (number (unsigned rows)) _ (record { low = omega arith; exact = refl }) (with_text-plain 3 (codes "op") (codes "limit") ms q)
+
+with_join-plain : (method : List ℕ) (on : List (Name × Name)) (ms : Members) → ArePlain 3 ms → ArePlain 3 (with_join method on ms)
+with_join-plain method on ms q =
+    put-plain 3 (codes "on") _ _ (more (omega arith) (list-plain 1 pair_json pair-plain on)) (with_text-plain 3 (codes "method") method _ (with_text-plain 3 (codes "op") (codes "join") ms q))
+
+with_matches-plain : (kind : List ℕ) (on : List (Name × Name)) (conditions : List ConditionForm) (ms : Members) → ArePlain 3 ms → ArePlain 3 (with_matches kind on conditions ms)
+with_matches-plain kind on conditions ms q =
+    with_some-plain 2 (codes "where") condition_json (λ c. more (omega arith) (condition-plain c)) conditions _ (with_text-plain 3 (codes "kind") kind _ (with_join-plain (codes "hash") on ms q))
 
 with_binary-plain : (op : BinaryForm) (ms : Members) → ArePlain 3 ms → ArePlain 3 (with_binary op ms)
 with_binary-plain union ms q = with_text-plain 3 (codes "op") (codes "union") ms q
-with_binary-plain (join merging on) ms q =
-    put-plain 3 (codes "on") _ _ (more (omega arith) (list-plain 1 pair_json pair-plain on)) (with_text-plain 3 (codes "method") (method_text merging) _ (with_text-plain 3 (codes "op") (codes "join") ms q))
+with_binary-plain (join merging on) ms q = with_join-plain (method_text merging) on ms q
+with_binary-plain (semi_join matched on conditions) ms q = with_matches-plain (kind_text matched) on conditions ms q
 
 with_kind-plain : (k : KindForm) (ms : Members) → ArePlain 3 ms → ArePlain 3 (with_kind k ms)
 with_kind-plain (hash size route cols) ms q =

@@ -78,10 +78,13 @@ pub data UnaryForm : Type 0 where
   group : List Name → List AggregateForm → UnaryForm
   partial_group : List Name → List AggregateForm → UnaryForm
   final_group : UnaryForm
+  limit : (rows : ℕ) → UnaryForm
 
+-- a semi join keeps the left rows that some right row matches, an anti join those that none does
 pub data BinaryForm : Type 0 where
   union : BinaryForm
   join : (merging : Bool) → List (Name × Name) → BinaryForm
+  semi_join : (matched : Bool) → List (Name × Name) → List ConditionForm → BinaryForm
 
 pub data KindForm : Type 0 where
   hash : (size route : Name) → List Name → KindForm
@@ -162,6 +165,7 @@ unary_form (op.PartialSort columns) = partial_sort (map string_bytes columns.ite
 unary_form (op.Group by aggregates) = group (map string_bytes by.items) (map aggregate_form aggregates.items)
 unary_form (op.PartialGroup by aggregates) = partial_group (map string_bytes by.items) (map aggregate_form aggregates.items)
 unary_form op.FinalGroup = final_group
+unary_form (op.Limit rows) = limit rows
 
 abbrev pub pair_form : String Global × String Global → Name × Name
 pair_form p = (string_bytes p.0, string_bytes p.1)
@@ -170,6 +174,8 @@ abbrev pub binary_form : NamedBinary → BinaryForm
 binary_form both.Union = union
 binary_form (both.HashJoin pairs) = join false (map pair_form pairs.items)
 binary_form (both.MergeJoin pairs) = join true (map pair_form pairs.items)
+binary_form (both.SemiJoin pairs conditions) = semi_join true (map pair_form pairs.items) (map condition_form conditions.items)
+binary_form (both.AntiJoin pairs conditions) = semi_join false (map pair_form pairs.items) (map condition_form conditions.items)
 
 abbrev pub kind_form : NamedKind → KindForm
 kind_form (kind.Hash size route columns) = hash (string_bytes size) (string_bytes route) (map string_bytes columns.items)

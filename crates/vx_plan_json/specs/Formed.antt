@@ -1,11 +1,11 @@
 -- What reading assures of a plan: no name and no list that must have an entry is empty, and every constant and bound can be held.
-use Rattle.std.specs.Prelude.{Bool, true, not, ◌&&◌, ◌||◌, List, length, nat_le, Option, Some, None}
+use Rattle.std.specs.Prelude.{Bool, true, not, ◌&&◌, ◌||◌, List, length, nat_lt, nat_le, ◌^◌, Option, Some, None}
 use Rattle.std.specs.List.{list_all}
 use Rattle.vx_rows_values.specs.Types.{is_held}
 use Rattle.vx_rows_values.specs.Lists.{is_some_list}
 use Rattle.vx_rows_values.specs.Limits.{max_keys}
 use Rattle.vx_rows_values.specs.Values.{Name}
-use Rattle.vx_plan_json.specs.Document.{PartForm, one, any, all, hash_part, range_part, ClaimForm, SideForm, column, constant, ConditionForm, OutputForm, FunctionForm, least, greatest, sum, count_rows, AggregateForm, ScanForm, UnaryForm, select, project, distinct, sort, partial_sort, group, partial_group, final_group, BinaryForm, union, join, KindForm, hash, range, round, broadcast, gather, concat, Tree, scan, unary, binary, exchange}
+use Rattle.vx_plan_json.specs.Document.{PartForm, one, any, all, hash_part, range_part, ClaimForm, SideForm, column, constant, ConditionForm, OutputForm, FunctionForm, least, greatest, sum, count_rows, AggregateForm, ScanForm, UnaryForm, select, project, distinct, sort, partial_sort, group, partial_group, final_group, limit, BinaryForm, union, join, semi_join, KindForm, hash, range, round, broadcast, gather, concat, Tree, scan, unary, binary, exchange}
 use Rattle.vx_rows_values.specs.Ranges.{RangeForm}
 
 abbrev pub are_names : List Name → Bool
@@ -71,6 +71,7 @@ is_unary_form (partial_sort names) = are_some_names names
 is_unary_form (group by aggregates) = is_group_form by aggregates
 is_unary_form (partial_group by aggregates) = is_group_form by aggregates
 is_unary_form final_group = true
+is_unary_form (limit rows) = nat_lt rows (2 ^ 32)
 
 abbrev pub is_pair_form : Name × Name → Bool
 is_pair_form p = is_some_list p.0 && is_some_list p.1
@@ -78,6 +79,7 @@ is_pair_form p = is_some_list p.0 && is_some_list p.1
 abbrev pub is_binary_form : BinaryForm → Bool
 is_binary_form union = true
 is_binary_form (join merging on) = is_some_list on && list_all is_pair_form on
+is_binary_form (semi_join matched on conditions) = (is_some_list on && list_all is_pair_form on) && list_all is_condition_form conditions
 
 abbrev pub is_kind_form : KindForm → Bool
 is_kind_form (hash size route cols) = is_some_list size && (is_some_list route && are_some_names cols)

@@ -1,12 +1,12 @@
 -- Which operator a JSON object is, by its own members.
-use Rattle.std.specs.Prelude.{ℕ, List, [], ◌∷◌, Bool, true, false, Option, Some, None, option_map, option_and_then, bytes_eq, codes, if◌then◌else◌, map, string_bytes}
+use Rattle.std.specs.Prelude.{ℕ, List, [], ◌∷◌, Bool, true, false, Option, Some, None, option_map, option_and_then, bytes_eq, codes, if◌then◌else◌, map, string_bytes, nat_lt, ◌^◌}
 use Rattle.serde_json.specs.Data.{Data}
-use Rattle.serde_json.specs.Find.{get, as_str}
+use Rattle.serde_json.specs.Find.{get, as_str, as_number, as_u64}
 use Rattle.serde_json.specs.View.{view}
 use Rattle.vx_catalog_json.specs.Look.{has_only}
 use Rattle.vx_plan_json.specs.Look.{name_at, text_at, each_in, some_in, or_default}
 use Rattle.vx_rows_values.specs.Values.{Name}
-use Rattle.vx_plan_json.specs.Document.{ClaimForm, ScanForm, OutputForm, AggregateForm, UnaryForm, select, project, distinct, sort, partial_sort, group, partial_group, final_group, BinaryForm, union, join, KindForm, hash, range, round, broadcast, gather, concat, claim_form, scan_form, unary_form, binary_form, kind_form}
+use Rattle.vx_plan_json.specs.Document.{ClaimForm, ScanForm, ConditionForm, OutputForm, AggregateForm, UnaryForm, select, project, distinct, sort, partial_sort, group, partial_group, final_group, limit, BinaryForm, union, join, semi_join, KindForm, hash, range, round, broadcast, gather, concat, claim_form, scan_form, unary_form, binary_form, kind_form}
 use Rattle.vx_plan_json.specs.Form.{names_in, some_names_in, claimed, condition_in, output_in, aggregate_in, pair_in}
 use Rattle.vx_plan_json.specs.Formed.{has_few_keys}
 use Rattle.vx_plan_json.specs.declared.operators.Own.{Own}
@@ -112,13 +112,25 @@ group_by (Some p) d = option_and_then (λ s. phase_named s d) (as_str p)
 unfoldable pub phased_in : Data → Option UnaryForm
 phased_in d = group_by (get (codes "phase") d) d
 
+abbrev pub if_small : ℕ → Option ℕ
+if_small n = if nat_lt n (2 ^ 32) then Some n else None
+
+-- a number from 0 to 4,294,967,295
+unfoldable pub rows_in : Data → Option ℕ
+rows_in d = option_and_then if_small (option_and_then as_u64 (as_number d))
+
+unfoldable pub limit_in : Data → Option UnaryForm
+limit_in d = if has_only (codes "op" ∷ codes "rows" ∷ codes "input" ∷ codes "claim" ∷ []) d
+    then option_map limit (option_and_then rows_in (get (codes "rows") d)) else None
+
 unfoldable pub unary_in : List ℕ → Data → Option UnaryForm
 unary_in s d =
     if bytes_eq s (codes "select") then select_in d
     else (if bytes_eq s (codes "project") then option_map project (outputs_in d)
     else (if bytes_eq s (codes "distinct") then option_map distinct (outputs_in d)
     else (if bytes_eq s (codes "sort") then sorted_in d
-    else (if bytes_eq s (codes "group") then phased_in d else None))))
+    else (if bytes_eq s (codes "group") then phased_in d
+    else (if bytes_eq s (codes "limit") then limit_in d else None)))))
 
 unfoldable pub unary_own : List ℕ → Data → Option OwnForm
 unary_own s d = do
@@ -130,13 +142,40 @@ unary_own s d = do
 abbrev pub method_named : List ℕ → Option Bool
 method_named s = if bytes_eq s (codes "merge") then Some true else (if bytes_eq s (codes "hash") then Some false else None)
 
-unfoldable pub join_in : Data → Option BinaryForm
-join_in d = if has_only (codes "op" ∷ codes "method" ∷ codes "on" ∷ codes "left" ∷ codes "right" ∷ codes "claim" ∷ []) d
+unfoldable pub inner_in : Data → Option BinaryForm
+inner_in d = if has_only (codes "op" ∷ codes "method" ∷ codes "kind" ∷ codes "on" ∷ codes "left" ∷ codes "right" ∷ codes "claim" ∷ []) d
     then (do
       m ← option_and_then method_named (text_at (codes "method") d)
       on ← option_and_then (some_in pair_in) (get (codes "on") d)
       Some (join m on))
     else None
+
+-- the pairs, and the conditions in `where`, of which there are none where it is left out
+abbrev pub matches_by : (merging : Bool) → Data → Option (List (Name × Name) × List ConditionForm)
+matches_by true d = None
+matches_by false d = do
+  on ← option_and_then (some_in pair_in) (get (codes "on") d)
+  conditions ← or_default [] (some_in condition_in) (get (codes "where") d)
+  Some (on, conditions)
+
+-- on what a semi or an anti join looks for matches; it does not merge
+unfoldable pub matches_in : Data → Option (List (Name × Name) × List ConditionForm)
+matches_in d = if has_only (codes "op" ∷ codes "method" ∷ codes "kind" ∷ codes "on" ∷ codes "where" ∷ codes "left" ∷ codes "right" ∷ codes "claim" ∷ []) d
+    then option_and_then (λ m. matches_by m d) (option_and_then method_named (text_at (codes "method") d)) else None
+
+abbrev pub join_named : List ℕ → Data → Option BinaryForm
+join_named s d =
+    if bytes_eq s (codes "inner") then inner_in d
+    else (if bytes_eq s (codes "semi") then option_map (λ g. semi_join true g.0 g.1) (matches_in d)
+    else (if bytes_eq s (codes "anti") then option_map (λ g. semi_join false g.0 g.1) (matches_in d) else None))
+
+-- a join by what its member `kind` says, if there is one
+abbrev pub join_by : Option Data → Data → Option BinaryForm
+join_by None d = inner_in d
+join_by (Some k) d = option_and_then (λ s. join_named s d) (as_str k)
+
+unfoldable pub join_in : Data → Option BinaryForm
+join_in d = join_by (get (codes "kind") d) d
 
 unfoldable pub union_in : Data → Option BinaryForm
 union_in d = if has_only (codes "op" ∷ codes "left" ∷ codes "right" ∷ codes "claim" ∷ []) d then Some union else None

@@ -1,11 +1,11 @@
 -- The JSON of a plan: each member that a document has, but those that have their defaults.
 use Rattle.std.specs.Prelude.{ℕ, List, [], ◌∷◌, map, Bool, true, false, Option, Some, None, codes, if◌then◌else◌}
-use Rattle.serde_json.specs.Data.{Data, boolean, number, string, array, object, Members, no_members, member, put}
+use Rattle.serde_json.specs.Data.{Data, boolean, number, unsigned, string, array, object, Members, no_members, member, put}
 use Rattle.serde_json.specs.Find.{of_integer}
 use Rattle.serde_json.specs.View.{items_of}
 use Rattle.vx_rows_values.specs.Values.{Val, num, text, Name}
 use Rattle.vx_rows_values.specs.Test as comparison
-use Rattle.vx_plan_json.specs.Document.{PartForm, one, any, all, hash_part, range_part, ClaimForm, SideForm, column, constant, ConditionForm, OutputForm, FunctionForm, least, greatest, sum, count_rows, AggregateForm, ScanForm, UnaryForm, select, project, distinct, sort, partial_sort, group, partial_group, final_group, BinaryForm, union, join, KindForm, hash, range, round, broadcast, gather, concat, Tree, scan, unary, binary, exchange, Document}
+use Rattle.vx_plan_json.specs.Document.{PartForm, one, any, all, hash_part, range_part, ClaimForm, SideForm, column, constant, ConditionForm, OutputForm, FunctionForm, least, greatest, sum, count_rows, AggregateForm, ScanForm, UnaryForm, select, project, distinct, sort, partial_sort, group, partial_group, final_group, limit, BinaryForm, union, join, semi_join, KindForm, hash, range, round, broadcast, gather, concat, Tree, scan, unary, binary, exchange, Document}
 use Rattle.vx_rows_values.specs.Ranges.{RangeForm}
 
 abbrev pub list_json : {X : Type 0} → (X → Data) → List X → Data
@@ -125,6 +125,7 @@ with_unary (partial_sort cols) ms = put (codes "columns") (names_json cols) (wit
 with_unary (group by aggregates) ms = with_lists by aggregates (with_text (codes "op") (codes "group") ms)
 with_unary (partial_group by aggregates) ms = with_lists by aggregates (with_phase (codes "partial") ms)
 with_unary final_group ms = with_phase (codes "final") ms
+with_unary (limit rows) ms = put (codes "rows") (number (unsigned rows)) (with_text (codes "op") (codes "limit") ms)
 
 abbrev pub method_text : Bool → List ℕ
 method_text true = codes "merge"
@@ -133,9 +134,18 @@ method_text false = codes "hash"
 abbrev pub with_join : List ℕ → List (Name × Name) → Members → Members
 with_join method on ms = put (codes "on") (list_json pair_json on) (with_text (codes "method") method (with_text (codes "op") (codes "join") ms))
 
+abbrev pub kind_text : (matched : Bool) → List ℕ
+kind_text true = codes "semi"
+kind_text false = codes "anti"
+
+-- a join of the kind, with its conditions, if there are any
+abbrev pub with_matches : List ℕ → List (Name × Name) → List ConditionForm → Members → Members
+with_matches kind on conditions ms = with_some (codes "where") condition_json conditions (with_text (codes "kind") kind (with_join (codes "hash") on ms))
+
 abbrev pub with_binary : BinaryForm → Members → Members
 with_binary union ms = with_text (codes "op") (codes "union") ms
 with_binary (join merging on) ms = with_join (method_text merging) on ms
+with_binary (semi_join matched on conditions) ms = with_matches (kind_text matched) on conditions ms
 
 abbrev pub with_kind : KindForm → Members → Members
 with_kind (hash size route cols) ms = put (codes "columns") (names_json cols) (with_text (codes "route") route (with_text (codes "size") size (with_text (codes "kind") (codes "hash") ms)))

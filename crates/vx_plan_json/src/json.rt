@@ -64,8 +64,8 @@ pub fn put_list<T: ToJson>(
     put(members, alloc, key, list_json(alloc, items)?)
 }
 
-// The list, unless it is empty.
-fn put_some<T: ToJson>(
+/// A list as a member, unless it is empty.
+pub fn put_some<T: ToJson>(
     members: &mut Members,
     alloc: Global,
     key: &str,

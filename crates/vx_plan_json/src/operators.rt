@@ -1,22 +1,23 @@
 //! What a node's JSON object says of the node itself, read and written.
 
-ghost use Rattle.std.specs.Prelude.{◌≡◌, [], Some, map, string_bytes, codes, OnOk};
+ghost use Rattle.std.specs.Prelude.{◌≡◌, [], true, false, Some, map, option_map, string_bytes, codes, OnOk};
 ghost use Rattle.serde_json.specs.Find.{get, as_str};
 ghost use Rattle.serde_json.specs.View.{view, members_view};
 ghost use Rattle.vx_catalog_json.specs.Look.{Finds, Parses};
-ghost use Rattle.vx_plan_json.specs.Look.{or_default};
-ghost use Rattle.vx_plan_json.specs.Document.{claim_form, output_form, aggregate_form, scan_form, unary_form, pair_form, binary_form, kind_form};
-ghost use Rattle.vx_plan_json.specs.Form.{some_names_in};
-ghost use Rattle.vx_plan_json.specs.Operators.{own_form, mode_named, scan_in, scan_own, select_in, outputs_in, sort_in, partial_sort_in, sort_named, sorted_in, lists_in, group_in, partial_in, final_in, phase_named, phased_in, unary_in, unary_own, method_named, join_in, union_in, binary_own, hash_in, range_in, sized_in, gather_in, concat_in, kind_in, merge_by, exchange_own, own_named, own_in, own_claim, own_under};
-ghost use Rattle.vx_plan_json.specs.Written.{with_text, with_some_text, with_scan, with_lists, with_phase, with_unary, with_join, with_binary, with_kind};
+ghost use Rattle.vx_plan_json.specs.Look.{some_in, or_default};
+ghost use Rattle.vx_plan_json.specs.Document.{semi_join, claim_form, output_form, aggregate_form, scan_form, unary_form, condition_form, pair_form, binary_form, kind_form};
+ghost use Rattle.vx_plan_json.specs.Form.{some_names_in, condition_in};
+ghost use Rattle.vx_plan_json.specs.Operators.{own_form, mode_named, scan_in, scan_own, select_in, outputs_in, sort_in, partial_sort_in, sort_named, sorted_in, lists_in, group_in, partial_in, final_in, phase_named, phased_in, rows_in, limit_in, unary_in, unary_own, method_named, inner_in, matches_by, matches_in, join_named, join_in, union_in, binary_own, hash_in, range_in, sized_in, gather_in, concat_in, kind_in, merge_by, exchange_own, own_named, own_in, own_claim, own_under};
+ghost use Rattle.vx_plan_json.specs.Written.{with_text, with_some_text, with_scan, with_lists, with_phase, with_unary, with_join, with_matches, with_binary, with_kind};
 
 use crate::forms::{AggregateReader, ConditionReader, OutputReader, PairReader, read_node_claim};
-use crate::json::{Members, put_list, put_text};
+use crate::json::{Members, put_list, put_some, put_text};
 use crate::look::{get_text_at, read_name_at};
 use crate::plan::{
-    NamedAggregate, NamedBinary, NamedClaim, NamedKind, NamedOutput, NamedScan, NamedUnary,
+    NamedAggregate, NamedBinary, NamedClaim, NamedCondition, NamedKind, NamedOutput, NamedScan,
+    NamedUnary,
 };
-use serde_json::Value as Json;
+use serde_json::{Value as Json, put};
 use std::alloc::{AllocError, Global};
 use vx_catalog_json::{
     Misread, NameReader, get_member, get_text, read_list, read_some, test_members,
@@ -212,6 +213,24 @@ fn read_group(alloc: Global, value: &Json) -> Result<NamedUnary, Misread>
     }
 }
 
+// A number of 32 bits without sign.
+#[tactic(auto, unfolding(crate::specs::Operators::rows_in))]
+fn read_rows(value: &Json) -> Result<u32, Misread>
+    ensures { Finds (λ n. n) result (rows_in (view value.now)) }
+{
+    let number = value.as_u64().ok_or(Misread::NotOfForm)?;
+    u32::try_from(number).ok().ok_or(Misread::NotOfForm)
+}
+
+#[tactic(auto, unfolding(crate::specs::Operators::limit_in))]
+fn read_limit(value: &Json) -> Result<NamedUnary, Misread>
+    ensures { Finds unary_form result (limit_in (view value.now)) }
+{
+    test_members(value, &["op", "rows", "input", "claim"])?;
+    let rows = read_rows(get_member(value, "rows")?)?;
+    Ok(NamedUnary::Limit(rows))
+}
+
 #[tactic(auto, unfolding(crate::specs::Operators::unary_in))]
 fn read_unary(alloc: Global, op: &str, value: &Json) -> Result<NamedUnary, Misread>
     ensures { Parses unary_form result (unary_in op.now (view value.now)) }
@@ -222,6 +241,7 @@ fn read_unary(alloc: Global, op: &str, value: &Json) -> Result<NamedUnary, Misre
         "distinct" => Ok(NamedUnary::Distinct(read_outputs(alloc, value)?)),
         "sort" => read_sort(alloc, value),
         "group" => read_group(alloc, value),
+        "limit" => read_limit(value),
         _ => Err(Misread::NotOfForm),
     }
 }
@@ -247,11 +267,14 @@ fn parse_method(text: &str) -> Result<bool, Misread>
     }
 }
 
-#[tactic(auto, unfolding(crate::specs::Operators::join_in))]
-fn read_join(alloc: Global, value: &Json) -> Result<NamedBinary, Misread>
-    ensures { Parses binary_form result (join_in (view value.now)) }
+#[tactic(auto, unfolding(crate::specs::Operators::inner_in))]
+fn read_inner_join(alloc: Global, value: &Json) -> Result<NamedBinary, Misread>
+    ensures { Parses binary_form result (inner_in (view value.now)) }
 {
-    test_members(value, &["op", "method", "on", "left", "right", "claim"])?;
+    test_members(
+        value,
+        &["op", "method", "kind", "on", "left", "right", "claim"],
+    )?;
     let merging = parse_method(get_text_at(value, "method")?)?;
     let on = read_some::<PairReader>(alloc, get_member(value, "on")?)?;
     Ok(if merging {
@@ -259,6 +282,83 @@ fn read_join(alloc: Global, value: &Json) -> Result<NamedBinary, Misread>
     } else {
         NamedBinary::HashJoin(on)
     })
+}
+
+// The conditions in `where`; none where it is left out.
+fn read_conditions(alloc: Global, value: &Json) -> Result<Vec<NamedCondition>, Misread>
+    ensures { Parses (λ v. map condition_form v.items) result (or_default [] (some_in condition_in) (get (codes "where") (view value.now))) }
+{
+    match value.get("where") {
+        Some(conditions) => read_some::<ConditionReader>(alloc, conditions),
+        None => Ok(Vec::new(alloc)),
+    }
+}
+
+// The pairs and the conditions of a join that does not merge.
+fn read_pairs_and_conditions(
+    alloc: Global,
+    value: &Json,
+) -> Result<(Vec<(String, String)>, Vec<NamedCondition>), Misread>
+    ensures { Parses (λ g. (map pair_form g.0.items, map condition_form g.1.items)) result (matches_by false (view value.now)) }
+{
+    let on = read_some::<PairReader>(alloc, get_member(value, "on")?)?;
+    let conditions = read_conditions(alloc, value)?;
+    Ok((on, conditions))
+}
+
+// On what a semi or an anti join looks for matches.
+#[tactic(auto, unfolding(crate::specs::Operators::matches_in))]
+fn read_matches(
+    alloc: Global,
+    value: &Json,
+) -> Result<(Vec<(String, String)>, Vec<NamedCondition>), Misread>
+    ensures { Parses (λ g. (map pair_form g.0.items, map condition_form g.1.items)) result (matches_in (view value.now)) }
+{
+    test_members(
+        value,
+        &[
+            "op", "method", "kind", "on", "where", "left", "right", "claim",
+        ],
+    )?;
+    if parse_method(get_text_at(value, "method")?)? {
+        return Err(Misread::NotOfForm);
+    }
+    read_pairs_and_conditions(alloc, value)
+}
+
+fn read_semi_join(alloc: Global, value: &Json) -> Result<NamedBinary, Misread>
+    ensures { Parses binary_form result (option_map (λ g. semi_join true g.0 g.1) (matches_in (view value.now))) }
+{
+    let (on, conditions) = read_matches(alloc, value)?;
+    Ok(NamedBinary::SemiJoin(on, conditions))
+}
+
+fn read_anti_join(alloc: Global, value: &Json) -> Result<NamedBinary, Misread>
+    ensures { Parses binary_form result (option_map (λ g. semi_join false g.0 g.1) (matches_in (view value.now))) }
+{
+    let (on, conditions) = read_matches(alloc, value)?;
+    Ok(NamedBinary::AntiJoin(on, conditions))
+}
+
+fn read_join_of(alloc: Global, kind: &str, value: &Json) -> Result<NamedBinary, Misread>
+    ensures { Parses binary_form result (join_named kind.now (view value.now)) }
+{
+    match kind {
+        "inner" => read_inner_join(alloc, value),
+        "semi" => read_semi_join(alloc, value),
+        "anti" => read_anti_join(alloc, value),
+        _ => Err(Misread::NotOfForm),
+    }
+}
+
+#[tactic(auto, unfolding(crate::specs::Operators::join_in))]
+fn read_join(alloc: Global, value: &Json) -> Result<NamedBinary, Misread>
+    ensures { Parses binary_form result (join_in (view value.now)) }
+{
+    match value.get("kind") {
+        Some(kind) => read_join_of(alloc, get_text(kind)?, value),
+        None => read_inner_join(alloc, value),
+    }
 }
 
 #[tactic(auto, unfolding(crate::specs::Operators::union_in))]
@@ -503,6 +603,10 @@ pub fn put_unary(members: &mut Members, alloc: Global, unary: &NamedUnary) -> Re
             put_lists(members, alloc, by.as_slice(), aggregates.as_slice())
         }
         NamedUnary::FinalGroup => put_phase(members, alloc, "final"),
+        NamedUnary::Limit(rows) => {
+            put_text(members, alloc, "op", "limit")?;
+            put(members, alloc, "rows", Json::from(*rows))
+        }
     }
 }
 
@@ -519,6 +623,21 @@ fn put_join(
     put_list(members, alloc, "on", on)
 }
 
+// A join that looks for matches, with its conditions, if there are any.
+fn put_matches(
+    members: &mut Members,
+    alloc: Global,
+    kind: &str,
+    on: &[(String, String)],
+    conditions: &[NamedCondition],
+) -> Result<(), AllocError>
+    ensures { OnOk result (members_view members.new.entries ≡ with_matches kind.now (map pair_form on.now) (map condition_form conditions.now) (members_view members.old.entries)) }
+{
+    put_join(members, alloc, "hash", on)?;
+    put_text(members, alloc, "kind", kind)?;
+    put_some(members, alloc, "where", conditions)
+}
+
 /// What an operator over two inputs says of itself, as members.
 pub fn put_binary(
     members: &mut Members,
@@ -531,6 +650,12 @@ pub fn put_binary(
         NamedBinary::Union => put_text(members, alloc, "op", "union"),
         NamedBinary::HashJoin(on) => put_join(members, alloc, "hash", on.as_slice()),
         NamedBinary::MergeJoin(on) => put_join(members, alloc, "merge", on.as_slice()),
+        NamedBinary::SemiJoin(on, conditions) => {
+            put_matches(members, alloc, "semi", on.as_slice(), conditions.as_slice())
+        }
+        NamedBinary::AntiJoin(on, conditions) => {
+            put_matches(members, alloc, "anti", on.as_slice(), conditions.as_slice())
+        }
     }
 }
 

@@ -103,6 +103,8 @@ pub enum NamedUnary {
     Group(Vec<String>, Vec<NamedAggregate>),
     PartialGroup(Vec<String>, Vec<NamedAggregate>),
     FinalGroup,
+    /// So many first rows, or all if there are fewer.
+    Limit(u32),
 }
 
 impl Drop for NamedUnary {
@@ -116,15 +118,23 @@ impl Drop for NamedUnary {
             NamedUnary::Group(_, _) => {}
             NamedUnary::PartialGroup(_, _) => {}
             NamedUnary::FinalGroup => {}
+            NamedUnary::Limit(_) => {}
         }
     }
 }
 
 /// An operator over two inputs. A join has pairs (left column, right column).
+///
+/// A right row matches a left row if they agree on all pairs and all conditions hold of the two; there a name that both
+/// inputs have is the left one's.
 pub enum NamedBinary {
     Union,
     HashJoin(Vec<(String, String)>),
     MergeJoin(Vec<(String, String)>),
+    /// The left rows that some right row matches.
+    SemiJoin(Vec<(String, String)>, Vec<NamedCondition>),
+    /// The left rows that no right row matches.
+    AntiJoin(Vec<(String, String)>, Vec<NamedCondition>),
 }
 
 impl Drop for NamedBinary {
@@ -133,6 +143,8 @@ impl Drop for NamedBinary {
             NamedBinary::Union => {}
             NamedBinary::HashJoin(_) => {}
             NamedBinary::MergeJoin(_) => {}
+            NamedBinary::SemiJoin(_, _) => {}
+            NamedBinary::AntiJoin(_, _) => {}
         }
     }
 }

@@ -6,7 +6,7 @@ use Rattle.std.proofs.Common.{◌≡◌, ℕ, suc, ◌+◌, ◌==◌, nat_lt, na
 use Rattle.vx_rows_values.specs.declared.value.ColType.{ColType}
 use Rattle.vx_catalog_relations.specs.Relation.{Relation}
 use Rattle.vx_catalog_relations.specs.Catalog.{relation_at, all_below}
-use Rattle.vx_plan_nodes.specs.Plan.{Claim, Plan, scan, unary, binary, exchange, Aggregate, least, greatest, sum, count_rows, Unary, select, project, distinct, sort, group, plain, partial, final}
+use Rattle.vx_plan_nodes.specs.Plan.{Claim, Plan, scan, unary, binary, exchange, Aggregate, least, greatest, sum, count_rows, Unary, select, project, distinct, sort, group, limit, plain, partial, final}
 use Rattle.vx_plan_nodes.specs.Types.{unary_types, binary_types, types_of, aggregate_type}
 use Rattle.vx_plan_nodes.specs.Typed.{Scope, is_claim, is_unary, is_binary, is_size, is_output, typed, IsTyped}
 use Rattle.vx_plan_nodes.specs.Numbering.{nodes, is_numbered}
@@ -27,6 +27,7 @@ erased-closed i (unary n c op p) = go (is_final op) (erased-closed i p)
     plain_op (distinct cols) below = refl
     plain_op (sort of_parts cols) below = refl
     plain_op (group phase by aggregates) below = refl
+    plain_op (limit m) below = refl
 
     go : (b : Bool) → is_open (erase_from i p) ≡ false → is_open (cond b (erase_from i p) (unary i no_claim (at_once op) (erase_from (i + 1) p))) ≡ false
     go true h = h
@@ -104,6 +105,7 @@ final-types catalog keys puts (unary n c (group partial by aggregates) p) e =
     let A : List Aggregate → Type 0 = λ v. unary_types (group final (first_columns (length by)) v) us ≡ us in
     subst K (sym k) (subst A (sym a) (final-types-of ts by aggregates))
 final-types catalog keys puts (unary n c (group final by aggregates) p) e = absurd (true≢false (sym e))
+final-types catalog keys puts (unary n c (limit m) p) e = absurd (true≢false (sym e))
 final-types catalog keys puts (binary n c op p q) e = absurd (true≢false (sym e))
 final-types catalog keys puts (exchange n c k m p) e = final-types catalog keys puts p e
 
@@ -113,6 +115,7 @@ once-types (project cols) ts = refl
 once-types (distinct cols) ts = refl
 once-types (sort of_parts cols) ts = refl
 once-types (group phase by aggregates) ts = refl
+once-types (limit m) ts = refl
 
 once-unary : (op : Unary) (ts : List ColType) → is_unary ts (at_once op) ≡ is_unary ts op
 once-unary (select cs) ts = refl
@@ -120,6 +123,7 @@ once-unary (project cols) ts = refl
 once-unary (distinct cols) ts = refl
 once-unary (sort of_parts cols) ts = refl
 once-unary (group phase by aggregates) ts = refl
+once-unary (limit m) ts = refl
 
 once-fits : (op : Unary) (p : Plan) → is_open p ≡ false → phase_fits (at_once op) p ≡ true
 once-fits (select cs) p e = ap not e
@@ -127,6 +131,7 @@ once-fits (project cols) p e = ap not e
 once-fits (distinct cols) p e = ap not e
 once-fits (sort of_parts cols) p e = ap not e
 once-fits (group phase by aggregates) p e = ap not e
+once-fits (limit m) p e = ap not e
 
 pub typed-below : (s : Scope) (n : ℕ) (c : Claim) (op : Unary) (p : Plan) → typed s (unary n c op p) ≡ true → (typed s p ≡ true) × (phase_fits op p ≡ true)
 typed-below s n c op p h =
@@ -152,6 +157,7 @@ erased-types s i (unary n c op p) h =
     go (sort of_parts cols) f ih = over (sort of_parts cols) ih
     go (group plain by aggregates) f ih = over (group plain by aggregates) ih
     go (group partial by aggregates) f ih = over (group partial by aggregates) ih
+    go (limit m) f ih = over (limit m) ih
     go (group final by aggregates) f ih = ih i ∙ sym (final-types (relation_at s.catalog) by aggregates p f)
 erased-types s i (binary n c op p q) h =
     let ts : List ColType = types_of (relation_at s.catalog) p in

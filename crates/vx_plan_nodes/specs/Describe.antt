@@ -1,16 +1,17 @@
 -- What an operator does with columns and rows, whatever its inputs claim.
 use Rattle.std.specs.Prelude.{ℕ, ◌+◌, ◌-◌, ◌==◌, nat_lt, nat_le, cond, List, length, position, Option, Some, None, slice_get}
-use Rattle.vx_plan_nodes.specs.Plan.{Unary, select, project, distinct, sort, group, plain, partial, final, Binary, union, join}
+use Rattle.vx_plan_nodes.specs.Plan.{Unary, select, project, distinct, sort, group, limit, plain, partial, final, Binary, union, join, semi_join}
 use Rattle.vx_rows_values.specs.Limits.{max_columns}
 
 -- ---- copies of columns
 
--- how columns of an output are copies of those of an input: each of its own, those that are kept, or those of a left or of a right input, the left one so wide
+-- how columns of an output are copies of those of an input: each of its own, those that are kept, those of a left or of a right input, the left one so wide, or none
 pub data Copying : Type 0 where
   whole_rows : Copying
   columns_kept : List ℕ → Copying
   left_of : ℕ → Copying
   right_of : ℕ → Copying
+  no_columns : Copying
 
 -- the input column that an output column is a copy of
 abbrev pub source : Copying → ℕ → Option ℕ
@@ -18,6 +19,7 @@ source whole_rows c = Some c
 source (columns_kept cols) c = slice_get cols c
 source (left_of w) c = cond (nat_lt c w) (Some c) None
 source (right_of w) c = cond (nat_le w c) (Some (c - w)) None
+source no_columns c = None
 
 -- where an input column first stands in the output. An output has no more than 64 columns
 abbrev pub place : Copying → ℕ → Option ℕ
@@ -25,6 +27,7 @@ place whole_rows c = Some c
 place (columns_kept cols) c = position (λ k. c == k) cols
 place (left_of w) c = cond (nat_lt c w) (Some c) None
 place (right_of w) c = cond (nat_lt c max_columns) (Some (w + c)) None
+place no_columns c = None
 
 -- ---- operators over one input
 
@@ -55,17 +58,25 @@ described (sort of_parts cols) = record { copying = whole_rows; meets = None; or
 described (group plain by aggregates) = record { copying = columns_kept by; meets = Some by; order = order_kept; keys = key_of_first (length by) }
 described (group partial by aggregates) = record { copying = columns_kept by; meets = None; order = order_kept; keys = no_key }
 described (group final by aggregates) = record { copying = columns_kept by; meets = Some by; order = order_kept; keys = key_of_first (length by) }
+described (limit n) = record { copying = whole_rows; meets = None; order = order_kept; keys = cond (nat_le n 1) (key_of_first 0) keys_kept }
 
 -- ---- operators over two inputs
 
--- an operator over two inputs: how it copies the columns of the left and of the right one, and the pairs of a left and a right column on which rows that agree
--- have to meet; no pairs where the rows of both inputs stand side by side
+-- how the rows of two inputs come together: side by side; or rows that agree on pairs of a left and a right column have to meet, and each two that do make a row,
+-- or they say which left rows are kept
+pub data Meeting : Type 0 where
+  side_by_side : Meeting
+  paired_on : List (ℕ × ℕ) → Meeting
+  matched_on : List (ℕ × ℕ) → Meeting
+
+-- an operator over two inputs: how it copies the columns of the left and of the right one, and how their rows come together
 pub record DescribedBoth : Type 0 where
   pub left : Copying
   pub right : Copying
-  pub pairs : Option (List (ℕ × ℕ))
+  pub meeting : Meeting
 
 -- over a left input of this width
 abbrev pub described_both : ℕ → Binary → DescribedBoth
-described_both w union = record { left = whole_rows; right = whole_rows; pairs = None }
-described_both w (join m on) = record { left = left_of w; right = right_of w; pairs = Some on }
+described_both w union = record { left = whole_rows; right = whole_rows; meeting = side_by_side }
+described_both w (join m on) = record { left = left_of w; right = right_of w; meeting = paired_on on }
+described_both w (semi_join matched on conditions) = record { left = whole_rows; right = no_columns; meeting = matched_on on }

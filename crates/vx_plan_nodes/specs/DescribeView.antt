@@ -1,6 +1,6 @@
 -- The descriptions of operators, as the program holds them.
 use Rattle.std.specs.Prelude.{ℕ, List, map, length, option_map}
-use Rattle.vx_plan_nodes.specs.Describe.{Copying, whole_rows, columns_kept, left_of, right_of, OrderAfter, order_kept, sorted_on, KeysAfter, keys_kept, key_of_first, no_key, Described, DescribedBoth}
+use Rattle.vx_plan_nodes.specs.Describe.{Copying, whole_rows, columns_kept, left_of, right_of, no_columns, OrderAfter, order_kept, sorted_on, KeysAfter, keys_kept, key_of_first, no_key, Described, Meeting, side_by_side, paired_on, matched_on, DescribedBoth}
 use Rattle.vx_plan_nodes.specs.declared.describe.KeptColumns as rust_kept
 use Rattle.vx_plan_nodes.specs.declared.describe.KeptColumns.TheVariants as kept
 use Rattle.vx_plan_nodes.specs.declared.describe.Copying as rust_copying
@@ -10,6 +10,8 @@ use Rattle.vx_plan_nodes.specs.declared.describe.OrderAfter.TheVariants as after
 use Rattle.vx_plan_nodes.specs.declared.describe.KeysAfter as rust_keys
 use Rattle.vx_plan_nodes.specs.declared.describe.KeysAfter.TheVariants as keyed
 use Rattle.vx_plan_nodes.specs.declared.describe.Described as rust_described
+use Rattle.vx_plan_nodes.specs.declared.describe.Meeting as rust_meeting
+use Rattle.vx_plan_nodes.specs.declared.describe.Meeting.TheVariants as meets
 use Rattle.vx_plan_nodes.specs.declared.describe.DescribedBoth as rust_both
 
 -- the columns that are kept
@@ -22,6 +24,7 @@ copying_of copies.WholeRows = whole_rows
 copying_of (copies.Kept k) = columns_kept (kept_columns k)
 copying_of (copies.Left types) = left_of (length types.now)
 copying_of (copies.Right types) = right_of (length types.now)
+copying_of copies.NoColumns = no_columns
 
 abbrev pub order_after_of : rust_order.OrderAfter → OrderAfter
 order_after_of after.Kept = order_kept
@@ -35,5 +38,10 @@ keys_after_of keyed.NoKey = no_key
 abbrev pub described_of : rust_described.Described → Described
 described_of d = record { copying = copying_of d.copying; meets = option_map kept_columns d.meets; order = order_after_of d.order; keys = keys_after_of d.keys }
 
+abbrev pub meeting_of : rust_meeting.Meeting → Meeting
+meeting_of meets.SideBySide = side_by_side
+meeting_of (meets.PairedOn on) = paired_on on.now
+meeting_of (meets.MatchedOn on) = matched_on on.now
+
 abbrev pub described_both_of : rust_both.DescribedBoth → DescribedBoth
-described_both_of d = record { left = copying_of d.left; right = copying_of d.right; pairs = option_map (λ on. on.now) d.pairs }
+described_both_of d = record { left = copying_of d.left; right = copying_of d.right; meeting = meeting_of d.meeting }

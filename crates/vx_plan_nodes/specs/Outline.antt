@@ -3,7 +3,7 @@ use Rattle.std.specs.Prelude.{ℕ, List, [], map, Bool, true, false, string_byte
 use Rattle.std.specs.Arc.{arc_value}
 use Rattle.vx_rows_values.specs.declared.value.ColType.{ColType}
 use Rattle.vx_rows_values.specs.ValueView.{val_of, test_of}
-use Rattle.vx_plan_nodes.specs.Plan.{Size, one_worker, group_of, Route, by_hash, by_range, Part, one, any, all, routed, Claim, Side, column, constant, Condition, Aggregate, least, greatest, sum, count_rows, Unary, select, project, distinct, sort, group, Phase, plain, partial, final, Binary, union, join, ExchangeKind, route_to, round, broadcast, gather, concat, Plan}
+use Rattle.vx_plan_nodes.specs.Plan.{Size, one_worker, group_of, Route, by_hash, by_range, Part, one, any, all, routed, Claim, Side, column, constant, Condition, Aggregate, least, greatest, sum, count_rows, Unary, select, project, distinct, sort, group, limit, Phase, plain, partial, final, Binary, union, join, semi_join, ExchangeKind, route_to, round, broadcast, gather, concat, Plan}
 use Rattle.vx_plan_nodes.specs.Plan as plan
 use Rattle.vx_rows_values.specs.Values.{Name}
 use Rattle.vx_plan_nodes.specs.declared.typed.Size as rust_size
@@ -121,6 +121,7 @@ unary_of (op.Project kept) = project (map (λ k. k.column) kept.items)
 unary_of (op.Distinct kept) = distinct (map (λ k. k.column) kept.items)
 unary_of (op.Sort phase cols) = sort (is_of_parts phase) cols.items
 unary_of (op.Group phase by aggregates) = group (phase_of phase) by.items (map aggregate_of aggregates.items)
+unary_of (op.Limit n) = limit n
 
 -- which kept columns have a new name
 abbrev pub renamed_of : rust_unary.Unary → List Bool
@@ -129,11 +130,14 @@ renamed_of (op.Project kept) = map (λ k. k.renamed) kept.items
 renamed_of (op.Distinct kept) = map (λ k. k.renamed) kept.items
 renamed_of (op.Sort phase cols) = []
 renamed_of (op.Group phase by aggregates) = []
+renamed_of (op.Limit n) = []
 
 abbrev pub binary_of : rust_binary.Binary → Binary
 binary_of both.Union = union
 binary_of (both.HashJoin on) = join false on.items
 binary_of (both.MergeJoin on) = join true on.items
+binary_of (both.SemiJoin on conditions) = semi_join true on.items (map condition_of conditions.items)
+binary_of (both.AntiJoin on conditions) = semi_join false on.items (map condition_of conditions.items)
 
 abbrev pub kind_of : rust_kind.ExchangeKind → ExchangeKind
 kind_of (kind.Route z r cols) = route_to (size_of z) (route_of r) cols.items

@@ -51,18 +51,22 @@ pub data Phase : Type 0 where
   final : Phase
 
 -- operators over one input; of a projection, a distinct and a group the columns are those of the input that are kept.
--- A sort of parts stands between a partial grouping and its final one. A final grouping has the columns and the aggregates that it takes from its partial's output
+-- A sort of parts stands between a partial grouping and its final one. A final grouping has the columns and the aggregates that it takes from its partial's output.
+-- A limit takes so many first rows
 pub data Unary : Type 0 where
   select : List Condition → Unary
   project : List ℕ → Unary
   distinct : List ℕ → Unary
   sort : (of_parts : Bool) → List ℕ → Unary
   group : Phase → List ℕ → List Aggregate → Unary
+  limit : ℕ → Unary
 
--- operators over two inputs; a join by the pairs (left column, right column), by merging or by hashing
+-- operators over two inputs; a join by the pairs (left column, right column), by merging or by hashing; and the left rows that some right row matches (a semi join),
+-- or those that none does (an anti join): it agrees on the pairs, and the conditions hold of the left columns and then the right ones
 pub data Binary : Type 0 where
   union : Binary
   join : (merging : Bool) → List (ℕ × ℕ) → Binary
+  semi_join : (matched : Bool) → List (ℕ × ℕ) → List Condition → Binary
 
 -- how an exchange sends, and to how many; a gather shuffles what it gets, a concat takes the producers in the order of their numbers
 pub data ExchangeKind : Type 0 where

@@ -1,5 +1,5 @@
 -- What a plan means without workers (relational algebra over lists): its exchanges give their input.
-use Rattle.std.specs.Prelude.{ℕ, ℤ, pos, negsuc, ◌-ℤ◌, suc, Bool, true, cond, not, List, [], ◌∷◌, ◌++◌, map, filter, flat_map, Option, Some, None, ◌<◌, ◌⊎◌, length, ◌≡◌, ◌≤◌, ◌==◌, false}
+use Rattle.std.specs.Prelude.{ℕ, ℤ, pos, negsuc, ◌-ℤ◌, suc, Bool, true, cond, not, ◌&&◌, List, [], ◌∷◌, ◌++◌, map, filter, flat_map, take, Option, Some, None, ◌<◌, ◌⊎◌, length, ◌≡◌, ◌≤◌, ◌==◌, false}
 use Rattle.std.specs.List.{list_all, list_any}
 use Rattle.std.specs.declared.cmp.Ordering.{Ordering}
 use Rattle.std.specs.Ordering.{is_eq, is_ne, is_lt, is_le, is_gt, is_ge}
@@ -7,7 +7,7 @@ use Rattle.vx_rows_values.specs.Values.{Val, num, text, Row, val_cmp, row_eq, va
 use Rattle.vx_rows_values.specs.Order.{sort_on}
 use Rattle.vx_rows_values.specs.Types.{fits_64}
 use Rattle.vx_rows_values.specs.Bags.{total, count}
-use Rattle.vx_plan_nodes.specs.Plan.{Side, column, constant, Test, equal, unequal, below, at_most, above, at_least, Condition, Aggregate, least, greatest, sum, count_rows, Unary, select, project, distinct, sort, group, Binary, union, join, Plan, scan, unary, binary, exchange, partial}
+use Rattle.vx_plan_nodes.specs.Plan.{Side, column, constant, Test, equal, unequal, below, at_most, above, at_least, Condition, Aggregate, least, greatest, sum, count_rows, Unary, select, project, distinct, sort, group, limit, Binary, union, join, semi_join, Plan, scan, unary, binary, exchange, partial}
 
 -- the value of a condition's right side
 abbrev pub side : Side → Row → Val
@@ -43,6 +43,15 @@ joined_with on rs l = map (λ r. l ++ r) (filter (matches on l) rs)
 -- for each left row in order, each right row in order that agrees with it on all pairs: left columns, then right
 abbrev pub join_rows : List (ℕ × ℕ) → List Row → List Row → List Row
 join_rows on ls rs = flat_map (joined_with on rs) ls
+
+-- some right row matches the left one: it agrees on all pairs, and the conditions hold of both rows side by side
+abbrev pub is_matched : List (ℕ × ℕ) → List Condition → List Row → Row → Bool
+is_matched on conditions rs l = list_any (λ r. matches on l r && passes conditions (l ++ r)) rs
+
+-- the left rows in order that are matched, or those that are not
+abbrev pub matched_rows : (matched : Bool) → List (ℕ × ℕ) → List Condition → List Row → List Row → List Row
+matched_rows true on conditions ls rs = filter (is_matched on conditions rs) ls
+matched_rows false on conditions ls rs = filter (λ l. not (is_matched on conditions rs l)) ls
 
 -- a number's part above zero and its part below zero
 abbrev pub above_zero : Val → ℕ
@@ -126,11 +135,13 @@ unary_rows (project cols) xs = Some (map (pick cols) xs)
 unary_rows (distinct cols) xs = Some (firsts (map (pick cols) xs))
 unary_rows (sort of_parts cols) xs = Some (sort_on cols xs)
 unary_rows (group phase by aggregates) xs = group_rows by aggregates xs
+unary_rows (limit n) xs = Some (take n xs)
 
 -- the list that an operator makes of the lists of its left and its right input
 abbrev pub binary_rows : Binary → List Row → List Row → List Row
 binary_rows union ls rs = ls ++ rs
 binary_rows (join m on) ls rs = join_rows on ls rs
+binary_rows (semi_join matched on conditions) ls rs = matched_rows matched on conditions ls rs
 
 -- the sum of this column
 abbrev pub is_sum_of : ℕ → Aggregate → Bool

@@ -1,6 +1,6 @@
 -- Typed plans: each node names what there is, and compares, sums and routes what has the type for it.
 use Rattle.vx_rows_values.specs.Lists.{is_some_list}
-use Rattle.std.specs.Prelude.{◌≡◌, ℕ, ◌==◌, nat_lt, nat_le, Bool, true, false, not, ◌&&◌, ◌||◌, List, [], ◌∷◌, length, slice_index_or}
+use Rattle.std.specs.Prelude.{◌≡◌, ℕ, ◌==◌, nat_lt, nat_le, Bool, true, false, not, ◌&&◌, ◌||◌, List, [], ◌∷◌, ◌++◌, length, slice_index_or}
 use Rattle.std.specs.List.{list_all, list_any}
 use Rattle.std.specs.Ordering.{is_lt}
 use Rattle.vx_rows_values.specs.declared.value.ColType.{ColType}
@@ -9,7 +9,7 @@ use Rattle.vx_rows_values.specs.Values.{Val, val_cmp}
 use Rattle.vx_rows_values.specs.Types.{type_of, type_at, is_held}
 use Rattle.vx_catalog_relations.specs.Relation.{Relation}
 use Rattle.vx_catalog_relations.specs.Catalog.{relation_at, all_below, are_distinct}
-use Rattle.vx_plan_nodes.specs.Plan.{Size, one_worker, group_of, Route, by_hash, by_range, Part, routed, Claim, Side, column, constant, Condition, Aggregate, least, greatest, sum, count_rows, Unary, select, project, distinct, sort, group, Binary, union, join, ExchangeKind, route_to, round, broadcast, gather, Plan, scan, unary, binary, exchange, concat}
+use Rattle.vx_plan_nodes.specs.Plan.{Size, one_worker, group_of, Route, by_hash, by_range, Part, routed, Claim, Side, column, constant, Condition, Aggregate, least, greatest, sum, count_rows, Unary, select, project, distinct, sort, group, limit, Binary, union, join, semi_join, ExchangeKind, route_to, round, broadcast, gather, Plan, scan, unary, binary, exchange, concat}
 use Rattle.vx_plan_nodes.specs.Types.{types_of}
 use Rattle.vx_plan_nodes.specs.Numbering.{is_numbered}
 use Rattle.vx_plan_nodes.specs.Phases.{phase_fits, both_closed, is_open}
@@ -102,6 +102,7 @@ is_unary types (distinct cols) = is_some_list cols && all_below (length types) c
 is_unary types (sort of_parts cols) = is_some_list cols && are_columns (length types) cols
 is_unary types (group phase by aggregates) =
     (is_some_list by || is_some_list aggregates) && (are_columns (length types) by && list_all (is_aggregate types) aggregates)
+is_unary types (limit n) = true
 
 -- the two columns of a pair have one type
 abbrev pub is_pair : List ColType → List ColType → ℕ × ℕ → Bool
@@ -112,10 +113,12 @@ abbrev pub are_distinct_pairs : List (ℕ × ℕ) → Bool
 are_distinct_pairs [] = true
 are_distinct_pairs (x ∷ xs) = not (list_any (λ y. (x.0 == y.0) && (x.1 == y.1)) xs) && are_distinct_pairs xs
 
--- a union of equal types; a join on some pairs, none twice
+-- a union of equal types; a join on some pairs, none twice, and of a semi or an anti join conditions on the left columns and then the right ones
 abbrev pub is_binary : List ColType → List ColType → Binary → Bool
 is_binary ts us union = types_eq ts us
 is_binary ts us (join m on) = is_some_list on && (list_all (is_pair ts us) on && are_distinct_pairs on)
+is_binary ts us (semi_join matched on conditions) =
+    is_some_list on && (list_all (is_pair ts us) on && (are_distinct_pairs on && list_all (is_condition (ts ++ us)) conditions))
 
 -- a size name and a route there are
 abbrev pub is_kind : Scope → List ColType → ExchangeKind → Bool

@@ -6,7 +6,7 @@ use Rattle.vx_rows_values.specs.declared.value.ColType.TheVariants.{Int}
 use Rattle.vx_rows_values.specs.Types.{type_at}
 use Rattle.vx_catalog_relations.specs.Relation.{Relation}
 use Rattle.vx_catalog_relations.specs.Catalog.{all_below}
-use Rattle.vx_plan_nodes.specs.Plan.{Part, routed, Claim, Aggregate, least, greatest, sum, count_rows, Unary, select, project, distinct, sort, group, Binary, union, join, Plan, scan, unary, binary, exchange}
+use Rattle.vx_plan_nodes.specs.Plan.{Part, routed, Claim, Aggregate, least, greatest, sum, count_rows, Unary, select, project, distinct, sort, group, limit, Binary, union, join, semi_join, Plan, scan, unary, binary, exchange}
 use Rattle.vx_plan_nodes.specs.Phases.{phase_fits, both_closed}
 
 -- a least and a greatest value have the column's type, a sum and a count are numbers
@@ -23,11 +23,13 @@ unary_types (project cols) types = map (type_at types) cols
 unary_types (distinct cols) types = map (type_at types) cols
 unary_types (sort of_parts cols) types = types
 unary_types (group phase by aggregates) types = map (type_at types) by ++ map (aggregate_type types) aggregates
+unary_types (limit n) types = types
 
 -- of an operator over two inputs
 abbrev pub binary_types : Binary → List ColType → List ColType → List ColType
 binary_types union ts us = ts
 binary_types (join m on) ts us = ts ++ us
+binary_types (semi_join matched on conditions) ts us = ts
 
 -- the types of the output columns
 abbrev pub types_of : (ℕ → Relation) → Plan → List ColType
@@ -43,10 +45,12 @@ unary_width (project cols) w = length cols
 unary_width (distinct cols) w = length cols
 unary_width (sort of_parts cols) w = w
 unary_width (group phase by aggregates) w = length by + length aggregates
+unary_width (limit n) w = w
 
 abbrev pub binary_width : Binary → ℕ → ℕ → ℕ
 binary_width union v w = v
 binary_width (join m on) v w = v + w
+binary_width (semi_join matched on conditions) v w = v
 
 -- the number of output columns: the law `typed_plan_is_well_formed` shows that it is the number of their types
 abbrev pub width : (ℕ → Relation) → Plan → ℕ
@@ -73,4 +77,6 @@ well_formed catalog (binary n c union p q) =
     well_formed catalog p && (well_formed catalog q && (both_closed p q && ((width catalog p == width catalog q) && names_columns (width catalog p) c)))
 well_formed catalog (binary n c (join m on) p q) =
     well_formed catalog p && (well_formed catalog q && (both_closed p q && names_columns (width catalog p + width catalog q) c))
+well_formed catalog (binary n c (semi_join matched on conditions) p q) =
+    well_formed catalog p && (well_formed catalog q && (both_closed p q && names_columns (width catalog p) c))
 well_formed catalog (exchange n c k m p) = well_formed catalog p && names_columns (width catalog p) c

@@ -1,9 +1,9 @@
 //! What an operator does with columns and rows, whatever its inputs claim.
 
-ghost use Rattle.std.specs.Prelude.{◌≡◌, ◌==◌, length, position, slice_get};
+ghost use Rattle.std.specs.Prelude.{◌≡◌, ◌==◌, nat_le, cond, length, position, slice_get};
 ghost use Rattle.std.specs.List.{list_any};
-ghost use Rattle.vx_plan_nodes.specs.Describe.{place, right_of, described, described_both};
-ghost use Rattle.vx_plan_nodes.specs.DescribeView.{described_of, described_both_of};
+ghost use Rattle.vx_plan_nodes.specs.Describe.{place, right_of, key_of_first, keys_kept, described, described_both};
+ghost use Rattle.vx_plan_nodes.specs.DescribeView.{keys_after_of, described_of, described_both_of};
 ghost use Rattle.vx_plan_nodes.specs.Outline.{unary_of, binary_of};
 
 use crate::typed::{Binary, Phase, Projected, SortPhase, Unary};
@@ -30,6 +30,8 @@ pub enum Copying<'p> {
     Left(&'p [ColType]),
     /// Those behind a left input's columns, which have these types, are those of a right input.
     Right(&'p [ColType]),
+    /// None is a copy.
+    NoColumns,
 }
 
 /// What becomes of the order of the rows.
@@ -59,13 +61,23 @@ pub struct Described<'p> {
     pub keys: KeysAfter,
 }
 
+/// How the rows of two inputs come together.
+#[derive(Clone, Copy)]
+pub enum Meeting<'p> {
+    /// Side by side.
+    SideBySide,
+    /// Rows that agree on these pairs have to meet, and each two of them make a row.
+    PairedOn(&'p [(usize, usize)]),
+    /// Rows that agree on these pairs have to meet, and say which rows of the left input are kept.
+    MatchedOn(&'p [(usize, usize)]),
+}
+
 /// What an operator over two inputs does.
 #[derive(Clone, Copy)]
 pub struct DescribedBoth<'p> {
     pub left: Copying<'p>,
     pub right: Copying<'p>,
-    /// Rows that agree on these pairs have to meet; none where the rows of both inputs stand side by side.
-    pub pairs: Option<&'p [(usize, usize)]>,
+    pub meeting: Meeting<'p>,
 }
 
 // Where the first of the outputs stands that keeps the column.
@@ -156,6 +168,7 @@ impl Copying<'_> {
             Copying::Kept(kept) => kept.get(column),
             Copying::Left(types) => (column < types.len()).then_some(column),
             Copying::Right(types) => column.checked_sub(types.len()),
+            Copying::NoColumns => None,
         }
     }
 
@@ -168,8 +181,19 @@ impl Copying<'_> {
             Copying::Kept(kept) => kept.position(column),
             Copying::Left(types) => (column < types.len()).then_some(column),
             Copying::Right(types) => place_behind(types, column),
+            Copying::NoColumns => None,
         }
     }
+}
+
+// The keys of so many first rows: of one row at most, no column is a key.
+fn keys_of_first_rows(rows: u32) -> KeysAfter
+    ensures { keys_after_of result ≡ cond (nat_le rows 1) (key_of_first 0) keys_kept }
+{
+    if rows <= 1 {
+        return KeysAfter::First(0);
+    }
+    KeysAfter::Kept
 }
 
 impl Unary {
@@ -220,6 +244,12 @@ impl Unary {
                 order: OrderAfter::Kept,
                 keys: KeysAfter::NoKey,
             },
+            Unary::Limit(rows) => Described {
+                copying: Copying::WholeRows,
+                meets: None,
+                order: OrderAfter::Kept,
+                keys: keys_of_first_rows(*rows),
+            },
         }
     }
 }
@@ -233,12 +263,17 @@ impl Binary {
             Binary::Union => DescribedBoth {
                 left: Copying::WholeRows,
                 right: Copying::WholeRows,
-                pairs: None,
+                meeting: Meeting::SideBySide,
             },
             Binary::HashJoin(on) | Binary::MergeJoin(on) => DescribedBoth {
                 left: Copying::Left(left),
                 right: Copying::Right(left),
-                pairs: Some(on.as_slice()),
+                meeting: Meeting::PairedOn(on.as_slice()),
+            },
+            Binary::SemiJoin(on, _) | Binary::AntiJoin(on, _) => DescribedBoth {
+                left: Copying::WholeRows,
+                right: Copying::NoColumns,
+                meeting: Meeting::MatchedOn(on.as_slice()),
             },
         }
     }

@@ -12,7 +12,9 @@ mod typed;
 mod typed_plan;
 
 pub use conditions::copied_conditions;
-pub use describe::{Copying, Described, DescribedBoth, KeptColumns, KeysAfter, OrderAfter};
+pub use describe::{
+    Copying, Described, DescribedBoth, KeptColumns, KeysAfter, Meeting, OrderAfter,
+};
 pub use name::{Name, find_output_name, name_texts, share_names};
 pub use outputs::output_types;
 pub use parts::{copied_part, kind_part, routed_part};

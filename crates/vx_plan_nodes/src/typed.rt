@@ -174,6 +174,8 @@ pub enum Unary {
     Sort(SortPhase, Vec<usize>),
     /// For each key the values in these columns, and then the aggregates of its rows.
     Group(Phase, Vec<usize>, Vec<Aggregate>),
+    /// So many first rows, or all if there are fewer.
+    Limit(u32),
 }
 
 impl Drop for Unary {
@@ -184,15 +186,23 @@ impl Drop for Unary {
             Unary::Distinct(_) => {}
             Unary::Sort(_, _) => {}
             Unary::Group(_, _, _) => {}
+            Unary::Limit(_) => {}
         }
     }
 }
 
 /// An operator over two inputs. A join has pairs (left column, right column).
+///
+/// A right row matches a left row if they agree on all pairs and all conditions hold of the left row's columns and then the
+/// right row's.
 pub enum Binary {
     Union,
     HashJoin(Vec<(usize, usize)>),
     MergeJoin(Vec<(usize, usize)>),
+    /// The left rows that some right row matches.
+    SemiJoin(Vec<(usize, usize)>, Vec<Condition>),
+    /// The left rows that no right row matches.
+    AntiJoin(Vec<(usize, usize)>, Vec<Condition>),
 }
 
 impl Drop for Binary {
@@ -201,6 +211,8 @@ impl Drop for Binary {
             Binary::Union => {}
             Binary::HashJoin(_) => {}
             Binary::MergeJoin(_) => {}
+            Binary::SemiJoin(_, _) => {}
+            Binary::AntiJoin(_, _) => {}
         }
     }
 }

@@ -1,7 +1,7 @@
 -- What is evaluated is the serial meaning, but where a grouping is too long.
 use Rattle.std.proofs.Common.{◌≡◌, ℕ, ◌<◌, nat_lt, Bool, true, false, cond, List, length, None, refl, ap, subst, ltb-true, ◌⊎◌, inl, inr}
 use Rattle.vx_rows_values.specs.Values.{Row}
-use Rattle.vx_plan_nodes.specs.Plan.{Aggregate, Unary, select, project, distinct, sort, group, Binary, Plan, scan, unary, binary, exchange}
+use Rattle.vx_plan_nodes.specs.Plan.{Aggregate, Unary, select, project, distinct, sort, group, limit, Binary, Plan, scan, unary, binary, exchange}
 use Rattle.vx_plan_nodes.specs.Serial.{group_rows, unary_rows, binary_rows, SerialResult, rows, overflow, or_overflow, after, serial, IsTooLong, HasTooLong}
 use Rattle.vx_serial.specs.Evaluated.{evaluated_rows, evaluated}
 
@@ -25,6 +25,7 @@ one-operator T n (select cs) xs = refl
 one-operator T n (project cols) xs = refl
 one-operator T n (distinct cols) xs = refl
 one-operator T n (sort of_parts cols) xs = refl
+one-operator T n (limit m) xs = refl
 one-operator T n (group phase by aggregates) xs = one-group T n by aggregates xs (nat_lt 4611686018427387904 (length xs)) refl
 
 above-one : (T : Type 0) (n : ℕ) (op : Unary) (e o : SerialResult) → Agrees T e o

@@ -1,13 +1,14 @@
 //! What one operator makes of the rows of its inputs.
 
-ghost use Rattle.std.specs.Prelude.{◌≡◌, ◌++◌, true, Some, length, map, IfOk, IfErr};
+ghost use Rattle.std.specs.Prelude.{◌≡◌, ◌++◌, true, Some, length, map, take, IfOk, IfErr};
 ghost use Rattle.std.specs.List.{list_all};
 ghost use Rattle.vx_rows_values.specs.Types.{type_at};
 ghost use Rattle.vx_rows_values.specs.Values.{pick};
 ghost use Rattle.vx_rows.specs.View.{AreColumns};
+ghost use Rattle.vx_plan_nodes.specs.Conditions.{conditions_of};
 ghost use Rattle.vx_plan_nodes.specs.Outline.{aggregate_of, unary_of, binary_of};
 ghost use Rattle.vx_plan_nodes.specs.Plan.{group, plain};
-ghost use Rattle.vx_plan_nodes.specs.Serial.{binary_rows, firsts, join_rows};
+ghost use Rattle.vx_plan_nodes.specs.Serial.{binary_rows, firsts, join_rows, matched_rows};
 ghost use Rattle.vx_plan_nodes.specs.Typed.{is_unary, is_binary, is_pair};
 ghost use Rattle.vx_plan_nodes.specs.Types.{unary_types, binary_types};
 ghost use Rattle.vx_serial.specs.Evaluated.{evaluated_rows};
@@ -16,10 +17,10 @@ ghost use Rattle.vx_serial.specs.Results.{IsFaultAt};
 use std::alloc::{AllocError, Global};
 use vx_exec_setup::EvalFault;
 use vx_match_grouping::{GroupFault, grouped};
-use vx_match_join::hash_join;
+use vx_match_join::{Matching, hash_join, semi_join};
 use vx_match_keys::Seen;
 use vx_ops_kernels::{chosen, kept_columns, left_columns, right_columns, sorted_chunks};
-use vx_plan_nodes::{Aggregate, Binary, Unary};
+use vx_plan_nodes::{Aggregate, Binary, Condition, Unary, copied_conditions};
 use vx_rows_values::KeySeed;
 use vx_rows_views::Rows;
 
@@ -39,6 +40,15 @@ fn distinct(
 {
     let mut seen = Seen::new(alloc, seed);
     seen.keep_new(rows, columns)
+}
+
+// So many first rows, or all if there are fewer.
+fn first_rows(alloc: Global, rows: &Rows, count: u32) -> Result<Rows, AllocError>
+    ensures types { IfOk result (λ r. r.types ≡ rows.now.types) }
+    ensures rows { IfOk result (λ r. r.rows ≡ take count rows.now.rows) }
+{
+    let end = (count as usize).min(rows.len());
+    rows.slice(alloc, 0, end)
 }
 
 // The groups of rows, at the node with this number.
@@ -95,6 +105,7 @@ pub fn unary_rows(
             let by = by.as_slice();
             groups_of(alloc, seed, number, rows, by, aggregates.as_slice())
         }
+        Unary::Limit(count) => Ok(first_rows(alloc, rows, *count)?),
     }
 }
 
@@ -113,6 +124,30 @@ fn joined(
     let left_keys = left_columns(alloc, on)?;
     let right_keys = right_columns(alloc, on)?;
     hash_join(alloc, seed, left, left_keys.as_slice(), right, right_keys)
+}
+
+// The left rows that some right row matches, or, where `matched` is false, those that none does.
+fn semi_joined(
+    alloc: Global,
+    seed: KeySeed,
+    matched: bool,
+    left: &Rows,
+    right: Rows,
+    on: &[(usize, usize)],
+    conditions: &[Condition],
+) -> Result<Rows, AllocError>
+    requires { list_all (is_pair left.now.types right.types) on.now ≡ true }
+    ensures types { IfOk result (λ t. t.types ≡ left.now.types) }
+    ensures rows { IfOk result (λ t. t.rows ≡ matched_rows matched on.now (conditions_of conditions.now) left.now.rows right.rows) }
+{
+    let on = Vec::from_slice(alloc, on)?;
+    let conditions = copied_conditions(alloc, conditions)?;
+    let matching = Matching {
+        matched,
+        on,
+        conditions,
+    };
+    semi_join(alloc, seed, matching, left, right)
 }
 
 // The left rows, then the right rows.
@@ -143,5 +178,13 @@ pub fn binary_rows(
         Binary::Union => united(left, right),
         Binary::HashJoin(on) => joined(alloc, seed, left, &right, on.as_slice()),
         Binary::MergeJoin(on) => joined(alloc, seed, left, &right, on.as_slice()),
+        Binary::SemiJoin(on, conditions) => {
+            let conditions = conditions.as_slice();
+            semi_joined(alloc, seed, true, &left, right, on.as_slice(), conditions)
+        }
+        Binary::AntiJoin(on, conditions) => {
+            let conditions = conditions.as_slice();
+            semi_joined(alloc, seed, false, &left, right, on.as_slice(), conditions)
+        }
     }
 }

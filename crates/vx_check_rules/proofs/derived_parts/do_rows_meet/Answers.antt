@@ -5,7 +5,7 @@ use Rattle.vx_plan_nodes.specs.declared.typed.TypedNode.{TypedNode}
 use Rattle.vx_plan_nodes.specs.Plan.{Part, Unary, Binary, claim}
 use Rattle.vx_plan_nodes.specs.Outline.{top_of, unary_of, binary_of, plan_of}
 use Rattle.vx_plan_nodes.specs.Describe.{described, described_both}
-use Rattle.vx_plan_nodes.specs.DescribeView.{kept_columns}
+use Rattle.vx_plan_nodes.specs.DescribeView.{kept_columns, meeting_of}
 use Rattle.vx_plan_facts.specs.declared.facts.ColumnFacts.{ColumnFacts}
 use Rattle.vx_check_rules.specs.Behaviour.{own}
 use Rattle.vx_check_rules.specs.DerivedView.{equality_of, meet_equally, meet_both_equally, meets_derived}
@@ -45,7 +45,7 @@ returns-in-Binary c = λ catalog h.
     let rights : FactsAt at known l right = subst (FactsAt at known l) c.deref-in-Binary-3.ensures (c.known_input-in-Binary.ensures.facts at) in
     let first : had_of c.known_input.result.had ≡ own (plan_of left) = c.known_input.ensures.had ∙ ap (λ t. own (plan_of t)) c.deref-in-Binary-2.ensures in
     let second : had_of c.known_input-in-Binary.result.had ≡ own (plan_of right) = c.known_input-in-Binary.ensures.had ∙ ap (λ t. own (plan_of t)) c.deref-in-Binary-3.ensures in
-    let pairs : option_map (λ on. on.now) c.described-in-Binary.result.pairs ≡ (described_both v op).pairs = ap (λ d. d.pairs) c.described-in-Binary.ensures in
-    c.do_both_meet.ensures ∙ ap (λ o. meet_both_equally (equality_of k) (equality_of l) o (had_of c.known_input.result.had).1 (had_of c.known_input-in-Binary.result.had).1) pairs
-    ∙ ap₂ (λ (x y : Bool × Part). meet_both_equally (equality_of k) (equality_of l) (described_both v op).pairs x.1 y.1) first second
+    let meeting : meeting_of c.described-in-Binary.result.meeting ≡ (described_both v op).meeting = ap (λ d. d.meeting) c.described-in-Binary.ensures in
+    c.do_both_meet.ensures ∙ ap (λ o. meet_both_equally (equality_of k) (equality_of l) o (had_of c.known_input.result.had).1 (had_of c.known_input-in-Binary.result.had).1) meeting
+    ∙ ap₂ (λ (x y : Bool × Part). meet_both_equally (equality_of k) (equality_of l) (described_both v op).meeting x.1 y.1) first second
     ∙ both-meet catalog known top.number top.claim op (plan_of left) (plan_of right) k l v is_known lefts rights ∙ ap (λ t. meets_derived at (plan_of t)) (sym c.in-Binary.is)

@@ -65,9 +65,9 @@ returns-in-Binary c = λ catalog h given.
     let f = equality_of l in
     let g = equality_of o in
     c.is_part_of_both.ensures
-    ∙ ap (λ (d : DescribedBoth). both_part (width_of o) d.pairs d e f g (had_of c.known_input.result.had) (had_of c.known_input-in-Binary.result.had) (part_seen c.seen-wanted.result)) is
-    ∙ ap₂ (λ (x y : Bool × Part). both_part (width_of o) (described_both (width at (plan_of left)) op).pairs (described_both (width at (plan_of left)) op) e f g x y (part_seen c.seen-wanted.result)) first second
-    ∙ ap (both_part (width_of o) (described_both (width at (plan_of left)) op).pairs (described_both (width at (plan_of left)) op) e f g (own (plan_of left)) (own (plan_of right))) wanted
+    ∙ ap (λ (d : DescribedBoth). both_part (width_of o) d.meeting d e f g (had_of c.known_input.result.had) (had_of c.known_input-in-Binary.result.had) (part_seen c.seen-wanted.result)) is
+    ∙ ap₂ (λ (x y : Bool × Part). both_part (width_of o) (described_both (width at (plan_of left)) op).meeting (described_both (width at (plan_of left)) op) e f g x y (part_seen c.seen-wanted.result)) first second
+    ∙ ap (both_part (width_of o) (described_both (width at (plan_of left)) op).meeting (described_both (width at (plan_of left)) op) e f g (own (plan_of left)) (own (plan_of right))) wanted
     ∙ both-part catalog known top.number top.claim op (plan_of left) (plan_of right) k l o is_known lefts rights out
     ∙ ap (λ t. part_derived at (plan_of t) (claim (plan_of t)).part) (sym c.in-Binary.is)
 

@@ -17,4 +17,4 @@ returns-in-Binary c =
     let wide : length c.output_types.result.now ≡ width catalog (plan_of left) = ap length (types has.1) ∙ types_of-width catalog (plan_of left) in
     let is : described_both_of c.described-in-Binary.result ≡ described_both (width catalog (plan_of left)) (binary_of c.in-Binary.operator) =
     c.described-in-Binary.ensures ∙ ap (λ w. described_both w (binary_of c.in-Binary.operator)) wide in
-    rw c.in-Binary.is (c.keyed_over.ensures ∙ ap (λ d. keyed_over d.pairs d (map (λ (k : Vec ℕ Global). k.items) c.args.lefts.now) (map (λ (k : Vec ℕ Global). k.items) c.args.rights.now)) is)
+    rw c.in-Binary.is (c.keyed_over.ensures ∙ ap (λ d. keyed_over d.meeting d (map (λ (k : Vec ℕ Global). k.items) c.args.lefts.now) (map (λ (k : Vec ℕ Global). k.items) c.args.rights.now)) is)

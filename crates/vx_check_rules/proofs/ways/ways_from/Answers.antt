@@ -16,4 +16,4 @@ returns-in-Binary c = λ catalog given.
     let wide : length c.output_types.result.now ≡ width catalog (plan_of left) = ap length (types has.1) ∙ types_of-width catalog (plan_of left) in
     let is : described_both_of c.described-in-Binary.result ≡ described_both (width catalog (plan_of left)) (binary_of c.in-Binary.operator) =
     c.described-in-Binary.ensures ∙ ap (λ w. described_both w (binary_of c.in-Binary.operator)) wide in
-    rw c.in-Binary.is (c.ways_over.ensures ∙ ap (λ d. ways_over d.pairs d (had_of c.args.left) (had_of c.args.right)) is)
+    rw c.in-Binary.is (c.ways_over.ensures ∙ ap (λ d. ways_over d.meeting d (had_of c.args.left) (had_of c.args.right)) is)

@@ -19,4 +19,4 @@ returns-in-Binary c = λ catalog given.
     let first = rw c.deref-in-Binary-2.ensures at c.claimed-in-Binary.ensures in
     let second = rw c.deref-in-Binary-3.ensures at c.claimed-in-Binary-2.ensures in
     let given_by = rw (first, second) at c.both_if_fit.ensures in
-    rw c.in-Binary.is (given_by ∙ ap (λ d. both_if_fit d.pairs d (own (plan_of left)) (own (plan_of right))) is)
+    rw c.in-Binary.is (given_by ∙ ap (λ d. both_if_fit d.meeting d (own (plan_of left)) (own (plan_of right))) is)

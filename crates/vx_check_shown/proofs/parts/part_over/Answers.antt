@@ -117,11 +117,11 @@ returns-in-Binary c = λ catalog given.
     let copied = subst S (sym ys) (subst R (sym xs) (subst Q (sym second) (subst P (sym first) both))) in
     let e = equal_at at (plan_of left) in
     let f = equal_at at (plan_of right) in
-    let step = ap (λ t. part_of_both w d.pairs d (equal_at at (plan_of t)) (equal_at at (plan_of c.with_part-rights.result.node.now)) (part_of c.with_part-lefts.result.part.now) (part_of c.with_part-rights.result.part.now)) first
-    ∙ ap (λ t. part_of_both w d.pairs d e (equal_at at (plan_of t)) (part_of c.with_part-lefts.result.part.now) (part_of c.with_part-rights.result.part.now)) second
-    ∙ ap (λ (z : Part). part_of_both w d.pairs d e f z (part_of c.with_part-rights.result.part.now)) xs
-    ∙ ap (λ (z : Part). part_of_both w d.pairs d e f x z) ys
-    ∙ ap (λ (i : DescribedBoth). part_of_both w i.pairs i e f x y) is
-    ∙ ap (λ v. part_of_both v (described_both (width at (plan_of left)) op).pairs (described_both (width at (plan_of left)) op) e f x y) wide
+    let step = ap (λ t. part_of_both w d.meeting d (equal_at at (plan_of t)) (equal_at at (plan_of c.with_part-rights.result.node.now)) (part_of c.with_part-lefts.result.part.now) (part_of c.with_part-rights.result.part.now)) first
+    ∙ ap (λ t. part_of_both w d.meeting d e (equal_at at (plan_of t)) (part_of c.with_part-lefts.result.part.now) (part_of c.with_part-rights.result.part.now)) second
+    ∙ ap (λ (z : Part). part_of_both w d.meeting d e f z (part_of c.with_part-rights.result.part.now)) xs
+    ∙ ap (λ (z : Part). part_of_both w d.meeting d e f x z) ys
+    ∙ ap (λ (i : DescribedBoth). part_of_both w i.meeting i e f x y) is
+    ∙ ap (λ v. part_of_both v (described_both (width at (plan_of left)) op).meeting (described_both (width at (plan_of left)) op) e f x y) wide
     ∙ ap (λ t. part_over at (plan_of t) x y) (sym c.in-Binary.is) in
     IfOk-weaker c.part_of_both.result _ _ (λ r s. s ∙ step) (c.part_of_both.ensures at copied)

@@ -1,8 +1,10 @@
 use Rattle.std.proofs.Common.{◌≡◌, ℕ, true, false, length, List, map, ap, subst, sym, ◌∙◌}
 use Rattle.vx_rows.specs.View.{AreColumns}
+use Rattle.vx_plan_nodes.specs.Conditions.{conditions_of}
 use Rattle.vx_plan_nodes.specs.Outline.{binary_of}
 use Rattle.vx_plan_nodes.specs.Typed.{is_binary}
 use Rattle.vx_ops_kernels.proofs.ColumnFacts.{join-left-columns, join-right-columns, union-types}
+use Rattle.vx_match_join.proofs.SemiColumns.{semi-left-columns, semi-right-columns}
 use Rattle.vx_ops.specs.Turn.{Shape}
 use Rattle.vx_exec_operators.specs.Kind.{kind_types}
 use Rattle.vx_exec_operators.proofs.of_node.binary_operator.Goals as goal
@@ -35,3 +37,27 @@ pub returns-in_ok-types-in-Union-clause-right : goal.returns-in_ok-types-in-Unio
 returns-in_ok-types-in-Union-clause-right c =
     ap (λ k. (kind_types k).right) c.of.ensures.kind ∙ ap (λ (x : Shape). x.right) c.new-union.ensures.types ∙ c.in_ok-types-in-Union.ensures.items
     ∙ sym (union-types c.args.left.now c.args.right.now (subst (λ z. is_binary c.args.left.now c.args.right.now (binary_of z) ≡ true) c.in-Union.is c.requires))
+
+pub semi_join_operator-requires-clause-left : goal.semi_join_operator-requires-clause-left
+semi_join_operator-requires-clause-left c =
+    subst (λ (on : List (ℕ × ℕ)). AreColumns (length c.args.left.now) (map (λ (p : ℕ × ℕ). p.0) on)) (sym (c.in_ok-matching-in-SemiJoin.ensures.on ∙ c.as_slice-in-SemiJoin.ensures.value))
+    (semi-left-columns c.args.left.now c.args.right.now true c.in-SemiJoin.on.items (conditions_of c.in-SemiJoin.conditions.items)
+    (subst (λ z. is_binary c.args.left.now c.args.right.now (binary_of z) ≡ true) c.in-SemiJoin.is c.requires))
+
+pub semi_join_operator-requires-clause-right : goal.semi_join_operator-requires-clause-right
+semi_join_operator-requires-clause-right c =
+    subst (λ (on : List (ℕ × ℕ)). AreColumns (length c.args.right.now) (map (λ (p : ℕ × ℕ). p.1) on)) (sym (c.in_ok-matching-in-SemiJoin.ensures.on ∙ c.as_slice-in-SemiJoin.ensures.value))
+    (semi-right-columns c.args.left.now c.args.right.now true c.in-SemiJoin.on.items (conditions_of c.in-SemiJoin.conditions.items)
+    (subst (λ z. is_binary c.args.left.now c.args.right.now (binary_of z) ≡ true) c.in-SemiJoin.is c.requires))
+
+pub semi_join_operator-requires-in-AntiJoin-clause-left : goal.semi_join_operator-requires-in-AntiJoin-clause-left
+semi_join_operator-requires-in-AntiJoin-clause-left c =
+    subst (λ (on : List (ℕ × ℕ)). AreColumns (length c.args.left.now) (map (λ (p : ℕ × ℕ). p.0) on)) (sym (c.in_ok-matching-in-AntiJoin.ensures.on ∙ c.as_slice-in-AntiJoin.ensures.value))
+    (semi-left-columns c.args.left.now c.args.right.now false c.in-AntiJoin.on.items (conditions_of c.in-AntiJoin.conditions.items)
+    (subst (λ z. is_binary c.args.left.now c.args.right.now (binary_of z) ≡ true) c.in-AntiJoin.is c.requires))
+
+pub semi_join_operator-requires-in-AntiJoin-clause-right : goal.semi_join_operator-requires-in-AntiJoin-clause-right
+semi_join_operator-requires-in-AntiJoin-clause-right c =
+    subst (λ (on : List (ℕ × ℕ)). AreColumns (length c.args.right.now) (map (λ (p : ℕ × ℕ). p.1) on)) (sym (c.in_ok-matching-in-AntiJoin.ensures.on ∙ c.as_slice-in-AntiJoin.ensures.value))
+    (semi-right-columns c.args.left.now c.args.right.now false c.in-AntiJoin.on.items (conditions_of c.in-AntiJoin.conditions.items)
+    (subst (λ z. is_binary c.args.left.now c.args.right.now (binary_of z) ≡ true) c.in-AntiJoin.is c.requires))

@@ -10,4 +10,4 @@ returns-in-Ok-clause-pays g c k =
     let i = c.self.inside in
     let left = length (rest_rows i.rest) + k.left in
     rw (← c.self.view_is)
-    (build-pays i.over left (K.built i.kernel) (K.built c.build.new.self) k.right (length c.args.batch.rows) (if_running i.over (left + until_ready i.ready)) c.in-Ok.ensures.held)
+    (build-pays i.over left (K.each i.kernel (k.right + length c.args.batch.rows)) (K.each c.build.new.self k.right) (if_running i.over (left + until_ready i.ready)) (c.in-Ok.ensures.held k.right))

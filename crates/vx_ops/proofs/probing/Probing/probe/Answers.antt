@@ -37,5 +37,5 @@ returns-in-Ok-clause-pays g c k =
     let i = c.self.inside in
     let runs : i.over ≡ Running = subst (λ v. v.over ≡ Running) (sym c.self.view_is) c.requires.running in
     rw (← c.self.view_is)
-    (probe-pays i.over (length c.args.batch.rows) (length c.in-Ok.rest.rows) k.left (K.built i.kernel) (K.built c.probe.new.self) k.right (length c.in-Ok.joined.rows) (until_ready i.ready) c.held.result c.returned.result
-    runs (ap length c.held.ensures.rows) c.returned.ensures.rows (c.in-Ok.ensures.fewer c.requires.some) c.in-Ok.ensures.held c.in-Ok.ensures.joins)
+    (probe-pays i.over (length c.args.batch.rows) (length c.in-Ok.rest.rows) k.left (K.each i.kernel k.right) (K.each c.probe.new.self k.right) (length c.in-Ok.joined.rows) (until_ready i.ready) c.held.result c.returned.result
+    runs (ap length c.held.ensures.rows) c.returned.ensures.rows (c.in-Ok.ensures.fewer c.requires.some) (c.in-Ok.ensures.held k.right) (c.in-Ok.ensures.joins k.right))

@@ -1,4 +1,4 @@
-use Rattle.std.proofs.Common.{◌≡◌, ◌∙◌, ◌+◌, ◌≤◌, Some, length, ap, sym, subst, zero-le}
+use Rattle.std.proofs.Common.{◌≡◌, ◌∙◌, ◌≤◌, Some, length, ap, sym, subst, zero-le}
 use Rattle.vx_ops.specs.Turn.{took, gives}
 use Rattle.vx_ops.specs.Probing.{IsProbing, rest_rows, until_ready}
 use Rattle.vx_ops.specs.declared.fault.StreamState.{StreamState}
@@ -36,4 +36,4 @@ returns-in-Input-Gave-clause-pays g c k =
     let less : 0 ≤ 1 = zero-le in
     let is : c.args.got ≡ got.Input (polled.Gave c.in-Input-Gave.batch) = c.in-Input-Gave.is ∙ ap got.Input c.in-Input-Gave.field-0-is in
     rw is
-    (pays-within 1 0 _ _ _ _ _ _ c.probe.result less (left-most s.over n k.left (g.K.ProbeKernel.built s.kernel + k.right) more) (left-idle s.over n k.left (until_ready s.ready) more) (c.probe.ensures.pays k))
+    (pays-within 1 0 _ _ _ _ _ _ c.probe.result less (left-most s.over n k.left (g.K.ProbeKernel.each s.kernel k.right) more) (left-idle s.over n k.left (until_ready s.ready) more) (c.probe.ensures.pays k))

@@ -19,4 +19,4 @@ returns-in-Input-End-clause-pays g c k =
     let more = rows-more want.Right (got.Input polled.End) k in
     let is : c.args.got ≡ got.Input polled.End = c.in-Input-End.is ∙ ap got.Input c.in-Input-End.field-0-is in
     rw is
-    (pays-within 1 1 _ _ _ _ _ _ c.finish_build.result (le_refl 1) (probing-grows g.K.ProbeKernel.built s k before more) (probing-idle-grows s k before more) (c.finish_build.ensures.pays k))
+    (pays-within 1 1 _ _ _ _ _ _ c.finish_build.result (le_refl 1) (probing-grows g.K.ProbeKernel.each s (g.met.K.ProbeKernel.each_grows s.kernel) k before more) (probing-idle-grows s k before more) (c.finish_build.ensures.pays k))

@@ -31,6 +31,6 @@ returns-in-Some-clause-pays g c k =
     let before = with_rows (probing_want s) c.args.got k in
     let more = rows-more (probing_want s) c.args.got k in
     pays-within 1 (own_turn c.args.got) _ _ _ _ _ _ c.probe.result (own-few c.args.got)
-    (subst (λ v. probing_most K.built v k ≤ probing_most K.built s before) now (probing-grows K.built s k before more))
+    (subst (λ v. probing_most K.each v k ≤ probing_most K.each s before) now (probing-grows K.each s (g.met.K.ProbeKernel.each_grows s.kernel) k before more))
     (subst (λ v. probing_idle v k ≤ probing_idle s before) now (probing-idle-grows s k before more))
     (c.probe.ensures.pays k)
