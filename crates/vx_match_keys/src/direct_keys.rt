@@ -191,8 +191,8 @@ impl DirectKeys {
         self.put(place)
     }
 
-    // The number of a key, which is added if it is new. A new one that is refused changes nothing.
-    fn number(&mut self, key: i64) -> Result<Option<usize>, AllocError>
+    /// The number of a key, which is added if it is new. A new one that is refused changes nothing.
+    pub fn number(&mut self, key: i64) -> Result<Option<usize>, AllocError>
         ensures number { IfOk result (λ o. IfSome o (λ n. n ≡ position_or_len (row_eq (number_key key)) self.old)) }
         ensures keys { IfOk result (λ o. IfSome o (λ _. self.new ≡ insert_key row_eq self.old (number_key key))) }
         ensures refused { IfOk result (λ o. IfNone o (self.new ≡ self.old)) }

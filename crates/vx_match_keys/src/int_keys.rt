@@ -1,6 +1,6 @@
 //! Keys that are one number each.
 
-ghost use Rattle.std.specs.Prelude.{◌≡◌, ◌<◌, ◌≤◌, ◌++◌, [], length, map, take, drop, OnOk, IfOk, slice_get, Some};
+ghost use Rattle.std.specs.Prelude.{◌≡◌, ◌<◌, ◌≤◌, ◌++◌, [], length, map, take, drop, OnOk, IfOk, IfSome, slice_get, Some};
 ghost use Rattle.std.specs.List.{position_or_len, IsDistinct};
 ghost use Rattle.vx_rows_values.specs.Values.{row_eq};
 ghost use Rattle.indexmap.specs.IndexSet.{insert_all};
@@ -30,10 +30,13 @@ impl Drop for Found {
 }
 
 /// Keys of one number each. While they are small numbers from 0 on, they are found by a table, with no hashing. Once a key
-/// comes that the table refuses, all are put into a hash set, and they stay so from then on.
+/// comes that the table refuses, all are put into a hash set. Whenever there are twice as many of them, the table is tried
+/// again: keys that come in any order, a batch at a time, lie close together once enough of them have come.
 pub(crate) struct IntKeys {
     found: Found,
     room: usize,
+    // how many keys were hashed when the table was last tried
+    tried: usize,
     seed: KeySeed,
     alloc: Global,
 }
@@ -43,6 +46,7 @@ impl Drop for IntKeys {
         let IntKeys {
             found: _,
             room: _,
+            tried: _,
             seed: _,
             alloc: _,
         } = self;
@@ -67,6 +71,7 @@ impl IntKeys {
         Ok(IntKeys {
             found: Found::Direct(DirectKeys::new(alloc, room)),
             room,
+            tried: 0,
             seed,
             alloc,
         })
@@ -106,6 +111,44 @@ impl IntKeys {
         Ok(hashed)
     }
 
+    // The same keys, to be found by a table, if it takes them all. It may be as long as for four times as many: several workers
+    // often share the keys of one relation, and more keys are still to come.
+    fn as_direct(&self) -> Result<Option<DirectKeys>, AllocError>
+        ensures { IfOk result (λ o. IfSome o (λ k. k ≡ self.now)) }
+    {
+        let count = self.len();
+        let mut direct = DirectKeys::new(self.alloc, count.saturating_mul(4));
+        for number in 0..count {
+            let Some(_) = direct.number(self.get(number))? else {
+                return Ok(None);
+            };
+        }
+        Ok(Some(direct))
+    }
+
+    // Whether the keys are hashed, and there are twice as many of them as when the table was last tried.
+    fn is_due(&self) -> bool {
+        match &self.found {
+            Found::Direct(_) => false,
+            Found::Hashed(keys) => keys.len() / 2 >= self.tried,
+        }
+    }
+
+    // Lets a table find the keys that are hashed, if there are many more of them than when that was last tried, and it takes
+    // them all.
+    fn settle(&mut self) -> Result<(), AllocError>
+        ensures { OnOk result (self.new ≡ self.old) }
+    {
+        if !self.is_due() {
+            return Ok(());
+        }
+        self.tried = self.len();
+        if let Some(direct) = self.as_direct()? {
+            self.found = Found::Direct(direct);
+        }
+        Ok(())
+    }
+
     // Does what `number_all` does with the first of these keys, and returns how many: all of them, or those before the
     // first that cannot be found in the way of those that are here.
     fn number_first(
@@ -141,8 +184,8 @@ impl IntKeys {
         Ok(())
     }
 
-    /// Adds the numbers of these keys. Keys that are new are added.
-    pub fn number_all(
+    // Does what `number_all` does, and leaves hashed keys hashed.
+    fn number_here(
         &mut self,
         column: &IntColumn<'_>,
         numbers: &mut Vec<usize>,
@@ -156,6 +199,19 @@ impl IntKeys {
         }
         self.number_rest(column, taken, numbers)?;
         Ok(())
+    }
+
+    /// Adds the numbers of these keys. Keys that are new are added.
+    pub fn number_all(
+        &mut self,
+        column: &IntColumn<'_>,
+        numbers: &mut Vec<usize>,
+    ) -> Result<(), AllocError>
+        ensures numbers { OnOk result (numbers.new.items ≡ numbers.old.items ++ numbers_of self.old column.now) }
+        ensures keys { OnOk result (self.new ≡ insert_all row_eq self.old column.now) }
+    {
+        self.settle()?;
+        self.number_here(column, numbers)
     }
 
     /// The index of each key in `column`, or `self.len()` where it is absent.

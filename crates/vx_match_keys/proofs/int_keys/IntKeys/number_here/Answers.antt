@@ -3,7 +3,7 @@ use Rattle.indexmap.specs.IndexSet.{insert_all}
 use Rattle.vx_rows_values.specs.Values.{row_eq}
 use Rattle.vx_match_keys.specs.Numbers.{numbers_of}
 use Rattle.vx_match_keys.proofs.RestFacts.{numbers-split, all-split}
-use Rattle.vx_match_keys.proofs.int_keys.IntKeys.number_all.Goals as goal
+use Rattle.vx_match_keys.proofs.int_keys.IntKeys.number_here.Goals as goal
 
 pub returns-clause-numbers : goal.returns-clause-numbers
 returns-clause-numbers c =
