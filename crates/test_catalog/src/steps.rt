@@ -3,13 +3,14 @@
 ghost use Rattle.std.specs.Prelude.{◌≡◌, [], ◌∷◌, length, true};
 ghost use Rattle.vx_rows_values.specs.declared.value.ColType.TheVariants as kind;
 ghost use Rattle.vx_rows.specs.View.{AreColumns};
+ghost use Rattle.vx_rows_values.specs.Order.{order_columns};
 
 use std::alloc::{AllocError, Global};
 use std::collections::HashMap;
 use std::mem;
 use test_tables::{TYPES, shown, three_numbers};
 use vx_rows::{OpenRows, Row, Table};
-use vx_rows_values::{Cell, ColType, Value};
+use vx_rows_values::{Cell, ColType, OrderEntry, Value};
 
 // A number and a text, as `7 b`.
 fn entry(text: &str) -> Option<(i64, &str)> {
@@ -32,6 +33,45 @@ fn columns(rows: &Table, text: &str) -> &'static [usize]
         "0" => &[0],
         "1" => &[1],
         "1 0" => &[1, 0],
+        _ => &[],
+    }
+}
+
+// The column of numbers, falling.
+const NUMBERS_FALL: OrderEntry = OrderEntry {
+    column: 0,
+    falling: true,
+};
+
+// The column of numbers, rising.
+const NUMBERS: OrderEntry = OrderEntry {
+    column: 0,
+    falling: false,
+};
+
+// The column of texts, falling.
+const TEXTS_FALL: OrderEntry = OrderEntry {
+    column: 1,
+    falling: true,
+};
+
+// The column of texts, rising.
+const TEXTS: OrderEntry = OrderEntry {
+    column: 1,
+    falling: false,
+};
+
+// The order of the rows `rows` that the text `text` names, with a minus before each column that falls.
+fn entries(rows: &Table, text: &str) -> &'static [OrderEntry]
+    requires { rows.now.types ≡ kind.Int ∷ kind.Text ∷ [] }
+    ensures { AreColumns (length rows.now.types) (order_columns result.now) }
+{
+    match text {
+        "0" => &[NUMBERS],
+        "1" => &[TEXTS],
+        "1 0" => &[TEXTS, NUMBERS],
+        "-0" => &[NUMBERS_FALL],
+        "-1 0" => &[TEXTS_FALL, NUMBERS],
         _ => &[],
     }
 }
@@ -108,12 +148,12 @@ fn fill(alloc: Global, rows: &mut Table, text: &str) -> Result<String, AllocErro
     Ok(answer)
 }
 
-// The positions of the rows `rows` in the order of the columns `columns`.
-fn order(alloc: Global, rows: &Table, columns: &[usize]) -> Result<String, AllocError>
-    requires { AreColumns (length rows.now.types) columns.now }
+// The positions of the rows `rows` in the order `order`.
+fn sorted(alloc: Global, rows: &Table, order: &[OrderEntry]) -> Result<String, AllocError>
+    requires { AreColumns (length rows.now.types) (order_columns order.now) }
 {
     let mut answer = String::from_str(alloc, "[")?;
-    for position in &rows.sorted_positions(alloc, columns)? {
+    for position in &rows.sorted_positions(alloc, order)? {
         write!(answer, "{position},")?;
     }
     answer.push(']')?;
@@ -154,16 +194,15 @@ fn keys(alloc: Global, rows: &Table) -> Result<String, AllocError>
     format!(in alloc; "[{} {first}]", seen.len())
 }
 
-// What the rows `rows` answer to the word `word`, which may ask of the columns `columns`.
-fn answer(alloc: Global, rows: &Table, word: &str, columns: &[usize]) -> Result<String, AllocError>
-    requires types { rows.now.types ≡ kind.Int ∷ kind.Text ∷ [] }
-    requires columns { AreColumns (length rows.now.types) columns.now }
+// What the rows `rows` answer to the word `word`, which may ask of the columns that `text` names.
+fn answer(alloc: Global, rows: &Table, word: &str, text: &str) -> Result<String, AllocError>
+    requires { rows.now.types ≡ kind.Int ∷ kind.Text ∷ [] }
 {
     match word {
         "show" => format!(in alloc; "[{}]", shown(alloc, rows)?),
-        "sorted" => format!(in alloc; "[{}]", rows.is_sorted(columns)),
-        "order" => order(alloc, rows, columns),
-        "clash" => clash(alloc, rows, columns),
+        "sorted" => format!(in alloc; "[{}]", rows.is_sorted(entries(rows, text))),
+        "order" => sorted(alloc, rows, entries(rows, text)),
+        "clash" => clash(alloc, rows, columns(rows, text)),
         "keys" => keys(alloc, rows),
         _ => format!(in alloc; "[{word}?]"),
     }
@@ -198,7 +237,7 @@ pub fn take_step(
         "take" => *others = rows.take(alloc)?,
         "swap" => mem::swap(rows, others),
         "fill" => return fill(alloc, rows, rest),
-        _ => return answer(alloc, rows, word, columns(rows, rest)),
+        _ => return answer(alloc, rows, word, rest),
     }
     Ok(String::new(alloc))
 }

@@ -27,6 +27,8 @@ the second takes all and merges with none | MERGED | T | D | 1 | 1 'b' 7;3 'c' 7
 by steps 1000 2 1 3 0 | 1 | many=3 | 1 1 4 | rows in order
 the third takes all and merges with none | MERGED | T | D | 1 | 1 'b' 7;3 'c' 7;
 by steps 1000 3 2 1 0 | 1 | many=3 | 1 1 4 | rows in order
+one worker takes all, sorts what falls and merges with none | MERGED_FALLING | T | D | 1 | 3 'c' 7;1 'b' 7;
+by steps 1000 2 1 3 0 | 1 | many=3 | 1 1 4 | rows in order
 a group has not overflowed before the end of its input | GATHERED_SUMS | TOO_LARGE | D | 1 | X7 Overflow node=0
 by steps 1000 2 1 0 0 0 | 1 | many=3 | 1 1 4 | unfinished
 a group overflows only after its input | GATHERED_SUMS | TOO_LARGE | D | 1 | X7 Overflow node=0

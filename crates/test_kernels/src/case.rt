@@ -5,6 +5,7 @@ ghost use Rattle.vx_rows.specs.View.{ArePositions};
 
 use anyhow::{Context, Error};
 use std::alloc::Global;
+use vx_rows_values::OrderEntry;
 
 /// A call with what it is given, and what has to come of it.
 #[derive(Clone, Copy)]
@@ -63,6 +64,18 @@ pub fn numbers(alloc: Global, text: &str) -> Result<Vec<usize>, Error> {
         numbers.push(number)?;
     }
     Ok(numbers)
+}
+
+/// The entries of an order, as `2 -0`: a column with a `-` before it falls.
+pub fn entries(alloc: Global, text: &str) -> Result<Vec<OrderEntry>, Error> {
+    let mut entries = Vec::new(alloc);
+    for word in text.split_whitespace() {
+        let name = word.strip_prefix("-").unwrap_or(word);
+        let column = name.parse::<usize>().ok().context("it is no column")?;
+        let falling = word.starts_with('-');
+        entries.push(OrderEntry { column, falling })?;
+    }
+    Ok(entries)
 }
 
 /// The lists of numbers on the two sides of a `/`: the second list is empty where there is no `/`.

@@ -2,8 +2,9 @@
 
 ghost use Rattle.std.specs.Prelude.{length};
 ghost use Rattle.vx_rows.specs.View.{AreColumns};
+ghost use Rattle.vx_rows_values.specs.Order.{order_columns};
 
-use crate::case::{Case, all_below, two_lists};
+use crate::case::{Case, all_below, entries, two_lists};
 use crate::tables::{rows_of, shown_rows};
 use anyhow::{Context, Error, bail};
 use std::alloc::{AllocError, Global};
@@ -12,15 +13,20 @@ use vx_match_join::Build;
 use vx_match_keys::{Seen, rises};
 use vx_match_merging::{MergeFault, merge_join};
 use vx_plan_nodes::Aggregate;
-use vx_rows_values::KeySeed;
+use vx_rows_values::{KeySeed, OrderEntry, order_columns};
 use vx_rows_views::Rows;
 
-// The merge join of rows on the same columns of both, or that one input falls.
-fn merged(alloc: Global, columns: &[usize], left: &Rows, right: &Rows) -> Result<String, AllocError>
-    requires left { AreColumns (length left.now.types) columns.now }
-    requires right { AreColumns (length right.now.types) columns.now }
+// The merge join of rows on the same columns of both in these directions, or that one input falls.
+fn merged(
+    alloc: Global,
+    order: &[OrderEntry],
+    left: &Rows,
+    right: &Rows,
+) -> Result<String, AllocError>
+    requires left { AreColumns (length left.now.types) (order_columns order.now) }
+    requires right { AreColumns (length right.now.types) (order_columns order.now) }
 {
-    match merge_join(alloc, left, columns, right, columns) {
+    match merge_join(alloc, left, order, right, order) {
         Ok(joined) => shown_rows(alloc, &joined),
         Err(MergeFault::Falls) => String::from_str(alloc, "falls"),
         Err(MergeFault::NoMemory) => Err(AllocError),
@@ -79,6 +85,22 @@ fn groups(alloc: Global, by: &[usize], rows: &Rows, names: &str) -> Result<Strin
     }
 }
 
+/// What a kernel answers of the rows of a case in an order.
+pub fn in_order(alloc: Global, case: &Case<'_>) -> Result<String, Error> {
+    let rows = rows_of(alloc, case.rows)?;
+    let others = rows_of(alloc, case.others)?;
+    let entries = entries(alloc, case.arguments)?;
+    let order = entries.as_slice();
+    let columns = order_columns(alloc, order)?;
+    if !all_below(columns.as_slice(), 2) {
+        bail!("a column is too great");
+    }
+    match case.call {
+        "merge" => Ok(merged(alloc, order, &rows, &others)?),
+        _ => Ok(format!(in alloc; "{}", rises(&rows, order))?),
+    }
+}
+
 /// What a kernel answers of the rows of a case by some columns.
 pub fn answer(alloc: Global, case: &Case<'_>) -> Result<String, Error> {
     let rows = rows_of(alloc, case.rows)?;
@@ -90,8 +112,6 @@ pub fn answer(alloc: Global, case: &Case<'_>) -> Result<String, Error> {
         bail!("a column is too great");
     }
     match case.call {
-        "merge" => Ok(merged(alloc, columns, &rows, &others)?),
-        "rises" => Ok(format!(in alloc; "{}", rises(&rows, columns))?),
         "seen" => Ok(new_in_turn(alloc, columns, &rows, later, &others)?),
         "group" => groups(alloc, columns, &rows, case.steps),
         _ => bail!("there is no such kernel"),

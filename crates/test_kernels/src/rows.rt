@@ -1,6 +1,6 @@
 //! Rows in many chunks: how they are made, and what calls that give rows make of them.
 
-use crate::case::{Case, all_below, bounds, numbers, word_of};
+use crate::case::{Case, all_below, bounds, entries, numbers, word_of};
 use crate::tables::{rows_of, shown_rows, table_of};
 use anyhow::{Error, bail};
 use std::alloc::Global;
@@ -8,7 +8,7 @@ use std::sync::Arc;
 use vx_match_join::hash_join;
 use vx_match_keys::Seen;
 use vx_ops_kernels::sorted_chunks;
-use vx_rows_values::KeySeed;
+use vx_rows_values::{KeySeed, order_columns};
 use vx_rows_views::Rows;
 
 // The rows of a shared table between two bounds, as far as there are such.
@@ -52,7 +52,6 @@ fn by_columns(
     }
     let made = match kernel {
         "columns" => rows.project(alloc, columns),
-        "sort" => sorted_chunks(alloc, &rows, columns),
         "distinct" => Seen::new(alloc, KeySeed::fixed()).keep_new(&rows, columns),
         "hash" => {
             let on = Vec::from_slice(alloc, columns)?;
@@ -63,9 +62,22 @@ fn by_columns(
     Ok(made?)
 }
 
+// The rows in an order.
+fn sorted(alloc: Global, rows: &Rows, text: &str) -> Result<Rows, Error> {
+    let order = entries(alloc, text)?;
+    let columns = order_columns(alloc, order.as_slice())?;
+    if !all_below(columns.as_slice(), rows.types().len()) {
+        bail!("a column is too great");
+    }
+    Ok(sorted_chunks(alloc, rows, order.as_slice())?)
+}
+
 // What a step makes of rows, with others beside them where it is a join.
 fn followed(alloc: Global, mut rows: Rows, step: &str, others: &Rows) -> Result<Rows, Error> {
     let (verb, rest) = word_of(step);
+    if verb == "sort" {
+        return sorted(alloc, &rows, rest);
+    }
     let numbers = numbers(alloc, rest)?;
     let list = numbers.as_slice();
     match verb {

@@ -21,7 +21,7 @@ fn unary_name(unary: &Unary) -> &'static str {
 fn binary_name(binary: &Binary) -> &'static str {
     match binary {
         Binary::Union => "union",
-        Binary::HashJoin(_) | Binary::MergeJoin(_) => "join",
+        Binary::HashJoin(_) | Binary::MergeJoin(_, _) => "join",
         Binary::SemiJoin(_, _) => "semi-join",
         Binary::AntiJoin(_, _) => "anti-join",
     }

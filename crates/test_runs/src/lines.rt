@@ -7,8 +7,8 @@ use crate::relations::{
     BOTH_TOO_LARGE, EIGHT_ROWS, LARGE, LARGE_FIRST, ROWS_OF_D, ROWS_OF_T, SIXTY_ROWS, TOO_LARGE,
 };
 use crate::worked::{
-    COUNTED, COUNTED_BY_ONE, GATHERED, GROUPED, JOINED, JOINED_SUMS, MERGED, SELECTED,
-    SENT_TO_MEET, SUMS_IN_TWO_PHASES,
+    COUNTED, COUNTED_BY_ONE, GATHERED, GROUPED, JOINED, JOINED_SUMS, MERGED, MERGED_FALLING,
+    SELECTED, SENT_TO_MEET, SUMS_IN_TWO_PHASES,
 };
 
 /// The plan of a name, or the text itself.
@@ -17,6 +17,7 @@ pub fn document_named(text: &str) -> &str {
         "GATHERED" => GATHERED,
         "SELECTED" => SELECTED,
         "MERGED" => MERGED,
+        "MERGED_FALLING" => MERGED_FALLING,
         "GROUPED" => GROUPED,
         "SUMS_IN_TWO_PHASES" => SUMS_IN_TWO_PHASES,
         "JOINED" => JOINED,

@@ -14,6 +14,10 @@ pub const SELECTED: &str =
 pub const MERGED: &str =
     r#"{"sizes":["many"],"total":true,"root":{"op":"exchange","kind":"gather","merge":["id"],"claim":{"part":"one","order":["id"],"keys":[["id"]]},"input":{"op":"select","where":[{"column":"v","op":"=","value":7}],"claim":{"part":"any","order":["id"],"keys":[["id"]]},"input":T_SHARED}}}"#;
 
+/// The same, where the numbers fall.
+pub const MERGED_FALLING: &str =
+    r#"{"sizes":["many"],"total":true,"root":{"op":"exchange","kind":"gather","merge":[{"column":"id","desc":true}],"claim":{"part":"one","order":[{"column":"id","desc":true}],"keys":[["id"]]},"input":{"op":"sort","columns":[{"column":"id","desc":true}],"claim":{"part":"any","order":[{"column":"id","desc":true}],"keys":[["id"]]},"input":{"op":"select","where":[{"column":"v","op":"=","value":7}],"claim":{"part":"any","order":["id"],"keys":[["id"]]},"input":T_SHARED}}}}"#;
+
 /// Sums of rows that are sent by their keys, in the order of these. The group is node 2.
 pub const GROUPED: &str =
     r#"{"sizes":["many"],"total":true,"root":{"op":"exchange","kind":"gather","merge":["k"],"claim":{"part":"one","order":["k"],"keys":[["k"]]},"input":{"op":"sort","columns":["k"],"claim":{"part":{"hash":"h","columns":["k"]},"order":["k"],"keys":[["k"]]},"input":{"op":"group","by":["k"],"aggregates":[{"fn":"sum","column":"v","as":"s"}],"claim":{"part":{"hash":"h","columns":["k"]},"keys":[["k"]]},"input":{"op":"exchange","kind":"hash","route":"h","columns":["k"],"size":"many","claim":{"part":{"hash":"h","columns":["k"]}},"input":T_PLAIN}}}}}"#;
@@ -51,6 +55,8 @@ a selection that one worker reads | {"sizes":["many"],"root":{"op":"exchange","k
 a selection that is sent by a key and gathered | {"sizes":["many"],"root":{"op":"exchange","kind":"gather","claim":{"part":"one"},"input":{"op":"exchange","kind":"hash","route":"h","columns":["k"],"size":"many","claim":{"part":{"hash":"h","columns":["k"]}},"input":{"op":"select","where":[{"column":"v","op":"=","value":7}],"input":T_PLAIN}}}} | T | D | 2 | 1 'b' 7;3 'c' 7;
 a selection that is merged | MERGED | T | D | 1 | 1 'b' 7;3 'c' 7;
 no rows that are merged | MERGED | - | D | 1 |
+a selection that falls and is merged | MERGED_FALLING | T | D | 1 | 3 'c' 7;1 'b' 7;
+no rows that fall | MERGED_FALLING | - | D | 1 |
 a count by one worker of what others send | COUNTED | T | D | 1 | 4;
 a count of nothing that others send | COUNTED | - | D | 1 |
 a count by one worker | COUNTED_BY_ONE | T | D | 0 | 4;

@@ -72,3 +72,24 @@ pub fn compare_all<R: Abort>(
     }
     Ok(())
 }
+
+/// Whether SQLite and the serial evaluation both give these lines, in this order.
+pub fn assert_lines<R: Abort>(
+    rt: &R,
+    alloc: Global,
+    database: &Database,
+    document: &str,
+    wanted: &[&str],
+) -> Result<(), Fail> {
+    let mut connection = opened(alloc, database)?;
+    let plan = accepted(alloc, database.catalog(), document)?;
+    let mut lines = Vec::new(alloc);
+    for line in wanted {
+        lines.push(String::from_str(alloc, line)?)?;
+    }
+    let given = statement_lines(alloc, &mut connection, plan.plan())?;
+    assert_eq!(rt; given, lines);
+    let evaluated = serial_lines(alloc, database, plan.plan())?;
+    assert_eq!(rt; evaluated, lines);
+    Ok(())
+}

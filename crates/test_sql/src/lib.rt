@@ -11,6 +11,8 @@ mod engine;
 #[cfg(test)]
 mod examples;
 #[cfg(test)]
+mod falling;
+#[cfg(test)]
 mod matches;
 #[cfg(test)]
 mod names;

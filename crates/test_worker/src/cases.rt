@@ -9,7 +9,8 @@ use test_tables::{parts, three_numbers};
 
 // Of each case: what it shows; what is made, and what comes to it, a word for each step; and what is answered, a word for each step.
 //
-// `receive 3 4 2` is the consumer end at place 4 of the exchange at node 3, with two producers, and `sort` is a sort. What is given is a packet
+// `receive 3 4 2` is the consumer end at place 4 of the exchange at node 3, with two producers, and `sort` is a sort; the
+// numbers of `falling` fall. What is given is a packet
 // (its exchange, producer and consumer, and its numbers or its end), or numbers, or `-` for nothing; what is answered stands behind what was
 // wanted: a packet of a producer, the left input, or `-` for nothing.
 //
@@ -26,6 +27,7 @@ names its own exchange for a stranger to another consumer | receive 3 0 1: 3/0/1
 ends after both producers | receive 3 4 2: 3/0/4/0-1 3/1/4/last - 3/0/4/last - | 0:0;1; 1:waiting 0:waiting 0:end -:end
 passes on the fault of a producer | receive 3 4 2: 3/0/4/0-1 3/1/4/fault - | 0:0;1; 1:passed -:passed
 returns rows in order after the end | sort 3,1 - 2,1 end - - | left:waiting left:waiting left:waiting left:1;1;2;3; -:end -:end
+returns rows that fall after the end | falling 1,3 - 2,3 end - | left:waiting left:waiting left:waiting left:3;3;2;1; -:end
 ends at once where no rows came | sort end - | left:end -:end
 passes a fault on and no rows | sort 3,1 fault - | left:waiting left:passed -:passed
 scans to the end | work 7 4 9: 0-2 | well 4 0;1;2;0;1;2;0;1;2;0;1;2;
@@ -86,7 +88,8 @@ one row by range of 64, by 4096 | range 3 64 4096: 0 end | 0/1:0 last:0-63";
 fn answer_to(alloc: Global, given: &str) -> Option<String> {
     let (what, rest) = given.split_once(' ')?;
     match what {
-        "sort" => return sorted(alloc, rest),
+        "sort" => return sorted(alloc, false, rest),
+        "falling" => return sorted(alloc, true, rest),
         "route" => return routed(alloc, rest).ok(),
         _ => {}
     }

@@ -11,7 +11,7 @@ use vx_exchange::Receiver;
 use vx_ops::{Code, Fault, Got, Polled, Sort, Source, Want};
 use vx_plan_nodes::SortPhase;
 use vx_ports::{Packet, StreamEnd};
-use vx_rows_values::ColType;
+use vx_rows_values::{ColType, OrderEntry};
 use vx_rows_views::Rows;
 
 // The node of a sort.
@@ -143,13 +143,12 @@ pub fn received(
     turns_of(alloc, &mut receiver, words)
 }
 
-/// The turns of a sort of rows of one number.
-pub fn sorted(alloc: Global, words: &str) -> Option<String> {
-    let Ok(columns) = Vec::from_slice(alloc, &[0]) else {
+/// The turns of a sort of rows of one number, rising or falling.
+pub fn sorted(alloc: Global, falling: bool, words: &str) -> Option<String> {
+    let Ok(order) = Vec::from_slice(alloc, &[OrderEntry { column: 0, falling }]) else {
         return None;
     };
-    let Ok(mut sort) = Sort::new(alloc, SORT_NODE, SortPhase::Plain, columns, &[ColType::Int])
-    else {
+    let Ok(mut sort) = Sort::new(alloc, SORT_NODE, SortPhase::Plain, order, &[ColType::Int]) else {
         return None;
     };
     turns_of(alloc, &mut sort, words)

@@ -94,7 +94,7 @@ rows_seen : (f g : ℕ → List Row) (sizes : ℕ → ℕ) (p : Plan) → SameSe
 rows_seen f g sizes (scan n c r m z) same = ap length (same r (same_number r))
 rows_seen f g sizes (unary n c op p) same = rows_seen f g sizes p same
 rows_seen f g sizes (binary n c union p q) same = rw (rows_seen f g sizes p (in_left f g p q same), rows_seen f g sizes q (in_right f g p q same))
-rows_seen f g sizes (binary n c (join merging on) p q) same = rw (rows_seen f g sizes p (in_left f g p q same), rows_seen f g sizes q (in_right f g p q same))
+rows_seen f g sizes (binary n c (join method on) p q) same = rw (rows_seen f g sizes p (in_left f g p q same), rows_seen f g sizes q (in_right f g p q same))
 rows_seen f g sizes (binary n c (semi_join matched on conditions) p q) same = rows_seen f g sizes p (in_left f g p q same)
 rows_seen f g sizes (exchange n c k m p) same = ap (λ x. workers sizes (size p) * x) (rows_seen f g sizes p same)
 

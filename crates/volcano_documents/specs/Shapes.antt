@@ -1,7 +1,7 @@
 -- The words that shapes of values know: those of which a text has to be one, and the names of an object's members.
 use Rattle.std.specs.Prelude.{◌≡◌, ℕ, List, [], ◌∷◌, map, codes, Contains}
 use Rattle.volcano_documents.specs.declared.shapes.Shape.{Shape}
-use Rattle.volcano_documents.specs.declared.shapes.Shape.TheVariants.{Word, Bundle, Catalog, Relation, Column, Plan, Range, Claim, HashPart, RangePart, OtherPart, Condition, Renamed, CountedRows, ColumnAggregate, Scan, Select, Kept, Sort, Limit, Union, InnerJoin, SemiJoin, PlainGroup, PartialGroup, FinalGroup, HashExchange, RangeExchange, SizedExchange, Gather, Concat}
+use Rattle.volcano_documents.specs.declared.shapes.Shape.TheVariants.{Word, Bundle, Catalog, Relation, Column, Directed, Plan, Range, Claim, HashPart, RangePart, OtherPart, Condition, Renamed, CountedRows, ColumnAggregate, Scan, Select, Kept, Sort, Limit, Union, InnerJoin, SemiJoin, PlainGroup, PartialGroup, FinalGroup, HashExchange, RangeExchange, SizedExchange, Gather, Concat}
 use Rattle.volcano_documents.specs.declared.shapes.Form.{Form}
 use Rattle.volcano_documents.specs.declared.shapes.Form.TheVariants.{Object}
 use Rattle.volcano_documents.specs.declared.shapes.Member.{Member}
@@ -17,6 +17,7 @@ known_words Bundle = codes "command" ∷ codes "catalog" ∷ codes "plan" ∷ co
 known_words Catalog = codes "relations" ∷ []
 known_words Relation = codes "name" ∷ codes "columns" ∷ codes "keys" ∷ codes "order" ∷ []
 known_words Column = codes "name" ∷ codes "type" ∷ []
+known_words Directed = codes "column" ∷ codes "desc" ∷ []
 known_words Plan = codes "sizes" ∷ codes "ranges" ∷ codes "total" ∷ codes "derive" ∷ codes "root" ∷ []
 known_words Range = codes "name" ∷ codes "bounds" ∷ []
 known_words Claim = codes "part" ∷ codes "order" ∷ codes "keys" ∷ []

@@ -35,13 +35,16 @@ pub const RELATION: &[Member] = &[
     member!("name", Shape::Name),
     member!("columns", Shape::Columns),
     maybe!("keys", Shape::Keys),
-    maybe!("order", Shape::Names),
+    maybe!("order", Shape::Order),
 ];
 
 pub const COLUMN: &[Member] = &[
     member!("name", Shape::Name),
     member!("type", Shape::Word(Words::Types)),
 ];
+
+// An entry of an order that says its direction.
+pub const DIRECTED: &[Member] = &[member!("column", Shape::Name), maybe!("desc", Shape::Flag)];
 
 pub const PLAN: &[Member] = &[
     maybe!("sizes", Shape::Names),
@@ -58,7 +61,7 @@ pub const RANGE: &[Member] = &[
 
 pub const CLAIM: &[Member] = &[
     maybe!("part", Shape::Part),
-    maybe!("order", Shape::Names),
+    maybe!("order", Shape::Order),
     maybe!("keys", Shape::ClaimedKeys),
 ];
 
@@ -128,7 +131,7 @@ pub const KEPT: &[Member] = &[
 pub const SORT: &[Member] = &[
     member!("op", Shape::Word(Words::Operators)),
     maybe!("phase", Shape::Word(Words::SortPhases)),
-    member!("columns", Shape::SomeNames),
+    member!("columns", Shape::SomeOrder),
     maybe!("claim", Shape::Claim),
     member!("input", Shape::Node),
 ];
@@ -201,7 +204,7 @@ pub const HASH_EXCHANGE: &[Member] = &[
     member!("size", Shape::Name),
     member!("route", Shape::Name),
     member!("columns", Shape::SomeNames),
-    maybe!("merge", Shape::SomeNames),
+    maybe!("merge", Shape::SomeOrder),
     maybe!("claim", Shape::Claim),
     member!("input", Shape::Node),
 ];
@@ -212,7 +215,7 @@ pub const RANGE_EXCHANGE: &[Member] = &[
     member!("size", Shape::Name),
     member!("route", Shape::Name),
     member!("column", Shape::Name),
-    maybe!("merge", Shape::SomeNames),
+    maybe!("merge", Shape::SomeOrder),
     maybe!("claim", Shape::Claim),
     member!("input", Shape::Node),
 ];
@@ -221,7 +224,7 @@ pub const SIZED_EXCHANGE: &[Member] = &[
     member!("op", Shape::Word(Words::Operators)),
     member!("kind", Shape::Word(Words::Kinds)),
     member!("size", Shape::Name),
-    maybe!("merge", Shape::SomeNames),
+    maybe!("merge", Shape::SomeOrder),
     maybe!("claim", Shape::Claim),
     member!("input", Shape::Node),
 ];
@@ -229,7 +232,7 @@ pub const SIZED_EXCHANGE: &[Member] = &[
 pub const GATHER: &[Member] = &[
     member!("op", Shape::Word(Words::Operators)),
     member!("kind", Shape::Word(Words::Kinds)),
-    maybe!("merge", Shape::SomeNames),
+    maybe!("merge", Shape::SomeOrder),
     maybe!("claim", Shape::Claim),
     member!("input", Shape::Node),
 ];

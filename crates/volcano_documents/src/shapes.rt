@@ -23,6 +23,8 @@ pub enum Shape {
     // Lists.
     Names,
     SomeNames,
+    Order,
+    SomeOrder,
     Keys,
     ClaimedKeys,
     Relations,
@@ -45,6 +47,8 @@ pub enum Shape {
     Catalog,
     Relation,
     Column,
+    /// Of an order's entry that says its direction.
+    Directed,
     Plan,
     Range,
     Claim,
@@ -76,6 +80,7 @@ pub enum Shape {
     // One of several shapes.
     Part,
     RoutedPart,
+    OrderEntry,
     Output,
     Aggregate,
     Node,
@@ -130,6 +135,8 @@ pub fn form_of(shape: Shape) -> Form
     match shape {
         Shape::Names => Form::List(Shape::Name, 0),
         Shape::SomeNames => Form::List(Shape::Name, 1),
+        Shape::Order => Form::List(Shape::OrderEntry, 0),
+        Shape::SomeOrder => Form::List(Shape::OrderEntry, 1),
         Shape::Keys => Form::List(Shape::SomeNames, 0),
         Shape::ClaimedKeys => Form::List(Shape::Names, 0),
         Shape::Relations => Form::List(Shape::Relation, 0),
@@ -146,6 +153,7 @@ pub fn form_of(shape: Shape) -> Form
         Shape::Sizes => Form::Map(Shape::Count),
         Shape::Part => Form::Either(Shape::Word(Words::Parts), Shape::RoutedPart),
         Shape::RoutedPart => Form::Routed,
+        Shape::OrderEntry => Form::Either(Shape::Name, Shape::Directed),
         Shape::Output => Form::Either(Shape::Name, Shape::Renamed),
         _ => choice_form(shape),
     }
@@ -174,6 +182,7 @@ fn object_form(shape: Shape) -> Form
         Shape::Catalog => Form::Object(members::CATALOG, Rule::Free),
         Shape::Relation => Form::Object(members::RELATION, Rule::Free),
         Shape::Column => Form::Object(members::COLUMN, Rule::Free),
+        Shape::Directed => Form::Object(members::DIRECTED, Rule::Free),
         Shape::Plan => Form::Object(members::PLAN, Rule::Free),
         Shape::Range => Form::Object(members::RANGE, Rule::Free),
         Shape::Claim => Form::Object(members::CLAIM, Rule::Free),

@@ -58,6 +58,29 @@ fn text_place(values: &[Json], text: &str, is_second: bool) -> Option<usize> {
     None
 }
 
+// The name of the column of an entry of an order: in a member, where the entry says the direction too.
+fn entry_name(entry: &Json) -> &Json {
+    entry.get("column").unwrap_or(entry)
+}
+
+// The entry with this column in an order, with its place: the second one, if that is asked for.
+fn entry_named<'v>(
+    entries: &'v [Json],
+    column: &str,
+    is_second: bool,
+) -> Option<(usize, &'v Json)> {
+    let mut is_there = !is_second;
+    for (place, entry) in entries.iter().enumerate() {
+        if is_text(entry_name(entry), column) {
+            if is_there {
+                return Some((place, entry));
+            }
+            is_there = true;
+        }
+    }
+    None
+}
+
 // Whether a name is to be looked for among the keys and the order of a relation: where it stands twice in one list, or where it is no
 // column.
 fn is_sought(relation: &Json, name: &str, is_second: bool) -> bool {
@@ -78,6 +101,23 @@ fn push_item<'t>(
     Ok(())
 }
 
+// Adds the steps from a relation to a name in the order of it. Whether it is there.
+fn find_in_order(
+    steps: &mut Vec<Step<'_>>,
+    relation: &Json,
+    name: &str,
+    is_second: bool,
+) -> Result<bool, AllocError> {
+    let Some((place, entry)) = entry_named(items(relation, "order"), name, is_second) else {
+        return Ok(false);
+    };
+    push_item(steps, "order", place)?;
+    if entry.get("column").is_some() {
+        steps.push(Step::Member("column"))?;
+    }
+    Ok(true)
+}
+
 // Adds the steps from a relation to a name in a key or the order of it. Whether it is there.
 fn find_listed(
     steps: &mut Vec<Step<'_>>,
@@ -95,13 +135,7 @@ fn find_listed(
             return Ok(true);
         }
     }
-    match text_place(items(relation, "order"), name, is_second) {
-        Some(place) => {
-            push_item(steps, "order", place)?;
-            Ok(true)
-        }
-        None => Ok(false),
-    }
+    find_in_order(steps, relation, name, is_second)
 }
 
 // Adds the steps from a relation to a name that is at fault in it. Whether there is one.

@@ -4,6 +4,7 @@ use std::alloc::{AllocError, Global};
 use volcano_diagnostics::{Diagnostic, Label, Note};
 use vx_catalog::LoadFault;
 use vx_catalog_relations::Relation;
+use vx_rows_values::OrderEntry;
 
 // Adds the names of columns, with commas between them.
 fn push_columns(
@@ -59,10 +60,34 @@ fn key(alloc: Global, relation: &Relation, key: usize) -> Result<Option<String>,
     Ok(Some(text))
 }
 
-// Rows that rise on the order.
+// Adds the columns of an order by their names, with commas between them, and ` desc` behind those that fall.
+fn push_order(
+    text: &mut String,
+    relation: &Relation,
+    order: &[OrderEntry],
+) -> Result<(), AllocError> {
+    for (place, entry) in order.iter().enumerate() {
+        if place > 0 {
+            text.push_str(",")?;
+        }
+        push_columns(text, relation, &[entry.column])?;
+        if entry.falling {
+            text.push_str(" desc")?;
+        }
+    }
+    Ok(())
+}
+
+// Rows that rise on the order, or that stand in it where it says directions.
 fn order(alloc: Global, relation: &Relation) -> Result<String, AllocError> {
-    let mut text = String::from_str(alloc, "rows that rise on the order [")?;
-    push_columns(&mut text, relation, relation.order())?;
+    let order = relation.order();
+    let start = if order.iter().any(|entry| entry.falling) {
+        "rows in the order ["
+    } else {
+        "rows that rise on the order ["
+    };
+    let mut text = String::from_str(alloc, start)?;
+    push_order(&mut text, relation, order)?;
     text.push_str("] of the catalog")?;
     Ok(text)
 }

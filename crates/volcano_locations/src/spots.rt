@@ -13,7 +13,7 @@ use std::str;
 use vx_catalog::LoadFault;
 use vx_catalog_bytes::Store;
 use vx_catalog_relations::Relation;
-use vx_rows_values::ColType;
+use vx_rows_values::{ColType, OrderEntry};
 
 /// A value in the column with this number.
 #[derive(Drop)]
@@ -27,7 +27,7 @@ pub struct CellAt {
 pub struct FaultSpot {
     /// The line on which the row begins, counted from 1; a text without a header has none.
     pub line: Option<u64>,
-    /// The line of the row with the same key, or of the greater row before it.
+    /// The line of the row with the same key, or of the row before it that should come behind it.
     pub earlier: Option<u64>,
     /// How many fields the row has, if that is the fault.
     pub width: Option<usize>,
@@ -218,12 +218,26 @@ fn key_spot(
     }))
 }
 
+// How the rows of two records stand to each other on an entry of an order.
+fn compare_on(
+    relation: &Relation,
+    entry: OrderEntry,
+    before: &ByteRecord,
+    fields: &ByteRecord,
+) -> Option<Ordering> {
+    if entry.falling {
+        compare_at(relation, entry.column, fields, before)
+    } else {
+        compare_at(relation, entry.column, before, fields)
+    }
+}
+
 // The first column of an order on which a row is smaller than the one before it, where it is equal on those before.
-fn falling_column(relation: &Relation, before: &ByteRecord, fields: &ByteRecord) -> Option<usize> {
-    for column in relation.order() {
-        match compare_at(relation, *column, before, fields)? {
+fn broken_column(relation: &Relation, before: &ByteRecord, fields: &ByteRecord) -> Option<usize> {
+    for entry in relation.order() {
+        match compare_on(relation, *entry, before, fields)? {
             Ordering::Equal => {}
-            Ordering::Greater => return Some(*column),
+            Ordering::Greater => return Some(entry.column),
             Ordering::Less => return None,
         }
     }
@@ -239,7 +253,7 @@ fn order_spot(
 ) -> Result<Option<FaultSpot>, PlaceFault>
     ensures { IfOk result (λ o. IfSome o (λ s. s.line ≡ Some found.now.line)) }
 {
-    let Some(column) = falling_column(relation, &before.fields, &found.fields) else {
+    let Some(column) = broken_column(relation, &before.fields, &found.fields) else {
         return Ok(None);
     };
     let mut cells = Vec::new(alloc);

@@ -55,7 +55,7 @@ Example: `"keys": [["id"]]`, and the first and the fifth row both have the id 7.
 "#;
 
 const C9: &str = r#"C9 OrderBroken row=2
-What happened: the row is smaller than the one before it on the declared order.
+What happened: by the declared order the row should stand before the one above it.
 Usual cause, and cure: sort the file, numbers by value and texts by their bytes, or drop the order; keys are
 tested first.
 Example: `"order": ["id"]`, and the rows have the ids 0, 5 and 3.

@@ -8,11 +8,12 @@ use Rattle.std.proofs.lemmas.List.{append-nil, length-append, length_push}
 use Rattle.std.proofs.lemmas.Bool.Decides.{Decides-ltb, Decides-eqb}
 use Rattle.csv.specs.Records.{field_at}
 use Rattle.vx_rows_values.specs.Values.{Val, num, text, Row}
+use Rattle.vx_rows_values.specs.declared.order.OrderEntry.{OrderEntry}
 use Rattle.vx_rows_values.specs.Order.{sorted}
 use Rattle.vx_rows_values.specs.declared.value.ColType.{ColType}
 use Rattle.vx_rows_values.specs.declared.value.ColType.TheVariants as kind
 use Rattle.vx_rows_values.proofs.KeyFacts.{key-law}
-use Rattle.vx_rows_values.proofs.Order.{NoFall, sorted_neighbours}
+use Rattle.vx_rows_values.proofs.SortedFacts.{NoFall, sorted_neighbours}
 use Rattle.vx_catalog_relations.specs.Relation.{Relation, KeysHold}
 use Rattle.vx_catalog_relations.specs.Walk.{◌>>=◌, walk_onto}
 use Rattle.vx_catalog.specs.Number.{number_of}
@@ -158,11 +159,11 @@ unfolding keys_kept
 are_kept [] k rows h = refl
 are_kept (cols ∷ keys) k rows h = rw ((key-law.clashed cols rows).1 ((key-law.tested cols rows).1 h.0)) (are_kept keys (k + 1) rows h.1)
 
-falls_never : (order : List ℕ) (rows : List Row) (n : ℕ) (last : Row) → NoFall order (last ∷ rows) (length (last ∷ rows)) → fall_from order n last rows ≡ None
+falls_never : (order : List OrderEntry) (rows : List Row) (n : ℕ) (last : Row) → NoFall order (last ∷ rows) (length (last ∷ rows)) → fall_from order n last rows ≡ None
 falls_never order [] n last h = refl
 falls_never order (x ∷ xs) n last h = rw (h zero (omega arith)) (falls_never order xs (n + 1) x (λ k l. h (suc k) (omega arith)))
 
-no_first_fall : (order : List ℕ) (rows : List Row) → sorted order rows ≡ true → first_fall order rows ≡ None
+no_first_fall : (order : List OrderEntry) (rows : List Row) → sorted order rows ≡ true → first_fall order rows ≡ None
 unfolding first_fall
 no_first_fall order [] h = refl
 no_first_fall order (x ∷ xs) h = falls_never order xs 1 x (sorted_neighbours order (x ∷ xs) h)

@@ -4,10 +4,11 @@ use Rattle.std.specs.List.{AllByRecursion}
 use Rattle.vx_rows_values.specs.Types.{Fits}
 use Rattle.std.proofs.lemmas.List.{drop_all}
 use Rattle.vx_rows_values.specs.Values.{Row}
+use Rattle.vx_rows_values.specs.declared.order.OrderEntry.{OrderEntry}
 use Rattle.vx_rows_values.specs.Order.{compare_on, sorted}
 use Rattle.vx_rows_values.specs.Keys.{first_clash, HasKey}
 use Rattle.vx_rows_values.proofs.KeyFacts.{key-law}
-use Rattle.vx_rows_values.proofs.Order.{NoFall, sorted_from}
+use Rattle.vx_rows_values.proofs.SortedFacts.{NoFall, sorted_from}
 use Rattle.vx_catalog_relations.specs.Relation.{Relation, KeysHold, Meets}
 use Rattle.vx_catalog.specs.declared.fault.LoadFault.{LoadFault}
 use Rattle.vx_catalog.specs.declared.fault.LoadFault.TheVariants as fault
@@ -15,41 +16,41 @@ use Rattle.vx_catalog.specs.Loading.{no_clash, keys_kept, fall_from, first_fall,
 
 -- ---- the order
 
-fall_step : (order : List ℕ) (rows : List Row) (i : ℕ) (last : Row) → i < length rows
+fall_step : (order : List OrderEntry) (rows : List Row) (i : ℕ) (last : Row) → i < length rows
     → fall_from order i last (drop i rows) ≡ cond (is_lt (compare_on order (get_or rows i []) last)) (Some i) (fall_from order (i + 1) (get_or rows i []) (drop (i + 1) rows))
 fall_step order rows i last h = rw (drop-cons rows i [], add-one) refl
 
-pub falls_here : (order : List ℕ) (rows : List Row) (i : ℕ) (last : Row) (total : Option ℕ) → i < length rows → is_lt (compare_on order (get_or rows i []) last) ≡ true
+pub falls_here : (order : List OrderEntry) (rows : List Row) (i : ℕ) (last : Row) (total : Option ℕ) → i < length rows → is_lt (compare_on order (get_or rows i []) last) ≡ true
     → fall_from order i last (drop i rows) ≡ total → Some i ≡ total
 falls_here order rows i last total h falls so_far = sym (fall_step order rows i last h ∙ rw falls refl) ∙ so_far
 
-pub falls_later : (order : List ℕ) (rows : List Row) (i : ℕ) (last : Row) (total : Option ℕ) → i < length rows → is_lt (compare_on order (get_or rows i []) last) ≡ false
+pub falls_later : (order : List OrderEntry) (rows : List Row) (i : ℕ) (last : Row) (total : Option ℕ) → i < length rows → is_lt (compare_on order (get_or rows i []) last) ≡ false
     → fall_from order i last (drop i rows) ≡ total → fall_from order (i + 1) (get_or rows i []) (drop (i + 1) rows) ≡ total
 falls_later order rows i last total h falls so_far = sym (fall_step order rows i last h ∙ rw falls refl) ∙ so_far
 
-pub falls_first : (order : List ℕ) (rows : List Row) → fall_from order 1 (get_or rows 0 []) (drop 1 rows) ≡ first_fall order rows
+pub falls_first : (order : List OrderEntry) (rows : List Row) → fall_from order 1 (get_or rows 0 []) (drop 1 rows) ≡ first_fall order rows
 unfolding first_fall
 falls_first order [] = refl
 falls_first order (x ∷ xs) = refl
 
-pub falls_nowhere : (order : List ℕ) (rows : List Row) (i : ℕ) (last : Row) (total : Option ℕ) → length rows ≤ i → fall_from order i last (drop i rows) ≡ total → None ≡ total
+pub falls_nowhere : (order : List OrderEntry) (rows : List Row) (i : ℕ) (last : Row) (total : Option ℕ) → length rows ≤ i → fall_from order i last (drop i rows) ≡ total → None ≡ total
 falls_nowhere order rows i last total h so_far = let none : drop i rows ≡ [] = drop_all i rows h in sym (ap (λ l. fall_from order i last l) none) ∙ so_far
 
 none_if : (b : Bool) (n : ℕ) (o : Option ℕ) → cond b (Some n) o ≡ None → (b ≡ false) × (o ≡ None)
 none_if true n o h = cc
 none_if false n o h = (refl, h)
 
-no_fall_from : (order : List ℕ) (rows : List Row) (n : ℕ) (last : Row) → fall_from order n last rows ≡ None → NoFall order (last ∷ rows) (length (last ∷ rows))
+no_fall_from : (order : List OrderEntry) (rows : List Row) (n : ℕ) (last : Row) → fall_from order n last rows ≡ None → NoFall order (last ∷ rows) (length (last ∷ rows))
 no_fall_from order [] n last h k l = absurd (omega arith)
 no_fall_from order (x ∷ xs) n last h zero l = (none_if (is_lt (compare_on order x last)) n (fall_from order (n + 1) x xs) h).0
 no_fall_from order (x ∷ xs) n last h (suc k) l = no_fall_from order xs (n + 1) x (none_if (is_lt (compare_on order x last)) n (fall_from order (n + 1) x xs) h).1 k (omega arith)
 
-sorted_rows : (order : List ℕ) (rows : List Row) → first_fall order rows ≡ None → sorted order rows ≡ true
+sorted_rows : (order : List OrderEntry) (rows : List Row) → first_fall order rows ≡ None → sorted order rows ≡ true
 unfolding first_fall
 sorted_rows order [] h = refl
 sorted_rows order (x ∷ xs) h = sorted_from order (x ∷ xs) (no_fall_from order xs 1 x h)
 
-pub order_kept_is : (order : List ℕ) (rows out : List Row) → order_kept order rows ≡ Ok out → (rows ≡ out) × (sorted order rows ≡ true)
+pub order_kept_is : (order : List OrderEntry) (rows out : List Row) → order_kept order rows ≡ Ok out → (rows ≡ out) × (sorted order rows ≡ true)
 order_kept_is order rows out h = by_fall (first_fall order rows) refl h
   where
     by_fall : (o : Option ℕ) → first_fall order rows ≡ o → no_fall rows o ≡ Ok out → (rows ≡ out) × (sorted order rows ≡ true)

@@ -5,6 +5,7 @@ use Rattle.std.specs.Str.{is_utf8}
 use Rattle.csv.specs.Reading.{records, default_config, strip_bom}
 use Rattle.csv.specs.Records.{field_at}
 use Rattle.vx_rows_values.specs.Values.{Val, num, text, Row}
+use Rattle.vx_rows_values.specs.declared.order.OrderEntry.{OrderEntry}
 use Rattle.vx_rows_values.specs.Order.{compare_on}
 use Rattle.vx_rows_values.specs.Keys.{first_clash}
 use Rattle.vx_rows_values.specs.declared.value.ColType.{ColType}
@@ -95,11 +96,11 @@ keys_kept key [] rows = Ok rows
 keys_kept key (cols ∷ keys) rows = no_clash key (first_clash cols rows) (keys_kept (key + 1) keys rows)
 
 -- the number of the first of these rows that is smaller than the one before it; `last` comes before them, and the first of them is row n
-abbrev pub fall_from : List ℕ → ℕ → Row → List Row → Option ℕ
+abbrev pub fall_from : List OrderEntry → ℕ → Row → List Row → Option ℕ
 fall_from order n last [] = None
 fall_from order n last (row ∷ rows) = if is_lt (compare_on order row last) then Some n else fall_from order (n + 1) row rows
 
-unfoldable pub first_fall : List ℕ → List Row → Option ℕ
+unfoldable pub first_fall : List OrderEntry → List Row → Option ℕ
 first_fall order [] = None
 first_fall order (row ∷ rows) = fall_from order 1 row rows
 
@@ -108,7 +109,7 @@ no_fall rows None = Ok rows
 no_fall rows (Some row) = Err (fault.OrderBroken row)
 
 -- the rows, if none is smaller than the one before it
-abbrev pub order_kept : List ℕ → List Row → Result (List Row) LoadFault
+abbrev pub order_kept : List OrderEntry → List Row → Result (List Row) LoadFault
 order_kept order rows = no_fall rows (first_fall order rows)
 
 -- the rows, if they meet a relation's keys and then its order

@@ -6,7 +6,7 @@ ghost use Rattle.std.specs.Ordering.{is_lt};
 ghost use Rattle.std.specs.List.{AllByRecursion};
 ghost use Rattle.vx_rows_values.specs.Types.{Fits};
 ghost use Rattle.vx_rows.specs.View.{row, AreColumns};
-ghost use Rattle.vx_rows_values.specs.Order.{compare_on};
+ghost use Rattle.vx_rows_values.specs.Order.{compare_on, order_columns};
 ghost use Rattle.vx_catalog_relations.specs.Relation.{Meets};
 ghost use Rattle.vx_catalog_relations.specs.Catalog.{relation_at, IsRelation};
 ghost use Rattle.vx_catalog.specs.Database.{IsLoaded};
@@ -27,6 +27,7 @@ use std::marker::{Brand, Model};
 use vx_catalog_bytes::ByteIn;
 use vx_catalog_relations::{Catalog, Relation};
 use vx_rows::{Table, compare_on};
+use vx_rows_values::OrderEntry;
 
 /// The rows under a text's header. It also fails with NoMemory if the source underneath failed.
 pub fn read_text<S: Read>(
@@ -54,8 +55,8 @@ pub fn read_text<S: Read>(
 
 // The first row that is smaller than the one before it.
 #[tactic(auto, unfolding(crate::specs::Loading::first_fall))]
-fn first_fall(rows: &Table, order: &[usize]) -> Option<usize>
-    requires { AreColumns (length rows.now.types) order.now }
+fn first_fall(rows: &Table, order: &[OrderEntry]) -> Option<usize>
+    requires { AreColumns (length rows.now.types) (order_columns order.now) }
     ensures { result ≡ first_fall order.now rows.now.rows }
 {
     for i in 1..rows.len() {
@@ -67,8 +68,8 @@ fn first_fall(rows: &Table, order: &[usize]) -> Option<usize>
 }
 
 // Tests that no row is smaller than the one before it.
-fn test_order(rows: &Table, order: &[usize]) -> Result<(), LoadFault>
-    requires { AreColumns (length rows.now.types) order.now }
+fn test_order(rows: &Table, order: &[OrderEntry]) -> Result<(), LoadFault>
+    requires { AreColumns (length rows.now.types) (order_columns order.now) }
     ensures { Gives (λ _. rows.now.rows) result (order_kept order.now rows.now.rows) }
 {
     match first_fall(rows, order) {

@@ -1,8 +1,8 @@
--- Looking into a JSON value: the items of an array, objects with no members but the stated ones, names, lists of values of one form, and members that may be left out.
-use Rattle.std.specs.Prelude.{◌≡◌, ℕ, List, [], ◌∷◌, ◌++◌, Bool, false, Option, Some, None, option_map, option_and_then, bytes_eq, Result, Ok, Err, IfOk}
+-- Looking into a JSON value: the items of an array, objects with no members but the stated ones, names, lists of values of one form, members that may be left out, and entries of orders.
+use Rattle.std.specs.Prelude.{◌≡◌, ℕ, List, [], ◌∷◌, ◌++◌, Bool, false, Option, Some, None, option_map, option_and_then, bytes_eq, codes, Result, Ok, Err, IfOk, if◌then◌else◌}
 use Rattle.std.specs.List.{list_all, list_any}
 use Rattle.serde_json.specs.Data.{Data, null, boolean, number, string, array, object, Items, no_items, item, Members, no_members, member}
-use Rattle.serde_json.specs.Find.{as_array, as_str}
+use Rattle.serde_json.specs.Find.{get, as_array, as_str, as_bool}
 use Rattle.std.specs.declared.alloc.AllocError.{AllocError}
 use Rattle.vx_catalog_json.specs.declared.misread.Misread.{Misread}
 use Rattle.vx_catalog_json.specs.declared.misread.Misread.TheVariants.{NotOfForm}
@@ -72,3 +72,28 @@ some_in f d = option_and_then (each_onto f []) (option_and_then some_entry (as_l
 abbrev pub or_default : {A : Type 0} → A → (Data → Option A) → Option Data → Option A
 or_default x f None = Some x
 or_default x f (Some d) = f d
+
+-- a member that is true or false; false where it is left out
+abbrev pub flag_in : List ℕ → Data → Option Bool
+flag_in key d = or_default false as_bool (get key d)
+
+-- ---- orders
+
+-- an entry of an order as a text has it: a column by its name, and whether it falls
+pub record OrderText : Type 0 where
+  pub name : List ℕ
+  pub falling : Bool
+
+-- an object of a column's name and, if it is there, whether the column falls
+unfoldable pub directed_in : Data → Option OrderText
+directed_in d = if has_only (codes "column" ∷ codes "desc" ∷ []) d
+    then option_and_then (λ n. option_map (λ f. record { name = n; falling = f }) (flag_in (codes "desc") d)) (option_and_then name_in (get (codes "column") d))
+    else None
+
+abbrev pub order_entry_by : Option (List ℕ) → Data → Option OrderText
+order_entry_by None d = directed_in d
+order_entry_by (Some s) d = option_map (λ n. record { name = n; falling = false }) (some_entry s)
+
+-- the name of a column, which rises, or an object that says in which direction it goes
+unfoldable pub order_entry_in : Data → Option OrderText
+order_entry_in d = order_entry_by (as_str d) d

@@ -5,7 +5,7 @@ ghost use Rattle.std.specs.List.{list_all};
 ghost use Rattle.std.specs.BTreeMap.{keys};
 ghost use Rattle.serde_json.specs.Find.{get, as_str};
 ghost use Rattle.serde_json.specs.View.{view};
-ghost use Rattle.vx_catalog_json.specs.Look.{as_list, some_entry, is_among, has_only, Finds, Parses, name_in};
+ghost use Rattle.vx_catalog_json.specs.Look.{as_list, some_entry, is_among, has_only, Finds, Parses, name_in, flag_in};
 ghost use Rattle.vx_catalog_json.specs.declared.misread.Misread.TheVariants.{NotOfForm};
 
 use crate::misread::Misread;
@@ -94,5 +94,15 @@ pub fn read_name(alloc: Global, value: &Value) -> Result<String, Misread>
     match value.as_str() {
         Some(text) if !text.is_empty() => Ok(String::from_str(alloc, text)?),
         _ => Err(Misread::NotOfForm),
+    }
+}
+
+/// A member that is true or false; false where it is left out.
+pub fn read_flag(value: &Value, key: &str) -> Result<bool, Misread>
+    ensures { Finds (λ b. b) result (flag_in key.now (view value.now)) }
+{
+    match value.get(key) {
+        Some(flag) => flag.as_bool().ok_or(Misread::NotOfForm),
+        None => Ok(false),
     }
 }

@@ -6,12 +6,16 @@ use Rattle.std.proofs.lemmas.List.Folds.{list_any-append, list_all-append, list_
 use Rattle.std.proofs.lemmas.List.Quantifiers.{position-Some}
 use Rattle.std.proofs.lemmas.Bool.{and_parts, and_from, or_parts, not-true, not_from_false}
 use Rattle.std.proofs.lemmas.Bool.Decides.{Decides-ltb}
+use Rattle.vx_catalog_json.specs.Look.{OrderText}
+use Rattle.vx_rows_values.specs.declared.order.OrderEntry.{OrderEntry}
+use Rattle.vx_rows_values.specs.Order.{order_columns, in_directions}
 use Rattle.vx_catalog_relations.specs.Relation.{Relation}
 use Rattle.vx_catalog_relations.specs.Catalog.{relation_at, are_distinct_names, are_distinct, all_below, is_key_of, is_named, IsRelation, IsCatalog}
 use Rattle.vx_catalog_relations.specs.Walk.{◌>>=◌, walk_onto}
 use Rattle.vx_catalog_relations.specs.Form.{ColumnText, RelationText}
-use Rattle.vx_catalog_relations.specs.Naming.{Refusal, duplicate_name, name_once, names_of, column_once, column_of, columns_of, keys_of, relation_of, relation_after, is_small, is_within_limits, columns_text, name_at, text_of}
+use Rattle.vx_catalog_relations.specs.Naming.{Refusal, duplicate_name, name_once, names_of, column_once, column_of, columns_of, keys_of, order_of, relation_of, relation_after, is_small, is_within_limits, columns_text, name_at, order_text, text_of}
 use Rattle.vx_catalog_relations.proofs.NameFacts.{text_decides, list_any-map}
+use Rattle.vx_catalog_relations.proofs.DirectionFacts.{columns_back, text_back}
 
 pub ok_bind : {E A B : Type 0} (r : Result A E) (f : A → Result B E) (y : B) → (r >>= f) ≡ Ok y → (x : A) × (r ≡ Ok x) × (f x ≡ Ok y)
 ok_bind (Ok x) f y h = (x, refl, h)
@@ -97,6 +101,25 @@ columns_kept names list out h =
     })
     list [] [] out (record { below = refl; apart = refl; same = refl }) h
 
+-- ---- orders
+
+record Ordered (names : List (List ℕ)) (text : List OrderText) (order : List OrderEntry) : Type 0 where
+  below : all_below (length names) (order_columns order) ≡ true
+  apart : are_distinct (order_columns order) ≡ true
+  same : order_text names order ≡ text
+
+order_kept : (names : List (List ℕ)) (text : List OrderText) (out : List OrderEntry) → order_of names text ≡ Ok out → Ordered names text out
+order_kept names text out h =
+    let b = ok_bind (columns_of names (map (λ (e : OrderText). e.name) text)) _ out h in
+    let made : in_directions b.0 (map (λ (e : OrderText). e.falling) text) ≡ out = cc in
+    let k = columns_kept names (map (λ (e : OrderText). e.name) text) b.0 b.1 in
+    let columns : order_columns out ≡ b.0 = ap order_columns (sym made) ∙ columns_back names b.0 text k.same in
+    record {
+      below = rw columns k.below;
+      apart = rw columns k.apart;
+      same = ap (order_text names) (sym made) ∙ text_back names b.0 text k.same;
+    }
+
 -- ---- keys
 
 some_left : {X Y : Type 0} (f : X → Y) (xs : List X) (ys : List Y) → map f xs ≡ ys → nat_lt 0 (length ys) ≡ true → nat_lt 0 (length xs) ≡ true
@@ -140,12 +163,12 @@ record Made (t : RelationText) (r : Relation) : Type 0 where
   says : text_of r ≡ t
   name : r.name ≡ t.name
 
-made_from : (t : RelationText) (names : List (List ℕ)) (keys : List (List ℕ)) (order : List ℕ) → names_of (map (λ (c : ColumnText). c.name) t.columns) ≡ Ok names → keys_of t.keys names ≡ Ok keys
-    → columns_of names t.order ≡ Ok order → Made t (record { name = t.name; names = names; types = map (λ (c : ColumnText). c.kind) t.columns; keys = keys; order = order })
+made_from : (t : RelationText) (names : List (List ℕ)) (keys : List (List ℕ)) (order : List OrderEntry) → names_of (map (λ (c : ColumnText). c.name) t.columns) ≡ Ok names → keys_of t.keys names ≡ Ok keys
+    → order_of names t.order ≡ Ok order → Made t (record { name = t.name; names = names; types = map (λ (c : ColumnText). c.kind) t.columns; keys = keys; order = order })
 made_from t names keys order hn hk ho =
     let n = names_kept (map (λ (c : ColumnText). c.name) t.columns) names hn in
     let k = keys_kept names t.keys keys hk in
-    let o = columns_kept names t.order order ho in
+    let o = order_kept names t.order order ho in
     let columns : columns_text names (map (λ (c : ColumnText). c.kind) t.columns) ≡ t.columns =
     ap (λ l. columns_text l (map (λ (c : ColumnText). c.kind) t.columns)) n.0 ∙ columns_again t.columns in
     let long : length names ≡ length t.columns = ap length n.0 ∙ length-map t.columns (λ (c : ColumnText). c.name) in
@@ -174,7 +197,7 @@ unfolding relation_of
 relation_made t r h =
     let n = ok_bind (names_of (map (λ (c : ColumnText). c.name) t.columns)) _ r h in
     let k = ok_bind (keys_of t.keys n.0) _ r n.2 in
-    let o = ok_bind (columns_of n.0 t.order) _ r k.2 in
+    let o = ok_bind (order_of n.0 t.order) _ r k.2 in
     let e : record { name = t.name; names = n.0; types = map (λ (c : ColumnText). c.kind) t.columns; keys = k.0; order = o.0 } ≡ r = cc in
     subst (λ (x : Relation). Made t x) e (made_from t n.0 k.0 o.0 n.1 k.1 o.1)
 

@@ -8,6 +8,7 @@ use Rattle.std.proofs.lemmas.List.Folds.{list_any-append, list_all-append, list_
 use Rattle.std.proofs.lemmas.Bool.Decides.{Decides-ltb}
 use Rattle.serde_json.specs.Data.{Data}
 use Rattle.vx_rows_values.specs.declared.value.ColType.{ColType}
+use Rattle.vx_rows_values.specs.Order.{order_columns}
 use Rattle.vx_rows_values.proofs.ClashFacts.{position-is}
 use Rattle.vx_catalog_relations.specs.Relation.{Relation}
 use Rattle.vx_catalog_relations.specs.Catalog.{relation_at, are_distinct_names, are_distinct, all_below, is_key_of, IsRelation, IsCatalog}
@@ -16,6 +17,7 @@ use Rattle.vx_catalog_relations.specs.Form.{ColumnText}
 use Rattle.vx_catalog_relations.specs.Naming.{name_once, names_of, column_of, columns_of, keys_of, relation_of, relation_after, is_small, catalog_of, columns_text, name_at, text_of, States}
 use Rattle.vx_catalog_relations.proofs.NameFacts.{text_decides, list_any-map}
 use Rattle.vx_catalog_relations.proofs.NamingFacts.{relation_made}
+use Rattle.vx_catalog_relations.proofs.DirectionFacts.{order_found}
 
 -- each element comes back of what it looks like
 walk_finds : {E A B : Type 0} (look : B → A) (step : List B → A → Result B E) (whole : List B)
@@ -110,9 +112,9 @@ types_again (n ∷ ns) (t ∷ ts) e = ap (λ l. t ∷ l) (types_again ns ts (ome
 
 relation_found : (r : Relation) → IsRelation r → relation_of (text_of r) ≡ Ok r
 relation_found r is =
-    let order = and_parts (all_below (length r.names) r.order) (are_distinct r.order) is.order in
+    let order = and_parts (all_below (length r.names) (order_columns r.order)) (are_distinct (order_columns r.order)) is.order in
     relation_made (text_of r) r.names r.keys r.order (ap names_of (names_again r.names r.types is.typed) ∙ names_found r.names is.distinct)
-    (keys_found r.names r.keys is.distinct is.keys) (columns_found r.names r.order is.distinct order.0 order.1)
+    (keys_found r.names r.keys is.distinct is.keys) (order_found r.names r.order (columns_found r.names (order_columns r.order) is.distinct order.0 order.1))
     ∙ rw (types_again r.names r.types is.typed) refl
 
 small_text : (r : Relation) → IsRelation r → is_small (text_of r) ≡ true

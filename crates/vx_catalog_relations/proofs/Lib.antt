@@ -1,6 +1,7 @@
 pub mod NameFacts
 pub mod WalkFacts
 pub mod NamingFacts
+pub mod DirectionFacts
 pub mod Accepted
 pub mod Complete
 pub mod TextFacts

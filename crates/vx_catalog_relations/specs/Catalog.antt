@@ -2,6 +2,7 @@
 use Rattle.std.specs.Prelude.{◌≡◌, ℕ, ◌==◌, nat_lt, nat_le, Bool, true, not, ◌&&◌, List, [], ◌∷◌, map, length, slice_index_or, bytes_eq}
 use Rattle.std.specs.List.{list_all, list_any}
 use Rattle.vx_catalog_relations.specs.Relation.{Relation}
+use Rattle.vx_rows_values.specs.Order.{order_columns}
 use Rattle.vx_rows_values.specs.Limits.{max_columns, max_keys, max_relations}
 
 -- the relation with this number, counted from 0; past the end one without columns, keys and order
@@ -38,7 +39,7 @@ pub record IsRelation (r : Relation) : Type 0 where
   pub distinct : are_distinct_names r.names ≡ true
   pub few_keys : nat_le (length r.keys) max_keys ≡ true
   pub keys : list_all (is_key_of (length r.names)) r.keys ≡ true
-  pub order : (all_below (length r.names) r.order && are_distinct r.order) ≡ true
+  pub order : (all_below (length r.names) (order_columns r.order) && are_distinct (order_columns r.order)) ≡ true
 
 -- not too many relations, with distinct names
 pub record IsCatalog (catalog : List Relation) : Type 0 where

@@ -4,7 +4,7 @@ use Rattle.serde_json.specs.Data.{Data}
 use Rattle.serde_json.specs.Find.{get, as_str}
 use Rattle.vx_rows_values.specs.declared.value.ColType.{ColType}
 use Rattle.vx_rows_values.specs.declared.value.ColType.TheVariants as kind
-use Rattle.vx_catalog_json.specs.Look.{as_list, has_only, some_entry, name_in, each_onto, each_in, or_default}
+use Rattle.vx_catalog_json.specs.Look.{OrderText, as_list, has_only, some_entry, name_in, order_entry_in, each_onto, each_in, or_default}
 
 -- a column as the catalog's text has it
 pub record ColumnText : Type 0 where
@@ -16,7 +16,7 @@ pub record RelationText : Type 0 where
   pub name : List ℕ
   pub columns : List ColumnText
   pub keys : List (List (List ℕ))
-  pub order : List (List ℕ)
+  pub order : List OrderText
 
 unfoldable pub kind_in : Data → Option ColType
 kind_in d = option_and_then (λ s. if bytes_eq s (codes "int") then Some kind.Int else if bytes_eq s (codes "text") then Some kind.Text else None) (as_str d)
@@ -44,8 +44,8 @@ abbrev pub keys_or : Option Data → Option (List (List (List ℕ)))
 keys_or o = or_default [] (each_in key_in) o
 
 -- none where the member is left out
-abbrev pub order_or : Option Data → Option (List (List ℕ))
-order_or o = or_default [] (each_in name_in) o
+abbrev pub order_or : Option Data → Option (List OrderText)
+order_or o = or_default [] (each_in order_entry_in) o
 
 abbrev pub relation_members : List (List ℕ)
 relation_members = codes "name" ∷ codes "columns" ∷ codes "keys" ∷ codes "order" ∷ []

@@ -5,10 +5,13 @@ use Rattle.std.specs.Str.{is_utf8}
 use Rattle.serde_json.specs.Data.{Data}
 use Rattle.serde_json.specs.Read.{read as read_text}
 use Rattle.vx_rows_values.specs.declared.value.ColType.{ColType}
+use Rattle.vx_rows_values.specs.declared.order.OrderEntry.{OrderEntry}
+use Rattle.vx_rows_values.specs.Order.{in_directions}
 use Rattle.vx_catalog_relations.specs.Relation.{Relation}
 use Rattle.vx_catalog_relations.specs.Catalog.{IsCatalog}
 use Rattle.vx_catalog_relations.specs.Walk.{◌>>=◌, walk_onto}
 use Rattle.vx_catalog_relations.specs.Form.{ColumnText, RelationText, catalog_in}
+use Rattle.vx_catalog_json.specs.Look.{OrderText}
 use Rattle.vx_catalog_json.specs.declared.misread.Misread.{Misread}
 use Rattle.vx_catalog_json.specs.declared.misread.Misread.TheVariants as misread
 use Rattle.vx_catalog_relations.specs.declared.fault.CatalogFault.{CatalogFault}
@@ -63,10 +66,14 @@ columns_of names list = walk_onto (column_of names) [] list
 abbrev pub keys_of : List (List (List ℕ)) → List (List ℕ) → Result (List (List ℕ)) Refusal
 keys_of keys names = walk_onto (λ prior key. columns_of names key) [] keys
 
+-- the columns of an order, where none stands twice, each in its direction
+abbrev pub order_of : List (List ℕ) → List OrderText → Result (List OrderEntry) Refusal
+order_of names order = columns_of names (map (λ e. e.name) order) >>= λ columns. Ok (in_directions columns (map (λ e. e.falling) order))
+
 -- a relation's columns, then its keys, then its order
 unfoldable pub relation_of : RelationText → Result Relation Refusal
 relation_of t =
-    names_of (map (λ c. c.name) t.columns) >>= λ names. keys_of t.keys names >>= λ keys. columns_of names t.order >>= λ order.
+    names_of (map (λ c. c.name) t.columns) >>= λ names. keys_of t.keys names >>= λ keys. order_of names t.order >>= λ order.
     Ok (record { name = t.name; names = names; types = map (λ c. c.kind) t.columns; keys = keys; order = order })
 
 -- a relation whose name no earlier one has
@@ -105,9 +112,13 @@ columns_text (name ∷ names) (kind ∷ kinds) = record { name = name; kind = ki
 abbrev pub name_at : List (List ℕ) → ℕ → List ℕ
 name_at names c = slice_index_or names c []
 
+-- an order with its columns by name
+abbrev pub order_text : List (List ℕ) → List OrderEntry → List OrderText
+order_text names order = map (λ e. record { name = name_at names e.column; falling = e.falling }) order
+
 -- a relation with its columns by name
 abbrev pub text_of : Relation → RelationText
-text_of r = record { name = r.name; columns = columns_text r.names r.types; keys = map (λ key. map (name_at r.names) key) r.keys; order = map (name_at r.names) r.order }
+text_of r = record { name = r.name; columns = columns_text r.names r.types; keys = map (λ key. map (name_at r.names) key) r.keys; order = order_text r.names r.order }
 
 -- a value has the form of a catalog, and says this of it
 abbrev pub States : Data → List Relation → Type 0

@@ -2,6 +2,7 @@
 use Rattle.std.specs.Prelude.{◌≡◌, ℕ, true, List, [], ◌∷◌}
 use Rattle.std.specs.List.{AllByRecursion}
 use Rattle.vx_rows_values.specs.declared.value.ColType.{ColType}
+use Rattle.vx_rows_values.specs.declared.order.OrderEntry.{OrderEntry}
 use Rattle.vx_rows_values.specs.Values.{Row}
 use Rattle.vx_rows_values.specs.Order.{sorted}
 use Rattle.vx_rows_values.specs.Keys.{HasKey}
@@ -14,14 +15,14 @@ pub record Relation : Type 0 where
   pub names : List (List ℕ)
   pub types : List ColType
   pub keys : List (List ℕ)
-  pub order : List ℕ
+  pub order : List OrderEntry
 
 -- each of these lists of columns is a key of the rows
 abbrev pub KeysHold : List (List ℕ) → List Row → Type 0
 KeysHold [] xs = Unit {0}
 KeysHold (k ∷ ks) xs = HasKey k xs × KeysHold ks xs
 
--- the rows fit the relation's types, no two agree on a declared key, and they are sorted on the declared order
+-- the rows fit the relation's types, no two agree on a declared key, and they are sorted in the declared order
 pub record Meets (relation : Relation) (xs : List Row) : Type 0 where
   pub fit : AllByRecursion (Fits relation.types) xs
   pub keys : KeysHold relation.keys xs

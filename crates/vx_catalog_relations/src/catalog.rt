@@ -13,6 +13,7 @@ use serde_json::{Category, Value};
 use std::alloc::{AllocError, Global};
 use std::marker::Model;
 use std::sync::Arc;
+use vx_rows_values::OrderEntry;
 
 // The relations of a catalog, which its handles share.
 #[derive(Drop)]
@@ -152,7 +153,7 @@ impl Catalog {
     }
 
     /// The declared order of the relation with this number; past the end the empty one.
-    pub fn order_of(&self, relation: usize) -> &[usize]
+    pub fn order_of(&self, relation: usize) -> &[OrderEntry]
         ensures { result.now ≡ (relation_at self.now relation).order }
     {
         if relation < self.len() {

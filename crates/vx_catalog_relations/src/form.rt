@@ -9,8 +9,8 @@ use serde_json::Value;
 use std::alloc::Global;
 use std::marker::Model;
 use vx_catalog_json::{
-    Misread, NameReader, Reader, get_member, read_list, read_list_or_empty, read_name, read_some,
-    test_members,
+    Misread, NameReader, OrderReader, OrderText, Reader, get_member, read_list, read_list_or_empty,
+    read_name, read_some, test_members,
 };
 use vx_rows_values::ColType;
 
@@ -36,7 +36,7 @@ pub struct RelationText {
     pub(crate) name: String,
     pub(crate) columns: Vec<ColumnText>,
     pub(crate) keys: Vec<Vec<String>>,
-    pub(crate) order: Vec<String>,
+    pub(crate) order: Vec<OrderText>,
 }
 
 impl Model for RelationText {
@@ -45,7 +45,7 @@ impl Model for RelationText {
 
     ghost Value = { RelationText };
 
-    ghost view = { λ t. record { name = string_bytes t.name; columns = t.columns.items; keys = map (λ k. map string_bytes k.items) t.keys.items; order = map string_bytes t.order.items } };
+    ghost view = { λ t. record { name = string_bytes t.name; columns = t.columns.items; keys = map (λ k. map string_bytes k.items) t.keys.items; order = t.order.items } };
 }
 
 #[tactic(auto, unfolding(crate::specs::Form::kind_in))]
@@ -118,7 +118,7 @@ impl Reader for RelationReader {
         let name = read_name(alloc, get_member(value, "name")?)?;
         let columns = read_some::<ColumnReader>(alloc, get_member(value, "columns")?)?;
         let keys = read_list_or_empty::<KeyReader>(alloc, value, "keys")?;
-        let order = read_list_or_empty::<NameReader>(alloc, value, "order")?;
+        let order = read_list_or_empty::<OrderReader>(alloc, value, "order")?;
         Ok(RelationText {
             name,
             columns,

@@ -3,7 +3,7 @@
 ghost use Rattle.std.specs.Prelude.{◌≡◌, [], map, string_bytes, bytes_eq, IfOk};
 ghost use Rattle.std.specs.List.{list_any, list_all};
 ghost use Rattle.vx_catalog_relations.specs.Walk.{walk_onto};
-ghost use Rattle.vx_catalog_relations.specs.Naming.{Gives, name_once, names_of, column_of, columns_of, keys_of, relation_of, relation_after, is_small, is_within_limits};
+ghost use Rattle.vx_catalog_relations.specs.Naming.{Gives, name_once, names_of, column_of, columns_of, keys_of, order_of, relation_of, relation_after, is_small, is_within_limits};
 
 use crate::fault::CatalogFault;
 use crate::form::{ColumnText, RelationText};
@@ -11,8 +11,9 @@ use crate::names::{find_name, has_name};
 use crate::relation::Relation;
 use std::alloc::{AllocError, Global};
 use std::sync::Arc;
-use vx_rows_values::ColType;
+use vx_catalog_json::OrderText;
 use vx_rows_values::limits::{MAX_COLUMNS, MAX_KEYS, MAX_RELATIONS};
+use vx_rows_values::{ColType, OrderEntry, in_directions};
 
 // A copy of a name that no earlier one is.
 #[tactic(auto, unfolding(crate::specs::Naming::name_once))]
@@ -100,6 +101,47 @@ fn keys_of(
     Ok(found)
 }
 
+// The columns of the entries of an order.
+#[tactic(auto, using(crate::proofs::WalkFacts::walk_steps))]
+fn ordered_columns(
+    alloc: Global,
+    names: &[String],
+    order: &[OrderText],
+) -> Result<Vec<usize>, CatalogFault>
+    ensures { Gives (λ v. v.items) result (columns_of (map string_bytes names.now) (map (λ e. e.name) order.now)) }
+{
+    let mut columns = Vec::new(alloc);
+    for entry in order {
+        let column = column_of(alloc, names, columns.as_slice(), entry.name.as_str())?;
+        columns.push(column)?;
+    }
+    Ok(columns)
+}
+
+// For each entry of an order, whether it falls.
+fn falls_of(alloc: Global, order: &[OrderText]) -> Result<Vec<bool>, AllocError>
+    ensures { IfOk result (λ v. v.items ≡ map (λ e. e.falling) order.now) }
+{
+    let mut falls = Vec::new(alloc);
+    for entry in order {
+        falls.push(entry.falling)?;
+    }
+    Ok(falls)
+}
+
+// An order with its columns by position.
+fn order_of(
+    alloc: Global,
+    names: &[String],
+    order: &[OrderText],
+) -> Result<Vec<OrderEntry>, CatalogFault>
+    ensures { Gives (λ v. v.items) result (order_of (map string_bytes names.now) order.now) }
+{
+    let columns = ordered_columns(alloc, names, order)?;
+    let falls = falls_of(alloc, order)?;
+    Ok(in_directions(alloc, columns.as_slice(), falls.as_slice())?)
+}
+
 // A relation with its columns by position.
 #[tactic(auto, unfolding(crate::specs::Naming::relation_of))]
 fn relation_of(alloc: Global, text: &RelationText) -> Result<Relation, CatalogFault>
@@ -107,7 +149,7 @@ fn relation_of(alloc: Global, text: &RelationText) -> Result<Relation, CatalogFa
 {
     let names = names_of(alloc, text.columns.as_slice())?;
     let keys = keys_of(alloc, text.keys.as_slice(), names.as_slice())?;
-    let order = columns_of(alloc, names.as_slice(), text.order.as_slice())?;
+    let order = order_of(alloc, names.as_slice(), text.order.as_slice())?;
     let types = types_of(alloc, text.columns.as_slice())?;
     let name = String::from_str(alloc, text.name.as_str())?;
     let shared = Arc::new(alloc, names)?;

@@ -7,7 +7,7 @@ ghost use Rattle.vx_rows_values.specs.Types.{type_at};
 use crate::names::find_name;
 use std::marker::Model;
 use std::sync::Arc;
-use vx_rows_values::ColType;
+use vx_rows_values::{ColType, OrderEntry};
 
 // Whether these are the same names in the same order.
 fn are_same_names(names: &[String], others: &[String]) -> bool
@@ -29,6 +29,13 @@ fn are_same_types(types: &[ColType], others: &[ColType]) -> bool
     types == others
 }
 
+// Whether these are the same entries in the same order.
+fn are_same_orders(order: &[OrderEntry], others: &[OrderEntry]) -> bool
+    ensures { IsTrue result ↔ (order.now ≡ others.now) }
+{
+    order == others
+}
+
 /// A relation of a catalog: its name, its columns, its keys and the order of its rows.
 ///
 /// Keys and order name columns by their positions, counted from 0. An empty order declares none.
@@ -38,7 +45,7 @@ pub struct Relation {
     names: Arc<Vec<String>>,
     types: Vec<ColType>,
     keys: Vec<Vec<usize>>,
-    order: Vec<usize>,
+    order: Vec<OrderEntry>,
 }
 
 impl Model for Relation {
@@ -57,7 +64,7 @@ impl Relation {
         names: Arc<Vec<String>>,
         types: Vec<ColType>,
         keys: Vec<Vec<usize>>,
-        order: Vec<usize>,
+        order: Vec<OrderEntry>,
     ) -> Relation
         ensures { result ≡ record { name = string_bytes name; names = map string_bytes (arc_value names).items; types = types.items; keys = map (λ k. k.items) keys.items; order = order.items } }
     {
@@ -135,8 +142,8 @@ impl Relation {
         self.keys[key].as_slice()
     }
 
-    /// The columns on which the rows are sorted.
-    pub fn order(&self) -> &[usize]
+    /// The order in which the rows are sorted.
+    pub fn order(&self) -> &[OrderEntry]
         ensures { result.now ≡ self.now.order }
     {
         self.order.as_slice()
@@ -158,6 +165,6 @@ impl Relation {
         if !are_same_keys(self.keys.as_slice(), other.keys.as_slice()) {
             return false;
         }
-        self.order == other.order
+        are_same_orders(self.order.as_slice(), other.order.as_slice())
     }
 }

@@ -3,9 +3,10 @@ use Rattle.std.specs.Prelude.{ℕ, suc, ◌++◌, Bool, true, false, cond, List,
 use Rattle.std.specs.Fmt.{signed_decimal}
 use Rattle.serde_json.specs.Data.{string}
 use Rattle.serde_json.specs.Written.{compact_text}
+use Rattle.vx_rows_values.specs.declared.order.OrderEntry.{OrderEntry}
 use Rattle.vx_rows_values.specs.Values.{Val, num, text, Name}
 use Rattle.vx_catalog_relations.specs.Catalog.{relation_at}
-use Rattle.vx_plan_nodes.specs.Plan.{Size, one_worker, group_of, Route, by_hash, by_range, Part, one, any, all, routed, Claim, Side, column, constant, Condition, Aggregate, least, greatest, sum, count_rows, Unary, select, project, distinct, sort, group, limit, Phase, plain, partial, final, Binary, union, join, semi_join, ExchangeKind, route_to, round, broadcast, gather, concat, size}
+use Rattle.vx_plan_nodes.specs.Plan.{Size, one_worker, group_of, Route, by_hash, by_range, Part, one, any, all, routed, Claim, Side, column, constant, Condition, Aggregate, least, greatest, sum, count_rows, Unary, select, project, distinct, sort, group, limit, Phase, plain, partial, final, JoinMethod, by_hashing, by_merging, Binary, union, join, semi_join, ExchangeKind, route_to, round, broadcast, gather, concat, size}
 use Rattle.vx_rows_values.specs.Test.{test_text}
 use Rattle.vx_plan_nodes.specs.Names.{Names}
 use Rattle.vx_plan_nodes.specs.Outline.{Outline, scan, unary, binary, exchange, top, columns, plan_in}
@@ -22,6 +23,13 @@ separated between is_later (x ∷ xs) = cond is_later between [] ++ (x ++ separa
 -- columns by their names
 abbrev pub list_text : List Name → List ℕ → List ℕ
 list_text names cols = codes "[" ++ (separated (codes ",") false (map (name_at names) cols) ++ codes "]")
+
+-- a column of an order by its name, and whether it falls
+abbrev pub entry_text : List Name → OrderEntry → List ℕ
+entry_text names e = name_at names e.column ++ cond e.falling (codes " desc") []
+
+abbrev pub order_text : List Name → List OrderEntry → List ℕ
+order_text names order = codes "[" ++ (separated (codes ",") false (map (entry_text names) order) ++ codes "]")
 
 abbrev pub size_text : Names → Size → List ℕ
 size_text s one_worker = codes "one"
@@ -44,7 +52,7 @@ keys_text names (k ∷ ks) = separated (codes ";") false (map (list_text names) 
 
 abbrev pub claim_text : Names → List Name → Claim → List ℕ
 claim_text s names c =
-    codes " part=" ++ (part_text s names c.part ++ (codes " order=" ++ (list_text names c.order ++ (codes " keys=" ++ keys_text names c.keys))))
+    codes " part=" ++ (part_text s names c.part ++ (codes " order=" ++ (order_text names c.order ++ (codes " keys=" ++ keys_text names c.keys))))
 
 -- ---- scans
 
@@ -107,7 +115,7 @@ abbrev pub unary_text : List Name → List Name → List Bool → Unary → List
 unary_text inputs outputs renamed (select cs) = codes "select " ++ separated (codes " and ") false (map (condition_text inputs) cs)
 unary_text inputs outputs renamed (project cols) = codes "project [" ++ (separated (codes ",") false (kept_texts inputs outputs 0 cols renamed) ++ codes "]")
 unary_text inputs outputs renamed (distinct cols) = codes "distinct [" ++ (separated (codes ",") false (kept_texts inputs outputs 0 cols renamed) ++ codes "]")
-unary_text inputs outputs renamed (sort of_parts cols) = cond of_parts (codes "partial-sort ") (codes "sort ") ++ list_text inputs cols
+unary_text inputs outputs renamed (sort of_parts order) = cond of_parts (codes "partial-sort ") (codes "sort ") ++ order_text inputs order
 unary_text inputs outputs renamed (group phase by aggregates) = grouping_text inputs outputs phase by aggregates
 unary_text inputs outputs renamed (limit n) = codes "limit " ++ decimal n
 
@@ -121,10 +129,15 @@ abbrev pub where_text : List Name → List Condition → List ℕ
 where_text names [] = []
 where_text names (c ∷ cs) = codes " where " ++ separated (codes " and ") false (map (condition_text names) (c ∷ cs))
 
+-- the word of a join by pairs
+abbrev pub method_text : JoinMethod → List ℕ
+method_text by_hashing = codes "hash-join ["
+method_text (by_merging falls) = codes "merge-join ["
+
 abbrev pub binary_text : List Name → List Name → Binary → List ℕ
 binary_text lefts rights union = codes "union"
-binary_text lefts rights (join merging on) =
-    cond merging (codes "merge-join [") (codes "hash-join [") ++ (separated (codes ",") false (map (pair_text lefts rights) on) ++ codes "]")
+binary_text lefts rights (join method on) =
+    method_text method ++ (separated (codes ",") false (map (pair_text lefts rights) on) ++ codes "]")
 binary_text lefts rights (semi_join matched on conditions) =
     cond matched (codes "hash-semi-join [") (codes "hash-anti-join [")
     ++ (separated (codes ",") false (map (pair_text lefts rights) on) ++ (codes "]" ++ where_text (lefts ++ rights) conditions))
@@ -136,9 +149,9 @@ kind_text s inputs (broadcast z) = codes "broadcast"
 kind_text s inputs gather = codes "gather"
 kind_text s inputs concat = codes "concat"
 
-abbrev pub merge_text : List Name → List ℕ → List ℕ
+abbrev pub merge_text : List Name → List OrderEntry → List ℕ
 merge_text inputs [] = []
-merge_text inputs (c ∷ cs) = codes " merge " ++ list_text inputs (c ∷ cs)
+merge_text inputs (e ∷ order) = codes " merge " ++ order_text inputs (e ∷ order)
 
 -- ---- nodes
 

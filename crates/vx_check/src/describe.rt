@@ -7,14 +7,14 @@ ghost use Rattle.vx_plan_nodes.specs.Outline.{outline_of, columns, condition_of,
 ghost use Rattle.vx_plan_nodes.specs.TypedView.{names_in};
 ghost use Rattle.vx_check.specs.Explain.{name_at, separated, value_text, condition_text, kept_text, kept_texts, function_text, aggregate_texts, aggregates_text, group_text, grouping_text, unary_text, pair_text, where_text, binary_text, kind_text, merge_text, scan_text, prefix_text, description};
 
-use crate::words::{push_between, push_list, push_name, push_routed};
+use crate::words::{push_between, push_list, push_name, push_order, push_routed};
 use itoa::Buffer;
 use std::alloc::{AllocError, Global};
 use vx_plan_nodes::{
     Aggregate, Binary, Condition, Exchange, ExchangeKind, Name, Phase, Projected, ScanNode, Side,
     SortPhase, TypedNode, TypedPlan, Unary, share_names,
 };
-use vx_rows_values::Value;
+use vx_rows_values::{OrderEntry, Value};
 
 // Adds a number in plain decimal, or a text as `serde_json` writes it.
 fn push_value(alloc: Global, text: &mut String, value: &Value) -> Result<(), AllocError>
@@ -230,13 +230,13 @@ fn push_unary(
         }
         Unary::Project(kept) => push_kept(text, "project [", inputs, outputs, kept.as_slice()),
         Unary::Distinct(kept) => push_kept(text, "distinct [", inputs, outputs, kept.as_slice()),
-        Unary::Sort(SortPhase::Plain, columns) => {
+        Unary::Sort(SortPhase::Plain, order) => {
             text.push_str("sort ")?;
-            push_list(text, inputs, columns.as_slice())
+            push_order(text, inputs, order.as_slice())
         }
-        Unary::Sort(SortPhase::Partial, columns) => {
+        Unary::Sort(SortPhase::Partial, order) => {
             text.push_str("partial-sort ")?;
-            push_list(text, inputs, columns.as_slice())
+            push_order(text, inputs, order.as_slice())
         }
         Unary::Group(phase, by, aggregates) => push_grouping(
             text,
@@ -339,7 +339,7 @@ fn push_binary(
     match operator {
         Binary::Union => text.push_str("union"),
         Binary::HashJoin(on) => push_join(text, "hash-join [", lefts, rights, on.as_slice()),
-        Binary::MergeJoin(on) => push_join(text, "merge-join [", lefts, rights, on.as_slice()),
+        Binary::MergeJoin(on, _) => push_join(text, "merge-join [", lefts, rights, on.as_slice()),
         Binary::SemiJoin(on, conditions) => push_semi_join(
             alloc,
             text,
@@ -384,15 +384,15 @@ fn push_kind(
     }
 }
 
-// Adds the columns that an exchange merges on, if there are any.
-fn push_merge(text: &mut String, inputs: &[Name], merge: &[usize]) -> Result<(), AllocError>
+// Adds the order by which an exchange merges, if it has an entry.
+fn push_merge(text: &mut String, inputs: &[Name], merge: &[OrderEntry]) -> Result<(), AllocError>
     ensures { OnOk result (string_bytes text.new ≡ string_bytes text.old ++ merge_text inputs.now merge.now) }
 {
     if merge.is_empty() {
         return Ok(());
     }
     text.push_str(" merge ")?;
-    push_list(text, inputs, merge)
+    push_order(text, inputs, merge)
 }
 
 // Adds an exchange over an input whose columns have these names.

@@ -1,12 +1,13 @@
-//! Words of the text that explains a plan: names, lists of columns, sizes, parts and claims.
+//! Words of the text that explains a plan: names, lists of columns, orders, sizes, parts and claims.
 
 ghost use Rattle.std.specs.Prelude.{◌≡◌, ◌++◌, [], map, string_bytes, OnOk, cond, codes, false};
 ghost use Rattle.vx_plan_nodes.specs.Outline.{size_of, route_of, part_of, claim_of};
 ghost use Rattle.vx_plan_nodes.specs.TypedView.{names_in};
-ghost use Rattle.vx_check.specs.Explain.{name_at, separated, list_text, size_text, route_text, part_text, keys_text, claim_text};
+ghost use Rattle.vx_check.specs.Explain.{name_at, separated, list_text, entry_text, order_text, size_text, route_text, part_text, keys_text, claim_text};
 
 use std::alloc::AllocError;
 use vx_plan_nodes::{Claim, Name, Part, Route, Size, TypedPlan};
+use vx_rows_values::OrderEntry;
 
 /// The name with this number; past the end the empty one.
 pub fn name_at(names: &[String], number: usize) -> &str
@@ -56,6 +57,37 @@ pub fn push_list(text: &mut String, names: &[Name], columns: &[usize]) -> Result
 {
     text.push_str("[")?;
     push_names(text, names, columns)?;
+    text.push_str("]")
+}
+
+// Adds a column of an order by its name, and whether it falls.
+fn push_entry(text: &mut String, names: &[Name], entry: OrderEntry) -> Result<(), AllocError>
+    ensures { OnOk result (string_bytes text.new ≡ string_bytes text.old ++ entry_text names.now entry) }
+{
+    push_name(text, names, entry.column)?;
+    if entry.falling {
+        text.push_str(" desc")?;
+    }
+    Ok(())
+}
+
+// Adds the columns of an order, and which of them fall.
+fn push_entries(text: &mut String, names: &[Name], order: &[OrderEntry]) -> Result<(), AllocError>
+    ensures { OnOk result (string_bytes text.new ≡ string_bytes text.old ++ separated (codes ",") false (map (entry_text names.now) order.now)) }
+{
+    for (i, entry) in order.iter().enumerate() {
+        push_between(text, ",", i > 0)?;
+        push_entry(text, names, *entry)?;
+    }
+    Ok(())
+}
+
+/// Adds an order, in brackets.
+pub fn push_order(text: &mut String, names: &[Name], order: &[OrderEntry]) -> Result<(), AllocError>
+    ensures { OnOk result (string_bytes text.new ≡ string_bytes text.old ++ order_text names.now order.now) }
+{
+    text.push_str("[")?;
+    push_entries(text, names, order)?;
     text.push_str("]")
 }
 
@@ -160,7 +192,7 @@ pub fn push_claim(
     text.push_str(" part=")?;
     push_part(text, plan, names, &claim.part)?;
     text.push_str(" order=")?;
-    push_list(text, names, claim.order.as_slice())?;
+    push_order(text, names, claim.order.as_slice())?;
     text.push_str(" keys=")?;
     push_keys(text, names, claim.keys.as_slice())
 }

@@ -2,6 +2,7 @@
 use Rattle.std.proofs.Common.{◌≡◌, ℕ, Bool, true, false, not, ◌&&◌, ◌||◌, ◌⊎◌, ⊎_elim, List, [], ◌∷◌, Option, Some, None, is_none, Ok, inl, inr, true≢false, refl, sym, ap, ◌∙◌, subst}
 use Rattle.std.specs.List.{list_all}
 use Rattle.vx_rows_values.proofs.Booleans.{and-left, and-right, and-both}
+use Rattle.vx_rows_values.specs.Order.{order_columns}
 use Rattle.vx_catalog_relations.specs.Relation.{Relation}
 use Rattle.vx_catalog_relations.specs.Catalog.{relation_at, IsCatalog}
 use Rattle.vx_plan_nodes.specs.Plan.{Plan, scan, unary, binary, exchange, claim, number, size, is_one}
@@ -20,7 +21,7 @@ use Rattle.vx_check_rules.specs.Refusal.{Rule, root_not_one, total_not_shown, fi
 use Rattle.vx_check_rules.proofs.Refusals.{none-both, refusal-decides}
 use Rattle.vx_check_options.specs.Options.{parts_at, places_at, is_within}
 use Rattle.vx_check_options.specs.Laws.{AtEach}
-use Rattle.vx_check_options.specs.Placed.{first_columns, first_part, bare}
+use Rattle.vx_check_options.specs.Placed.{first_entries, first_part, bare}
 use Rattle.vx_check_options.specs.Claimed.{IsClaimed, unfit_in, names_keys_at, names_keys}
 use Rattle.vx_check_options.proofs.ClaimedIsFit.{none-unfit}
 use Rattle.vx_check_options.proofs.ClaimedKeeps.{claimed-keeps}
@@ -52,7 +53,7 @@ output-names : (s : Scope) (p : Plan) → is_output s (types_of (relation_at s.c
 output-names s p h =
     let types = types_of (relation_at s.catalog) p in
     let is = and-right _ (is_claim s types (claim p)) h in
-    and-right (are_columns _ (claim p).order) (list_all (are_columns _) (claim p).keys) (and-right (is_part s types (claim p).part) _ is)
+    and-right (are_columns _ (order_columns (claim p).order)) (list_all (are_columns _) (claim p).keys) (and-right (is_part s types (claim p).part) _ is)
 
 pub typed-names : (s : Scope) (p : Plan) → typed s p ≡ true → names_keys (relation_at s.catalog) p ≡ true
 typed-names s (scan n c r m z) h = output-names s (scan n c r m z) (and-right (is_size s.sizes z) _ (and-right _ _ h))
@@ -66,7 +67,7 @@ typed-names s (binary n c op p q) h =
 typed-names s (exchange n c k m p) h =
     and-both (names_keys (relation_at s.catalog) p) _ (typed-names s p (and-left (typed s p) _ h))
     (output-names s (exchange n c k m p)
-    (fourth (is_kind s (types_of (relation_at s.catalog) p) k) (are_columns _ m) (may_merge k m) _ (and-right (typed s p) _ h)))
+    (fourth (is_kind s (types_of (relation_at s.catalog) p) k) (are_columns _ (order_columns m)) (may_merge k m) _ (and-right (typed s p) _ h)))
 
 -- ---- documents with claims
 
@@ -87,7 +88,7 @@ asked-total one false order h e = cc
 -- of an accepted document the claims that are found tell as much
 found-telling : (catalog : List Relation) (d e : Document) (p : TypedPlanView) (x : Plan) (total : Bool) → IsCatalog catalog → is_tree_form d.root ≡ true → is_tree_form e.root ≡ true
     → is_accepted_by_claims catalog d ≡ true → resolved d catalog ≡ Ok p
-    → IsClaimed (relation_at catalog) (plan_in p.root) (first_part (parts_at (relation_at catalog) (plan_in p.root))) (first_columns (places_at (relation_at catalog) (plan_in p.root))) x
+    → IsClaimed (relation_at catalog) (plan_in p.root) (first_part (parts_at (relation_at catalog) (plan_in p.root))) (first_entries (places_at (relation_at catalog) (plan_in p.root))) x
     → total ≡ is_total_order (relation_at catalog) x → resolved e catalog ≡ Ok (claimed x total p) → tells e d ≡ true
 found-telling catalog d e p x total cat formed form accepted h is total_is he =
     let given = (plans_resolved_exactly.resolves d catalog p cat formed).0 h in
@@ -97,7 +98,7 @@ found-telling catalog d e p x total cat formed form accepted h is total_is he =
     let P : Plan = plan_in p.root in
     let over : p.names.catalog ≡ catalog = given.0 in
     let ok = (refusal-decides C p.total P).0 (no-failure (refusal_by_claims p) (sym (ap accepts_by_claims h) ∙ accepted)) in
-    let Q : List Relation → Type 0 = λ c. IsClaimed (relation_at c) P (first_part (parts_at (relation_at c) P)) (first_columns (places_at (relation_at c) P)) x in
+    let Q : List Relation → Type 0 = λ c. IsClaimed (relation_at c) P (first_part (parts_at (relation_at c) P)) (first_entries (places_at (relation_at c) P)) x in
     let claimed_is = subst Q (sym over) is in
     let ready = is-ready s P (subst IsCatalog (sym over) cat) given.1.typed.nodes in
     let kept = claimed-keeps s P _ _ x ready ok.0 claimed_is in
@@ -120,7 +121,7 @@ pub record Answered (catalog : List Relation) (d e : Document) : Type 0 where
 
 pub answered : (catalog : List Relation) (d e : Document) (p : TypedPlanView) (x : Plan) (total : Bool) (forms : List ClaimForm) → IsCatalog catalog → is_tree_form d.root ≡ true → is_head_form d.sizes d.ranges ≡ true
     → is_tree_form e.root ≡ true → IsHinted catalog d p
-    → IsClaimed (relation_at catalog) (plan_in p.root) (first_part (parts_at (relation_at catalog) (plan_in p.root))) (first_columns (places_at (relation_at catalog) (plan_in p.root))) x
+    → IsClaimed (relation_at catalog) (plan_in p.root) (first_part (parts_at (relation_at catalog) (plan_in p.root))) (first_entries (places_at (relation_at catalog) (plan_in p.root))) x
     → total ≡ is_total_order (relation_at catalog) x → forms ≡ named_forms p.names (claims_of x) p.root → e ≡ with_forms forms total d → refused_by_claims catalog e ≡ None → Answered catalog d e
 answered catalog d e p x total forms cat formed head form h is total_is named placed none =
     let C : ℕ → Relation = relation_at catalog in
@@ -140,7 +141,7 @@ answered catalog d e p x total forms cat formed head form h is total_is named pl
 
 -- of an accepted document the claims that are found are not refused
 again-accepted : (catalog : List Relation) (d : Document) (p : TypedPlanView) (x : Plan) (total : Bool) → IsCatalog catalog → is_tree_form d.root ≡ true → is_accepted_by_claims catalog d ≡ true → resolved d catalog ≡ Ok p
-    → IsClaimed (relation_at catalog) (plan_in p.root) (first_part (parts_at (relation_at catalog) (plan_in p.root))) (first_columns (places_at (relation_at catalog) (plan_in p.root))) x
+    → IsClaimed (relation_at catalog) (plan_in p.root) (first_part (parts_at (relation_at catalog) (plan_in p.root))) (first_entries (places_at (relation_at catalog) (plan_in p.root))) x
     → total ≡ is_total_order (relation_at catalog) x → bare x ≡ bare (plan_in p.root) → first_refused (relation_at catalog) x ≡ unfit_in (relation_at catalog) (plan_in p.root) x
     → refusal (relation_at catalog) total x ≡ None
 again-accepted catalog d p x total cat formed accepted h is total_is same fits =
@@ -149,7 +150,7 @@ again-accepted catalog d p x total cat formed accepted h is total_is same fits =
     let P : Plan = plan_in p.root in
     let over : p.names.catalog ≡ catalog = given.0 in
     let ok = (refusal-decides (relation_at p.names.catalog) p.total P).0 (no-failure (refusal_by_claims p) (sym (ap accepts_by_claims h) ∙ accepted)) in
-    let Q : List Relation → Type 0 = λ c. IsClaimed (relation_at c) P (first_part (parts_at (relation_at c) P)) (first_columns (places_at (relation_at c) P)) x in
+    let Q : List Relation → Type 0 = λ c. IsClaimed (relation_at c) P (first_part (parts_at (relation_at c) P)) (first_entries (places_at (relation_at c) P)) x in
     let R : List Relation → Type 0 = λ c. allowed (relation_at c) P ≡ true in
     let ready = is-ready s P (subst IsCatalog (sym over) cat) given.1.typed.nodes in
     let kept = claimed-keeps s P _ _ x ready ok.0 (subst Q (sym over) is) in
@@ -169,7 +170,7 @@ some-not y e = cc
 
 -- with room for all keys no claims are accepted where those that are found are refused
 found-refused : (catalog : List Relation) (d : Document) (p : TypedPlanView) (x : Plan) (y : ℕ × Rule) → IsCatalog catalog → is_tree_form d.root ≡ true → resolved (unclaimed d) catalog ≡ Ok p
-    → IsClaimed (relation_at catalog) (plan_in p.root) (first_part (parts_at (relation_at catalog) (plan_in p.root))) (first_columns (places_at (relation_at catalog) (plan_in p.root))) x
+    → IsClaimed (relation_at catalog) (plan_in p.root) (first_part (parts_at (relation_at catalog) (plan_in p.root))) (first_entries (places_at (relation_at catalog) (plan_in p.root))) x
     → first_refused (relation_at catalog) x ≡ Some y → is_within (relation_at catalog) (plan_in p.root) ≡ true → AtEach HasRoom x → IsNeverAccepted catalog d
 found-refused catalog d p x y cat formed h is refused within room e form same =
     not-accepted catalog e (λ r he ok top.
@@ -180,7 +181,7 @@ found-refused catalog d p x y cat formed h is refused within room e form same =
     let kept = kept-beside catalog d e p r cat formed form same he h in
     let nodes : bare (plan_in r.root) ≡ P = alike-bare catalog d e p r cat form same he h ∙ resolved-bare catalog d p cat formed h in
     let plain : typed s P ≡ true = subst (λ q. typed s q ≡ true) nodes (typed-bare s (plan_in r.root) made.1.typed.nodes) in
-    let F : List Relation → Type 0 = λ l. IsClaimed (relation_at l) P (first_part (parts_at (relation_at l) P)) (first_columns (places_at (relation_at l) P)) x in
+    let F : List Relation → Type 0 = λ l. IsClaimed (relation_at l) P (first_part (parts_at (relation_at l) P)) (first_entries (places_at (relation_at l) P)) x in
     let W : List Relation → Type 0 = λ l. is_within (relation_at l) P ≡ true in
     let ready = is-ready s P (subst IsCatalog (sym over) cat) plain in
     let none = found-is-accepted s P (plan_in r.root) _ _ x ready kept (inl (subst W (sym over) within)) made.1.typed.nodes ok (subst F (sym over) is) (inl room) in
@@ -198,7 +199,7 @@ IsRefused catalog d n r =
 
 pub refused-found : (catalog : List Relation) (d e : Document) (p : TypedPlanView) (x : Plan) (total : Bool) (forms : List ClaimForm) (n : ℕ) (r : Rule) → IsCatalog catalog → is_tree_form d.root ≡ true
     → is_head_form d.sizes d.ranges ≡ true → IsHinted catalog d p
-    → IsClaimed (relation_at catalog) (plan_in p.root) (first_part (parts_at (relation_at catalog) (plan_in p.root))) (first_columns (places_at (relation_at catalog) (plan_in p.root))) x
+    → IsClaimed (relation_at catalog) (plan_in p.root) (first_part (parts_at (relation_at catalog) (plan_in p.root))) (first_entries (places_at (relation_at catalog) (plan_in p.root))) x
     → total ≡ is_total_order (relation_at catalog) x → forms ≡ named_forms p.names (claims_of x) p.root → e ≡ with_forms forms total d → unclaimed e ≡ unclaimed d
     → refused_by_claims catalog e ≡ Some (n, r) → IsRefused catalog d n r
 refused-found catalog d e p x total forms n r cat formed head h is total_is named placed same refused =

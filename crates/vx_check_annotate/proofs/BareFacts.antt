@@ -2,7 +2,9 @@
 use Rattle.std.proofs.Common.{◌≡◌, ℕ, nat_lt, nat_le, List, [], length, Bool, true, false, not, ◌&&◌, refl, sym, ap, ◌∙◌, subst}
 use Rattle.vx_rows_values.specs.declared.value.ColType.{ColType}
 use Rattle.vx_rows_values.proofs.Booleans.{and-left, and-right, and-both}
+use Rattle.vx_rows_values.specs.Order.{order_columns}
 use Rattle.vx_catalog_relations.specs.Relation.{Relation}
+use Rattle.vx_catalog_relations.specs.Naming.{order_text}
 use Rattle.vx_catalog_relations.specs.Catalog.{relation_at}
 use Rattle.vx_plan_nodes.specs.Plan.{any, Claim, Aggregate, select, project, distinct, sort, group, limit, plain, partial, final, Unary, Plan, scan, unary, binary, exchange}
 use Rattle.vx_plan_nodes.specs.Types.{types_of, unary_types, binary_types}
@@ -13,7 +15,7 @@ use Rattle.vx_plan_nodes.specs.Outline as outline
 use Rattle.vx_plan_nodes.specs.Names.{Names}
 use Rattle.vx_plan_json.specs.Document.{Tree}
 use Rattle.vx_plan_json.specs.Document as form
-use Rattle.vx_plan.specs.ByName.{names_at, unary_by_name, binary_by_name, kind_by_name, tree_by_name, column_names}
+use Rattle.vx_plan.specs.ByName.{unary_by_name, binary_by_name, kind_by_name, tree_by_name, column_names}
 use Rattle.vx_check_options.specs.Placed.{keyless, bare}
 use Rattle.vx_check_annotate.specs.Unclaimed.{no_claim, without_claims}
 use Rattle.vx_check_annotate.specs.Claimed.{with_claims}
@@ -96,16 +98,16 @@ typed-bare s (binary n c op p q) h =
 typed-bare s (exchange n c k m p) h =
     let ts : List ColType = types_of (relation_at s.catalog) p in
     let us : List ColType = types_of (relation_at s.catalog) (bare p) in
-    let last : Bool = is_kind s ts k && (are_columns (length ts) m && (may_merge k m && is_output s ts c)) in
-    let P : List ColType → Type 0 = λ ts. (is_kind s ts k && (are_columns (length ts) m && (may_merge k m && is_output s ts (keyless any [])))) ≡ true in
+    let last : Bool = is_kind s ts k && (are_columns (length ts) (order_columns m) && (may_merge k m && is_output s ts c)) in
+    let P : List ColType → Type 0 = λ ts. (is_kind s ts k && (are_columns (length ts) (order_columns m) && (may_merge k m && is_output s ts (keyless any [])))) ≡ true in
     let own = and-right (typed s p) last h in
-    let one = and-right (is_kind s ts k) (are_columns (length ts) m && (may_merge k m && is_output s ts c)) own in
-    let two = and-right (are_columns (length ts) m) (may_merge k m && is_output s ts c) one in
+    let one = and-right (is_kind s ts k) (are_columns (length ts) (order_columns m) && (may_merge k m && is_output s ts c)) own in
+    let two = and-right (are_columns (length ts) (order_columns m)) (may_merge k m && is_output s ts c) one in
     let bare_own =
-    and-both (is_kind s ts k) (are_columns (length ts) m && (may_merge k m && is_output s ts (keyless any []))) (and-left (is_kind s ts k) (are_columns (length ts) m && (may_merge k m && is_output s ts c)) own)
-    (and-both (are_columns (length ts) m) (may_merge k m && is_output s ts (keyless any [])) (and-left (are_columns (length ts) m) (may_merge k m && is_output s ts c) one)
+    and-both (is_kind s ts k) (are_columns (length ts) (order_columns m) && (may_merge k m && is_output s ts (keyless any []))) (and-left (is_kind s ts k) (are_columns (length ts) (order_columns m) && (may_merge k m && is_output s ts c)) own)
+    (and-both (are_columns (length ts) (order_columns m)) (may_merge k m && is_output s ts (keyless any [])) (and-left (are_columns (length ts) (order_columns m)) (may_merge k m && is_output s ts c) one)
     (and-both (may_merge k m) (is_output s ts (keyless any [])) (and-left (may_merge k m) (is_output s ts c) two) (output-bare s ts c (and-right (may_merge k m) (is_output s ts c) two)))) in
-    and-both (typed s (bare p)) (is_kind s us k && (are_columns (length us) m && (may_merge k m && is_output s us (keyless any [])))) (typed-bare s p (and-left (typed s p) last h))
+    and-both (typed s (bare p)) (is_kind s us k && (are_columns (length us) (order_columns m) && (may_merge k m && is_output s us (keyless any [])))) (typed-bare s p (and-left (typed s p) last h))
     (subst P (types-bare (relation_at s.catalog) p) bare_own)
 
 -- without its claims it says the document without claims
@@ -121,5 +123,5 @@ tree-bare s (outline.binary h op t u) =
     λ i. form.binary no_claim (this i) (tree-bare s t i) (tree-bare s u i)
 tree-bare s (outline.exchange h k merge t) =
     let this : kind_by_name s (column_names (with_claims (bare (plan_in t)) t)) k ≡ kind_by_name s (column_names t) k = ap (λ (cols : outline.Columns). kind_by_name s cols.names k) (columns-claimed (bare (plan_in t)) t) in
-    let merged : names_at (column_names (with_claims (bare (plan_in t)) t)) merge ≡ names_at (column_names t) merge = ap (λ (cols : outline.Columns). names_at cols.names merge) (columns-claimed (bare (plan_in t)) t) in
+    let merged : order_text (column_names (with_claims (bare (plan_in t)) t)) merge ≡ order_text (column_names t) merge = ap (λ (cols : outline.Columns). order_text cols.names merge) (columns-claimed (bare (plan_in t)) t) in
     λ i. form.exchange no_claim (this i) (merged i) (tree-bare s t i)

@@ -4,6 +4,7 @@ use Rattle.std.proofs.Math.Seq.{drop-append_seam, drop-nil}
 use Rattle.std.proofs.lemmas.List.{append_assoc, length-append}
 use Rattle.vx_rows_values.specs.declared.value.ColType.{ColType}
 use Rattle.vx_catalog_relations.specs.Relation.{Relation}
+use Rattle.vx_catalog_relations.specs.Naming.{order_text}
 use Rattle.vx_plan_nodes.specs.Plan.{Plan}
 use Rattle.vx_plan_nodes.specs.Plan as plan
 use Rattle.vx_plan_nodes.specs.Types.{types_of, unary_types, binary_types}
@@ -14,7 +15,7 @@ use Rattle.vx_plan_nodes.specs.Outputs.{IsOutputOf, HasOutputs}
 use Rattle.vx_plan_nodes.specs.Names.{Names}
 use Rattle.vx_plan_json.specs.Document.{ClaimForm, Tree, tree_nodes, Document}
 use Rattle.vx_plan_json.specs.Document as form
-use Rattle.vx_plan.specs.ByName.{names_at, top_by_name, unary_by_name, binary_by_name, kind_by_name, tree_by_name}
+use Rattle.vx_plan.specs.ByName.{top_by_name, unary_by_name, binary_by_name, kind_by_name, tree_by_name}
 use Rattle.vx_plan.specs.Exact.{UnaryNames, binary_names, has_first_columns, AreNamed}
 use Rattle.vx_check_options.specs.Placed.{bare}
 use Rattle.vx_check_annotate.specs.Unclaimed.{no_claim, without_claims, unclaimed}
@@ -83,7 +84,7 @@ named-claimed catalog (plan.binary n c op p q) (binary h operator t u) a =
     sym (λ i. binary_names operator (columns-claimed p t i).names (columns-claimed q u i).names) in
     let first : has_first_columns operator (columns (with_claims p t)).names (columns (with_claims q u)).names ≡ has_first_columns operator (columns t).names (columns u).names =
     λ i. has_first_columns operator (columns-claimed p t i).names (columns-claimed q u i).names in
-    (a.0 ∙ same, a.1, named-claimed catalog p t a.2, named-claimed catalog q u a.3, first ∙ a.4)
+    (a.0 ∙ same, a.1, named-claimed catalog p t a.2, named-claimed catalog q u a.3, first ∙ a.4, a.5)
 named-claimed catalog (plan.exchange n c k m p) (exchange h kind merge t) a = (a.0 ∙ sym (ap (λ (cols : Columns). cols.names) (columns-claimed p t)), a.1, named-claimed catalog p t a.2)
 named-claimed catalog q o a = a
 
@@ -116,7 +117,7 @@ tree-claimed s (plan.binary n c op p q) (binary h operator t u) =
     λ i. form.binary no_claim (both i) (tree-claimed s p t i) (tree-claimed s q u i)
 tree-claimed s (plan.exchange n c k m p) (exchange h kind merge t) =
     let sent : kind_by_name s (columns (with_claims p t)).names kind ≡ kind_by_name s (columns t).names kind = ap (λ (cols : Columns). kind_by_name s cols.names kind) (columns-claimed p t) in
-    let merged : names_at (columns (with_claims p t)).names merge ≡ names_at (columns t).names merge = ap (λ (cols : Columns). names_at cols.names merge) (columns-claimed p t) in
+    let merged : order_text (columns (with_claims p t)).names merge ≡ order_text (columns t).names merge = ap (λ (cols : Columns). order_text cols.names merge) (columns-claimed p t) in
     λ i. form.exchange no_claim (sent i) (merged i) (tree-claimed s p t i)
 tree-claimed s q o = refl
 

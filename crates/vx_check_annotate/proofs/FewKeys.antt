@@ -4,6 +4,7 @@ use Rattle.std.specs.List.{list_all}
 use Rattle.std.proofs.lemmas.Bool.Decides.{nat_tests}
 use Rattle.std.proofs.lemmas.List.{length-map}
 use Rattle.std.proofs.lemmas.List.Folds.{list_all-append}
+use Rattle.vx_rows_values.specs.declared.order.OrderEntry.{OrderEntry}
 use Rattle.vx_rows_values.specs.Values.{Name}
 use Rattle.vx_rows_values.proofs.Booleans.{and-left, and-right, and-both}
 use Rattle.vx_catalog_relations.specs.Relation.{Relation}
@@ -110,7 +111,7 @@ plan-few derives s (exchange h k merge t) e =
     and-both (has_few derives h.claim) (have_few derives (claims_of (plan_in t))) (sym (named-alike derives h.columns.names h.claim.keys) ∙ and-left own below e) (plan-few derives s t (and-right own below e))
 
 -- the claims that are found, where those of the plan have few keys
-claimed-few : (derives : Bool) (catalog : ℕ → Relation) (p : Plan) (q : Part) (order : List ℕ) (x : Plan) → IsClaimed catalog p q order x → have_few derives (claims_of p) ≡ true → have_few derives (claims_of x) ≡ true
+claimed-few : (derives : Bool) (catalog : ℕ → Relation) (p : Plan) (q : Part) (order : List OrderEntry) (x : Plan) → IsClaimed catalog p q order x → have_few derives (claims_of p) ≡ true → have_few derives (claims_of x) ≡ true
 claimed-few derives catalog (plan.scan n c r m z) q order x h k =
     subst (λ y. have_few derives (claims_of y) ≡ true) (sym h.1) (and-both (few derives (length h.0)) true (few-step derives (length c.keys) (length h.0) h.2.few (and-left (has_few derives c) true k)) refl)
 claimed-few derives catalog (plan.unary n c op p) q order x h k =
@@ -176,7 +177,7 @@ hinted-few catalog d p cat formed keys (inr h) =
     plan-few d.derives p.names p.root (ap (λ (e : Document). are_keys_few d.derives e.root) is.2 ∙ few-without d.derives d.root)
 
 -- the claims that are found for a document
-pub found-few : (catalog : List Relation) (d : Document) (p : TypedPlanView) (q : Part) (order : List ℕ) (x : Plan) → IsCatalog catalog → is_tree_form d.root ≡ true → are_keys_few d.derives d.root ≡ true → IsHinted catalog d p
+pub found-few : (catalog : List Relation) (d : Document) (p : TypedPlanView) (q : Part) (order : List OrderEntry) (x : Plan) → IsCatalog catalog → is_tree_form d.root ≡ true → are_keys_few d.derives d.root ≡ true → IsHinted catalog d p
     → IsClaimed (relation_at catalog) (plan_in p.root) q order x → list_all (has_few_keys d.derives) (named_forms p.names (claims_of x) p.root) ≡ true
 found-few catalog d p q order x cat formed keys h is =
     forms-few d.derives p.names (claims_of x) p.root (claimed-few d.derives (relation_at catalog) (plan_in p.root) q order x is (hinted-few catalog d p cat formed keys h))

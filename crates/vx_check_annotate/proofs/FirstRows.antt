@@ -3,13 +3,15 @@ use Rattle.std.specs.Prelude.{⊤}
 use Rattle.std.proofs.Common.{◌≡◌, ℕ, ◌<◌, ◌==◌, Bool, true, false, not, ◌&&◌, ◌||◌, ◌⊎◌, inl, inr, ⊎_elim, List, [], ◌∷◌, length, Option, None, refl, sym, ap, ◌∙◌, subst, true≢false}
 use Rattle.std.specs.List.{list_all}
 use Rattle.vx_rows_values.proofs.Booleans.{and-left, and-right, and-both}
+use Rattle.vx_rows_values.specs.declared.order.OrderEntry.{OrderEntry}
+use Rattle.vx_rows_values.specs.Order.{order_columns}
 use Rattle.vx_catalog_relations.specs.Relation.{Relation}
 use Rattle.vx_catalog_relations.specs.Catalog.{relation_at, all_below, IsCatalog}
 use Rattle.vx_plan_nodes.specs.Plan.{Part, Claim, Unary, select, project, distinct, sort, group, limit, Binary, ExchangeKind, Plan, scan, unary, binary, exchange, claim, size, is_one}
 use Rattle.vx_plan_nodes.specs.Types.{width, unary_width, binary_width}
 use Rattle.vx_plan_nodes.specs.Typed.{Scope, typed}
 use Rattle.vx_plan_nodes.specs.Describe.{whole_rows, described, described_both}
-use Rattle.vx_check_rules.specs.Rules.{contains, within, is_prefix, covers, numbers_below, sizes_match, not_replicated, inputs_match, order_given, first_rows_known, part_shown, order_shown, keys_shown, is_total_order, allowed_here, allowed}
+use Rattle.vx_check_rules.specs.Rules.{contains, within, covers, numbers_below, sizes_match, not_replicated, inputs_match, order_given, first_rows_known, part_shown, order_shown, keys_shown, is_total_order, allowed_here, allowed}
 use Rattle.vx_check_rules.specs.Refusal.{Rule, size_mismatch, inputs_not_matched, replicated_input, order_not_shown, order_needed, first_rows_open, or_else, refused_at}
 use Rattle.vx_check_rules.specs.Behaviour.{Keyed, keyed_over, keyed_from, behaviour, shown_key}
 use Rattle.vx_check_rules.specs.Exactly.{KeysNameColumns}
@@ -19,9 +21,9 @@ use Rattle.vx_check_rules.proofs.Exact.{keys-all}
 use Rattle.vx_check_rules.proofs.NamedKeys.{named-here, typed-keys}
 use Rattle.vx_check_rules.proofs.Refusals.{none-both}
 use Rattle.vx_check_rules.proofs.DerivedMore.{eight}
-use Rattle.vx_check_options.specs.Options.{OrderChoices, places_at, is_within, can_send, can_meet, can_order, can_keep, fit_tests, first_unfit}
+use Rattle.vx_check_options.specs.Options.{OrderChoices, has_entry, places_at, is_within, can_send, can_meet, can_order, can_keep, fit_tests, first_unfit}
 use Rattle.vx_check_options.specs.Placed.{is_chosen, order_sent}
-use Rattle.vx_check_options.specs.Laws.{KeepsClaim, Keeps, is_front, AtEach}
+use Rattle.vx_check_options.specs.Laws.{KeepsClaim, Keeps, may_begin, AtEach}
 use Rattle.vx_check_options.specs.FoundKeys.{show, FoundKeys}
 use Rattle.vx_check_options.specs.Claimed.{note, IsClaimed, KeepsKeys, fit_tests_with, first_input, second_input, unfit_in}
 use Rattle.vx_check_options.proofs.FoundFacts.{either, within-trans, within-more, covers-more}
@@ -32,17 +34,18 @@ use Rattle.vx_check_options.proofs.KeysMonotone.{Wider, from-wider}
 use Rattle.vx_check_options.proofs.ClaimedKeeps.{found-kept, keys-tested, keys-at-top, claimed-keeps}
 use Rattle.vx_check_options.proofs.ClaimedIsFit.{claimed-is-fit}
 use Rattle.vx_check_annotate.specs.Accepted.{HasRoom, FoundIsAccepted}
-use Rattle.vx_check_annotate.proofs.SwappedOrders.{Beside, within-swaps, places-tidy, keys-swap}
+use Rattle.vx_check_annotate.proofs.KeptRows.{front-within}
+use Rattle.vx_check_annotate.proofs.SwappedOrders.{Beside, entry-column, within-swaps, places-tidy, keys-swap}
 
 -- ---- found claims
 
-size-claimed : (catalog : ℕ → Relation) (p : Plan) (q : Part) (order : List ℕ) (x : Plan) → IsClaimed catalog p q order x → size x ≡ size p
+size-claimed : (catalog : ℕ → Relation) (p : Plan) (q : Part) (order : List OrderEntry) (x : Plan) → IsClaimed catalog p q order x → size x ≡ size p
 size-claimed catalog (scan n c r m z) q order x h = ap size h.1
 size-claimed catalog (unary n c op p) q order x h = ap size h.2 ∙ size-claimed catalog p _ _ h.1 h.3
 size-claimed catalog (binary n c op p p2) q order x h = ap size h.3 ∙ size-claimed catalog p _ _ h.1 h.4
 size-claimed catalog (exchange n c k m p) q order x h = ap size h.2
 
-width-claimed : (catalog : ℕ → Relation) (p : Plan) (q : Part) (order : List ℕ) (x : Plan) → IsClaimed catalog p q order x → width catalog x ≡ width catalog p
+width-claimed : (catalog : ℕ → Relation) (p : Plan) (q : Part) (order : List OrderEntry) (x : Plan) → IsClaimed catalog p q order x → width catalog x ≡ width catalog p
 width-claimed catalog (scan n c r m z) q order x h = ap (width catalog) h.1
 width-claimed catalog (unary n c op p) q order x h = ap (width catalog) h.2 ∙ ap (unary_width op) (width-claimed catalog p _ _ h.1 h.3)
 width-claimed catalog (binary n c op p p2) q order x h =
@@ -50,7 +53,7 @@ width-claimed catalog (binary n c op p p2) q order x h =
     ∙ (ap (λ w. binary_width op w (width catalog h.2)) (width-claimed catalog p _ _ h.1 h.4) ∙ ap (binary_width op (width catalog p)) (width-claimed catalog p2 _ _ h.2 h.5))
 width-claimed catalog (exchange n c k m p) q order x h = ap (width catalog) h.2 ∙ width-claimed catalog p _ _ h.1 h.3
 
-order-claimed : (catalog : ℕ → Relation) (p : Plan) (q : Part) (order : List ℕ) (x : Plan) → IsClaimed catalog p q order x → (claim x).order ≡ order
+order-claimed : (catalog : ℕ → Relation) (p : Plan) (q : Part) (order : List OrderEntry) (x : Plan) → IsClaimed catalog p q order x → (claim x).order ≡ order
 order-claimed catalog (scan n c r m z) q order x h = ap (λ y. (claim y).order) h.1
 order-claimed catalog (unary n c op p) q order x h = ap (λ y. (claim y).order) h.2
 order-claimed catalog (binary n c op p p2) q order x h = ap (λ y. (claim y).order) h.3
@@ -73,7 +76,7 @@ node-wider catalog v keyed w claimed found f few wide named ok more =
     (λ key e. if-told (show keyed key) (covers found key) (λ l. f.all few key (ap (λ u. all_below u key) (sym wide) ∙ (within-below (width catalog v) key ∙ e)) l)) names in
     found-kept keyed found (claim v).keys each (all-more (shown_key (behaviour catalog v)) (show keyed) (claim v).keys more shown)
 
-keys-told : (catalog : ℕ → Relation) (p : Plan) (q : Part) (order : List ℕ) (x y : Plan) → IsClaimed catalog p q order x → AtEach HasRoom x → Keeps p y → KeysNameColumns catalog y
+keys-told : (catalog : ℕ → Relation) (p : Plan) (q : Part) (order : List OrderEntry) (x y : Plan) → IsClaimed catalog p q order x → AtEach HasRoom x → Keeps p y → KeysNameColumns catalog y
     → allowed catalog y ≡ true → Wider (claim y).keys (claim x).keys
 keys-told catalog (scan n c r m z) q order x y h few k named ok =
     let v : Plan = scan n k.0 r m z in
@@ -126,36 +129,39 @@ keys-told catalog (exchange n c kind m p) q order x y h few k named ok =
 -- ---- total orders
 
 -- of a longest order the columns beside those of a front
-beside-front : (o : List ℕ) (places : OrderChoices) (u : List ℕ) → is_front o places ≡ true → is_chosen u places ≡ true → (m : List ℕ) × Beside o m places × (within m u ≡ true)
+beside-front : (o : List OrderEntry) (places : OrderChoices) (u : List OrderEntry) → may_begin o places ≡ true → is_chosen u places ≡ true
+    → (m : List ℕ) × Beside (order_columns o) m places × (within m (order_columns u) ≡ true)
 beside-front [] places u f c = ([], tt, refl)
 beside-front (x ∷ xs) [] u f c = absurd (true≢false (sym f))
 beside-front (x ∷ xs) (s ∷ places) [] f c = absurd (true≢false (sym c))
 beside-front (x ∷ xs) (s ∷ places) (d ∷ ds) f c =
-    let w = beside-front xs places ds (and-right (contains s x) (is_front xs places) f) (and-right (contains s d) (is_chosen ds places) c) in (
-      d ∷ w.0,
-      (and-left (contains s x) (is_front xs places) f, and-left (contains s d) (is_chosen ds places) c, w.1),
-      and-both (contains (d ∷ ds) d) (within w.0 (d ∷ ds)) (or-left (d == d) (contains ds d) (same-number d)) (within-more d ds w.0 w.2),
+    let w = beside-front xs places ds (and-right (has_entry s x) (may_begin xs places) f) (and-right (has_entry s d) (is_chosen ds places) c) in
+    let others : List ℕ = order_columns ds in (
+      d.column ∷ w.0,
+      (entry-column s x (and-left (has_entry s x) (may_begin xs places) f), entry-column s d (and-left (has_entry s d) (is_chosen ds places) c), w.1),
+      and-both (contains (d.column ∷ others) d.column) (within w.0 (d.column ∷ others)) (or-left (d.column == d.column) (contains others d.column) (same-number d.column))
+          (within-more d.column others w.0 w.2),
     )
 
-total-told : (s : Scope) (p : Plan) (q : Part) (order : List ℕ) (x y : Plan) → IsCatalog s.catalog → typed s p ≡ true → IsClaimed (relation_at s.catalog) p q order x → AtEach HasRoom x
+total-told : (s : Scope) (p : Plan) (q : Part) (order : List OrderEntry) (x y : Plan) → IsCatalog s.catalog → typed s p ≡ true → IsClaimed (relation_at s.catalog) p q order x → AtEach HasRoom x
     → is_chosen order (places_at (relation_at s.catalog) p) ≡ true → Keeps p y → (is_within (relation_at s.catalog) p ≡ true) ⊎ (y ≡ p) → typed s y ≡ true → allowed (relation_at s.catalog) y ≡ true
     → is_total_order (relation_at s.catalog) y ≡ true → is_total_order (relation_at s.catalog) x ≡ true
 total-told s p q order x y cat t h few chosen k whole ty ok total =
     let catalog : ℕ → Relation = relation_at s.catalog in
     let front = (only-options s p y k whole ty ok).2 in
-    let C : List ℕ → Type 0 = λ u. is_chosen u (places_at catalog p) ≡ true in
+    let C : List OrderEntry → Type 0 = λ u. is_chosen u (places_at catalog p) ≡ true in
     let w = beside-front (claim y).order (places_at catalog p) (claim x).order front (subst C (sym (order-claimed catalog p q order x h)) chosen) in
-    let keys : Bool = covers (claim x).keys (claim x).order in
-    let all : Bool = within (numbers_below (width catalog x)) (claim x).order in
+    let keys : Bool = covers (claim x).keys (order_columns (claim x).order) in
+    let all : Bool = within (numbers_below (width catalog x)) (order_columns (claim x).order) in
     let wide : width catalog y ≡ width catalog p = same-width catalog p y k in
     let N : ℕ → List ℕ → Bool = λ u o. within (numbers_below u) o in
     ⊎_elim
-    (λ e. or-left keys all (covers-more (claim x).keys w.0 (claim x).order
-    (keys-swap s p q order x cat t h few (claim y).order w.0 w.1 (keys-told catalog p q order x y h few k (typed-keys s y ty) ok (claim y).order e)) w.2))
-    (λ e. or-right keys all (ap (λ u. N u (claim x).order) (width-claimed catalog p q order x h)
-    ∙ within-trans (numbers_below (width catalog p)) w.0 (claim x).order
-    (within-swaps (width catalog p) (claim y).order w.0 (places_at catalog p) (places-tidy s p cat t) w.1 (ap (λ u. N u (claim y).order) (sym wide) ∙ e)) w.2))
-    (either (covers (claim y).keys (claim y).order) (within (numbers_below (width catalog y)) (claim y).order) total)
+    (λ e. or-left keys all (covers-more (claim x).keys w.0 (order_columns (claim x).order)
+    (keys-swap s p q order x cat t h few (order_columns (claim y).order) w.0 w.1 (keys-told catalog p q order x y h few k (typed-keys s y ty) ok (order_columns (claim y).order) e)) w.2))
+    (λ e. or-right keys all (ap (λ u. N u (order_columns (claim x).order)) (width-claimed catalog p q order x h)
+    ∙ within-trans (numbers_below (width catalog p)) w.0 (order_columns (claim x).order)
+    (within-swaps (width catalog p) (order_columns (claim y).order) w.0 (places_at catalog p) (places-tidy s p cat t) w.1 (ap (λ u. N u (order_columns (claim y).order)) (sym wide) ∙ e)) w.2))
+    (either (covers (claim y).keys (order_columns (claim y).order)) (within (numbers_below (width catalog y)) (order_columns (claim y).order)) total)
 
 -- a node of the second plan is in a total order where that of the first is, and so at each input below
 abbrev pub KeepsTotal : (ℕ → Relation) → Plan → Plan → Type 0
@@ -164,7 +170,7 @@ KeepsTotal catalog (unary n c op y) x = (is_total_order catalog y ≡ true → i
 KeepsTotal catalog (binary n c op y z) x = KeepsTotal catalog y (first_input x) × KeepsTotal catalog z (second_input x)
 KeepsTotal catalog (exchange n c k m y) x = KeepsTotal catalog y (first_input x)
 
-told-total : (s : Scope) (p : Plan) (q : Part) (order : List ℕ) (x y : Plan) → IsCatalog s.catalog → typed s p ≡ true → IsClaimed (relation_at s.catalog) p q order x → AtEach HasRoom x
+told-total : (s : Scope) (p : Plan) (q : Part) (order : List OrderEntry) (x y : Plan) → IsCatalog s.catalog → typed s p ≡ true → IsClaimed (relation_at s.catalog) p q order x → AtEach HasRoom x
     → is_chosen order (places_at (relation_at s.catalog) p) ≡ true → Keeps p y → (is_within (relation_at s.catalog) p ≡ true) ⊎ (y ≡ p) → typed s y ≡ true → allowed (relation_at s.catalog) y ≡ true
     → KeepsTotal (relation_at s.catalog) y x
 told-total s (scan n c r m z) q order x y cat t h few chosen k whole ty ok =
@@ -227,13 +233,6 @@ told-total s (exchange n c kind m p) q order x y cat t h few chosen k whole ty o
 
 -- ---- claims that keep those of the plan itself
 
-front-within : (xs ys : List ℕ) → is_prefix xs ys ≡ true → within xs ys ≡ true
-front-within [] ys h = refl
-front-within (x ∷ xs) [] h = cc
-front-within (x ∷ xs) (y ∷ ys) h =
-    and-both (contains (y ∷ ys) x) (within xs (y ∷ ys)) (or-left (x == y) (contains ys x) (and-left (x == y) (is_prefix xs ys) h))
-    (within-more y ys xs (front-within xs ys (and-right (x == y) (is_prefix xs ys) h)))
-
 claim-kept : (p x : Plan) → Keeps p x → KeepsClaim (claim p) (claim x)
 claim-kept (scan n c r m z) x k = let P : Plan → Type 0 = λ y. KeepsClaim c (claim y) in subst P (sym k.1) k.2
 claim-kept (unary n c op p) x k = let P : Plan → Type 0 = λ y. KeepsClaim c (claim y) in subst P (sym k.2) k.3
@@ -242,12 +241,12 @@ claim-kept (exchange n c kind m p) x k = let P : Plan → Type 0 = λ y. KeepsCl
 
 total-kept : (catalog : ℕ → Relation) (p x : Plan) → Keeps p x → KeepsKeys p x → is_total_order catalog p ≡ true → is_total_order catalog x ≡ true
 total-kept catalog p x k j total =
-    let longer : within (claim p).order (claim x).order ≡ true = front-within (claim p).order (claim x).order (claim-kept p x k).1 in
-    let keys : Bool = covers (claim x).keys (claim x).order in
-    let all : Bool = within (numbers_below (width catalog x)) (claim x).order in
-    ⊎_elim (λ e. or-left keys all (covers-more (claim x).keys (claim p).order (claim x).order (keys-at-top p x j (claim p).order e) longer))
-    (λ e. or-right keys all (ap (λ u. within (numbers_below u) (claim x).order) (same-width catalog p x k) ∙ within-trans (numbers_below (width catalog p)) (claim p).order (claim x).order e longer))
-    (either (covers (claim p).keys (claim p).order) (within (numbers_below (width catalog p)) (claim p).order) total)
+    let longer : within (order_columns (claim p).order) (order_columns (claim x).order) ≡ true = front-within (claim p).order (claim x).order (claim-kept p x k).1 in
+    let keys : Bool = covers (claim x).keys (order_columns (claim x).order) in
+    let all : Bool = within (numbers_below (width catalog x)) (order_columns (claim x).order) in
+    ⊎_elim (λ e. or-left keys all (covers-more (claim x).keys (order_columns (claim p).order) (order_columns (claim x).order) (keys-at-top p x j (order_columns (claim p).order) e) longer))
+    (λ e. or-right keys all (ap (λ u. within (numbers_below u) (order_columns (claim x).order)) (same-width catalog p x k) ∙ within-trans (numbers_below (width catalog p)) (order_columns (claim p).order) (order_columns (claim x).order) e longer))
+    (either (covers (claim p).keys (order_columns (claim p).order)) (within (numbers_below (width catalog p)) (order_columns (claim p).order)) total)
 
 unary-below : (n : ℕ) (op : Unary) (a b : Claim) (u v : Plan) → unary n a op u ≡ unary n b op v → u ≡ v
 unary-below n op a b u v e = cc
@@ -258,7 +257,7 @@ left-below n op a b u v w z e = cc
 right-below : (n : ℕ) (op : Binary) (a b : Claim) (u v w z : Plan) → binary n a op u w ≡ binary n b op v z → w ≡ z
 right-below n op a b u v w z e = cc
 
-sent-below : (n : ℕ) (kind : ExchangeKind) (m : List ℕ) (a b : Claim) (u v : Plan) → exchange n a kind m u ≡ exchange n b kind m v → u ≡ v
+sent-below : (n : ℕ) (kind : ExchangeKind) (m : List OrderEntry) (a b : Claim) (u v : Plan) → exchange n a kind m u ≡ exchange n b kind m v → u ≡ v
 sent-below n kind m a b u v e = cc
 
 kept-total : (catalog : ℕ → Relation) (p x : Plan) → Keeps p x → KeepsKeys p x → KeepsTotal catalog p x
@@ -312,7 +311,7 @@ known-of : (catalog : ℕ → Relation) (y : Plan) → allowed_here catalog y �
 known-of catalog y h =
     (eight (sizes_match y) (not_replicated y) (inputs_match y) (order_given y) (first_rows_known catalog y) (part_shown catalog y) (order_shown catalog y) (keys_shown catalog y) h).4
 
-none-unfit-in : (catalog : ℕ → Relation) (p : Plan) (q : Part) (order : List ℕ) (x y : Plan) → IsClaimed catalog p q order x → Keeps p y → first_unfit catalog p ≡ None → allowed catalog y ≡ true
+none-unfit-in : (catalog : ℕ → Relation) (p : Plan) (q : Part) (order : List OrderEntry) (x y : Plan) → IsClaimed catalog p q order x → Keeps p y → first_unfit catalog p ≡ None → allowed catalog y ≡ true
     → KeepsTotal catalog y x → unfit_in catalog p x ≡ None
 none-unfit-in catalog (scan n c r m z) q order x y h k fit ok total =
     let P : Plan → Type 0 = λ b. unfit_in catalog (scan n c r m z) b ≡ None in

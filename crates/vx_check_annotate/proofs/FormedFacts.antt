@@ -9,11 +9,13 @@ use Rattle.std.proofs.lemmas.Slice.Eq.{bytes_eq-Decides}
 use Rattle.vx_rows_values.specs.declared.value.ColType.{ColType}
 use Rattle.vx_rows_values.specs.Types.{type_at, is_held}
 use Rattle.vx_rows_values.specs.Values.{Name}
+use Rattle.vx_rows_values.specs.declared.order.OrderEntry.{OrderEntry}
+use Rattle.vx_rows_values.specs.Order.{order_columns}
 use Rattle.vx_rows_values.specs.Lists.{is_some_list}
 use Rattle.vx_rows_values.specs.Ranges.{RangeForm}
 use Rattle.vx_rows_values.proofs.Booleans.{and-left, and-right, and-both}
 use Rattle.vx_catalog_relations.specs.Catalog.{relation_at, all_below, are_distinct, is_named, IsCatalog}
-use Rattle.vx_catalog_relations.specs.Naming.{name_at}
+use Rattle.vx_catalog_relations.specs.Naming.{name_at, order_text}
 use Rattle.vx_plan_nodes.specs.Plan.{by_hash, by_range, Part, routed, Claim, Aggregate, Unary, Binary}
 use Rattle.vx_plan_nodes.specs.Plan as plan
 use Rattle.vx_plan_nodes.specs.Types.{aggregate_type, types_of, unary_types, binary_types}
@@ -22,7 +24,7 @@ use Rattle.vx_plan_nodes.specs.Typed.{are_columns, is_size, is_unary, is_binary,
 use Rattle.vx_plan_nodes.specs.Outline.{Top, Outline, scan, unary, binary, exchange, plan_in}
 use Rattle.vx_plan_nodes.specs.Outputs.{IsOutputOf, HasOutputs}
 use Rattle.vx_plan_nodes.specs.Names.{Names, scope_of}
-use Rattle.vx_plan_json.specs.Formed.{are_names, are_some_names, is_range_form, is_part_form, is_claim_form, is_output_form, is_new_name, is_aggregate_form, is_function_form, is_unary_form, is_binary_form, is_kind_form, is_merge_form, is_tree_form}
+use Rattle.vx_plan_json.specs.Formed.{are_names, are_some_names, is_order, is_range_form, is_part_form, is_claim_form, is_output_form, is_new_name, is_aggregate_form, is_function_form, is_unary_form, is_binary_form, is_kind_form, is_merge_form, is_tree_form}
 use Rattle.vx_plan.specs.ByName.{names_at, part_by_name, claim_by_name, kept_by_name, function_by_name, aggregates_by_name, top_by_name, unary_by_name, binary_by_name, kind_by_name, tree_by_name, column_names}
 use Rattle.vx_plan.specs.Exact.{are_kept, UnaryNames, binary_names, AreNamed}
 use Rattle.vx_plan.proofs.ClaimExact.{range-fits}
@@ -41,6 +43,13 @@ names-some names (c ∷ cols) h b =
 
 columns-some : (names : List Name) (cols : List ℕ) → are_names names ≡ true → are_columns (length names) cols ≡ true → are_names (names_at names cols) ≡ true
 columns-some names cols h b = names-some names cols h (and-left (all_below (length names) cols) (are_distinct cols) b)
+
+order-some : (names : List Name) (order : List OrderEntry) → are_names names ≡ true → all_below (length names) (order_columns order) ≡ true → is_order (order_text names order) ≡ true
+order-some names [] h b = refl
+order-some names (e ∷ order) h b =
+    let rest : Bool = all_below (length names) (order_columns order) in
+    and-both (is_some_list (name_at names e.column)) (is_order (order_text names order)) (name-some names e.column h (and-left (nat_lt e.column (length names)) rest b))
+    (order-some names order h (and-right (nat_lt e.column (length names)) rest b))
 
 keys-some : (names : List Name) (keys : List (List ℕ)) → are_names names ≡ true → list_all (are_columns (length names)) keys ≡ true → list_all are_names (map (names_at names) keys) ≡ true
 keys-some names [] h b = refl
@@ -86,14 +95,16 @@ claim-formed : (s : Names) (names : List Name) (types : List ColType) (c : Claim
     → is_claim_form (claim_by_name s names c) ≡ true
 claim-formed s names types c ranges h e k =
     let w : ℕ = length types in
-    let rest = and-right (is_part (scope_of s) types c.part) (are_columns w c.order && list_all (are_columns w) c.keys) k in
-    let P : ℕ → Type 0 = λ n. are_columns n c.order ≡ true in
+    let columns : List ℕ = order_columns c.order in
+    let rest = and-right (is_part (scope_of s) types c.part) (are_columns w columns && list_all (are_columns w) c.keys) k in
+    let P : ℕ → Type 0 = λ n. are_columns n columns ≡ true in
     let Q : ℕ → Type 0 = λ n. list_all (are_columns n) c.keys ≡ true in
-    and-both (is_part_form (part_by_name s names c.part)) (are_names (names_at names c.order) && list_all are_names (map (names_at names) c.keys))
-    (part-formed s names types c.part ranges h e (and-left (is_part (scope_of s) types c.part) (are_columns w c.order && list_all (are_columns w) c.keys) k))
-    (and-both (are_names (names_at names c.order)) (list_all are_names (map (names_at names) c.keys))
-    (columns-some names c.order h (subst P (sym e) (and-left (are_columns w c.order) (list_all (are_columns w) c.keys) rest)))
-    (keys-some names c.keys h (subst Q (sym e) (and-right (are_columns w c.order) (list_all (are_columns w) c.keys) rest))))
+    let there = subst P (sym e) (and-left (are_columns w columns) (list_all (are_columns w) c.keys) rest) in
+    and-both (is_part_form (part_by_name s names c.part)) (is_order (order_text names c.order) && list_all are_names (map (names_at names) c.keys))
+    (part-formed s names types c.part ranges h e (and-left (is_part (scope_of s) types c.part) (are_columns w columns && list_all (are_columns w) c.keys) k))
+    (and-both (is_order (order_text names c.order)) (list_all are_names (map (names_at names) c.keys))
+    (order-some names c.order h (and-left (all_below (length names) columns) (are_distinct columns) there))
+    (keys-some names c.keys h (subst Q (sym e) (and-right (are_columns w columns) (list_all (are_columns w) c.keys) rest))))
 
 -- ---- each output column has a name
 
@@ -157,7 +168,7 @@ unary-some names output types (plan.project cols) renamed h n l f =
     kept-some names cols renamed output n (and-right (is_some_list (kept_by_name names cols renamed output)) (list_all is_output_form (kept_by_name names cols renamed output)) f)
 unary-some names output types (plan.distinct cols) renamed h n l f =
     kept-some names cols renamed output n (and-right (is_some_list (kept_by_name names cols renamed output)) (list_all is_output_form (kept_by_name names cols renamed output)) f)
-unary-some names output types (plan.sort of_parts cols) renamed h n l f = ap are_names n.1 ∙ h
+unary-some names output types (plan.sort of_parts order) renamed h n l f = ap are_names n.1 ∙ h
 unary-some names output types (plan.group plan.plain by aggregates) renamed h n l f = group-some names output by aggregates types n.1 l
     (and-right (is_some_list (names_at names by) || is_some_list (aggregates_by_name names aggregates (drop (length by) output))) (are_names (names_at names by) && list_all is_aggregate_form (aggregates_by_name names aggregates (drop (length by) output))) f)
 unary-some names output types (plan.group plan.partial by aggregates) renamed h n l f = group-some names output by aggregates types n.1 l
@@ -167,7 +178,7 @@ unary-some names output types (plan.limit m) renamed h n l f = ap are_names n.1 
 
 binary-some : (left right : List Name) (op : Binary) → are_names left ≡ true → are_names right ≡ true → are_names (binary_names op left right) ≡ true
 binary-some left right plan.union l r = l
-binary-some left right (plan.join merging on) l r = list_all-append is_some_list left right ∙ and-both (are_names left) (are_names right) l r
+binary-some left right (plan.join method on) l r = list_all-append is_some_list left right ∙ and-both (are_names left) (are_names right) l r
 binary-some left right (plan.semi_join matched on conditions) l r = l
 
 -- ---- nodes
@@ -216,12 +227,12 @@ binary-formed s h op t u left right ranges ok out a =
           (and-both (are_claims_formed (tree_by_name s t)) (are_claims_formed (tree_by_name s u)) left.claims right.claims);
     }
 
-exchange-formed : (s : Names) (h : Top) (k : plan.ExchangeKind) (merge : List ℕ) (t : Outline) → AreFormed s t → list_all is_range_form s.ranges ≡ true → typed (scope_of s) (plan_in (exchange h k merge t)) ≡ true
+exchange-formed : (s : Names) (h : Top) (k : plan.ExchangeKind) (merge : List OrderEntry) (t : Outline) → AreFormed s t → list_all is_range_form s.ranges ≡ true → typed (scope_of s) (plan_in (exchange h k merge t)) ≡ true
     → HasOutputs (relation_at s.catalog) (exchange h k merge t) → AreNamed s.catalog (exchange h k merge t) → AreFormed s (exchange h k merge t)
 exchange-formed s h k merge t below ranges ok out a =
     let ts : List ColType = types_of (relation_at s.catalog) (plan_in t) in
     let last : Bool = is_output (scope_of s) ts h.claim in
-    let merged : Bool = are_columns (length ts) merge in
+    let merged : Bool = are_columns (length ts) (order_columns merge) in
     let one = and-right (typed (scope_of s) (plan_in t)) (is_kind (scope_of s) ts k && (merged && (may_merge k merge && last))) ok in
     let two = and-right merged (may_merge k merge && last) (and-right (is_kind (scope_of s) ts k) (merged && (may_merge k merge && last)) one) in
     let names : are_names h.columns.names ≡ true = ap are_names a.0 ∙ below.names in
@@ -252,9 +263,9 @@ claims-formed s (binary h op t u) cat ranges ok out a f =
     binary-formed s h op t u one two ranges ok out a
 claims-formed s (exchange h k merge t) cat ranges ok out a f =
     let ts : List ColType = types_of (relation_at s.catalog) (plan_in t) in
-    let own : Bool = is_kind (scope_of s) ts k && (are_columns (length ts) merge && (may_merge k merge && is_output (scope_of s) ts h.claim)) in
+    let own : Bool = is_kind (scope_of s) ts k && (are_columns (length ts) (order_columns merge) && (may_merge k merge && is_output (scope_of s) ts h.claim)) in
     let this : Bool = is_kind_form (kind_by_name s (column_names t) k) in
-    let merged : Bool = is_merge_form (kind_by_name s (column_names t) k) (names_at (column_names t) merge) in
+    let merged : Bool = is_merge_form (kind_by_name s (column_names t) k) (order_text (column_names t) merge) in
     let deep : Bool = is_tree_form (without_claims (tree_by_name s t)) in
     let below = claims-formed s t cat ranges (and-left (typed (scope_of s) (plan_in t)) own ok) out.1 a.2 (and-right merged deep (and-right this (merged && deep) f)) in
     exchange-formed s h k merge t below ranges ok out a

@@ -2,6 +2,7 @@
 use Rattle.std.proofs.Common.{◌≡◌, ℕ, Bool, true, false, not, ◌&&◌, ◌||◌, ◌⊎◌, List, [], ◌∷◌, None, Ok, inl, inr, refl, sym, ap, ◌∙◌, subst}
 use Rattle.std.specs.List.{list_any}
 use Rattle.std.proofs.lemmas.List.{append-nil}
+use Rattle.vx_rows_values.specs.declared.order.OrderEntry.{OrderEntry}
 use Rattle.vx_catalog_relations.specs.Relation.{Relation}
 use Rattle.vx_catalog_relations.specs.Catalog.{relation_at, IsCatalog}
 use Rattle.vx_plan_nodes.specs.Plan.{Part, Plan, scan, unary, binary, exchange, number, size, is_one}
@@ -16,11 +17,11 @@ use Rattle.vx_plan.proofs.PlanExact.{plans_resolved_exactly}
 use Rattle.vx_check_rules.specs.Rules.{is_total_order}
 use Rattle.vx_check_rules.specs.Refusal.{root_not_one, total_not_shown, root_tests, or_else, refused_at, first_refused, refusal}
 use Rattle.vx_check_options.specs.Options.{same_part, parts_at, places_at, first_unfit}
-use Rattle.vx_check_options.specs.Placed.{first_columns, first_part, bare}
+use Rattle.vx_check_options.specs.Placed.{first_entries, first_part, bare}
 use Rattle.vx_check_options.specs.Laws.{is_option, IsStrongest, AtEach}
 use Rattle.vx_check_options.specs.Claimed.{IsClaimed, IsReady, HasAllKeys, unfit_in}
 use Rattle.vx_check_options.proofs.Telling.{gives-self}
-use Rattle.vx_check_options.proofs.ChosenOrders.{first-columns-chosen}
+use Rattle.vx_check_options.proofs.ChosenOrders.{first-entries-chosen}
 use Rattle.vx_check_options.proofs.PlacedKeeps.{places-filled}
 use Rattle.vx_check_options.proofs.ClaimedIsTyped.{claimed-is-typed}
 use Rattle.vx_check_options.proofs.ClaimedIsFit.{claimed-is-fit}
@@ -35,7 +36,7 @@ use Rattle.vx_check_annotate.proofs.NamedFacts.{named-are}
 use Rattle.vx_check_annotate.proofs.ClaimsResolve.{claimed, claims-resolve, written-resolves}
 use Rattle.vx_check_annotate.proofs.FoundRefused.{resolved-bare, accepted-fits}
 
--- ---- the first part and the first columns
+-- ---- the first part and the first entries
 
 -- the first part is one of the parts
 first-option : (parts : List Part) → is_option parts (first_part parts) ≡ true
@@ -44,9 +45,9 @@ first-option (q ∷ qs) = ap (λ b. (b && b) || list_any (same_part q) qs) (give
 
 -- the top of a typed plan can claim them
 pub is-ready : (s : Scope) (p : Plan) → IsCatalog s.catalog → typed s p ≡ true
-    → IsReady s p (first_part (parts_at (relation_at s.catalog) p)) (first_columns (places_at (relation_at s.catalog) p))
+    → IsReady s p (first_part (parts_at (relation_at s.catalog) p)) (first_entries (places_at (relation_at s.catalog) p))
 is-ready s p cat ok =
-    (cat, ok, first-option (parts_at (relation_at s.catalog) p), first-columns-chosen (places_at (relation_at s.catalog) p) (places-filled (relation_at s.catalog) p))
+    (cat, ok, first-option (parts_at (relation_at s.catalog) p), first-entries-chosen (places_at (relation_at s.catalog) p) (places-filled (relation_at s.catalog) p))
 
 -- ---- the plan that is kept
 
@@ -108,10 +109,10 @@ hinted-fits : (catalog : List Relation) (d : Document) (p : TypedPlanView) → I
 hinted-fits catalog d p cat formed (inl a) = inr (accepted-fits catalog d p cat formed a.0 a.1).0
 hinted-fits catalog d p cat formed (inr u) = inl (resolved-bare catalog d p cat formed u.1)
 
--- of the document with the claims that are placed under the first part and the first columns, and their keys
+-- of the document with the claims that are placed under the first part and the first entries, and their keys
 pub found-said : (catalog : List Relation) (d e : Document) (p : TypedPlanView) (x : Plan) (total : Bool) (forms : List ClaimForm) → IsCatalog catalog → is_tree_form d.root ≡ true → is_head_form d.sizes d.ranges ≡ true
     → IsHinted catalog d p
-    → IsClaimed (relation_at catalog) (plan_in p.root) (first_part (parts_at (relation_at catalog) (plan_in p.root))) (first_columns (places_at (relation_at catalog) (plan_in p.root))) x
+    → IsClaimed (relation_at catalog) (plan_in p.root) (first_part (parts_at (relation_at catalog) (plan_in p.root))) (first_entries (places_at (relation_at catalog) (plan_in p.root))) x
     → forms ≡ named_forms p.names (claims_of x) p.root → total ≡ is_total_order (relation_at catalog) x → e ≡ with_forms forms total d → IsSaid catalog e p x total
 found-said catalog d e p x total forms cat formed head hinted found named is says =
     let known = hinted-named catalog d p cat formed hinted in
@@ -120,8 +121,8 @@ found-said catalog d e p x total forms cat formed head hinted found named is say
     let C : ℕ → Relation = relation_at catalog in
     let P : Plan = plan_in p.root in
     let q : Part = first_part (parts_at (relation_at s.catalog) P) in
-    let order : List ℕ = first_columns (places_at (relation_at s.catalog) P) in
-    let F : List Relation → Type 0 = λ l. IsClaimed (relation_at l) P (first_part (parts_at (relation_at l) P)) (first_columns (places_at (relation_at l) P)) x in
+    let order : List OrderEntry = first_entries (places_at (relation_at s.catalog) P) in
+    let F : List Relation → Type 0 = λ l. IsClaimed (relation_at l) P (first_part (parts_at (relation_at l) P)) (first_entries (places_at (relation_at l) P)) x in
     let G : List Relation → Type 0 = λ l. (bare P ≡ P) ⊎ (first_unfit (relation_at l) P ≡ None) in
     let H : List Relation → Type 0 = λ l. first_refused (relation_at l) x ≡ unfit_in (relation_at l) P x in
     let here : IsClaimed (relation_at s.catalog) P q order x = subst F (sym same) found in

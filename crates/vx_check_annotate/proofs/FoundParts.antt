@@ -1,6 +1,7 @@
 -- The parts that are placed in an accepted plan give those that it claims, where all rows are not on one worker.
 use Rattle.std.proofs.Common.{◌≡◌, ℕ, Bool, true, false, cond, not, ◌&&◌, ◌||◌, ◌⊎◌, inl, inr, List, [], ◌∷◌, take, refl, sym, ◌∙◌, subst}
 use Rattle.std.specs.List.{list_all}
+use Rattle.vx_rows_values.specs.declared.order.OrderEntry.{OrderEntry}
 use Rattle.vx_rows_values.proofs.Booleans.{and-left, and-right}
 use Rattle.vx_catalog_relations.specs.Relation.{Relation}
 use Rattle.vx_catalog_relations.specs.Catalog.{relation_at}
@@ -89,7 +90,7 @@ part-here s p q t ok here h o =
 -- ---- plans
 
 -- where a plan is accepted, what is placed in it gives the parts that it claims
-pub found-parts : (s : Scope) (p : Plan) (q : Part) (order : List ℕ) (x : Plan) → typed s p ≡ true → allowed (relation_at s.catalog) p ≡ true
+pub found-parts : (s : Scope) (p : Plan) (q : Part) (order : List OrderEntry) (x : Plan) → typed s p ≡ true → allowed (relation_at s.catalog) p ≡ true
     → is_option (parts_at (relation_at s.catalog) p) q ≡ true → IsClaimed (relation_at s.catalog) p q order x → Keeps p x → TellsParts p x
 found-parts s (scan n c r m z) q order x t ok o f k =
     let same : k.0 ≡ note q order f.0 = cc (k.1, f.1) in

@@ -1,24 +1,26 @@
 -- Claims by position that keep those of a plan tell at least as much by names.
-use Rattle.std.proofs.Common.{◌≡◌, ℕ, ◌==◌, Bool, true, ◌&&◌, ◌⊎◌, ⊎_elim, List, [], ◌∷◌, map, bytes_eq, refl, sym, subst}
+use Rattle.std.proofs.Common.{◌≡◌, ℕ, ◌==◌, Bool, true, cond, not, ◌&&◌, ◌⊎◌, ⊎_elim, List, [], ◌∷◌, map, bytes_eq, refl, sym, subst}
 use Rattle.std.specs.List.{list_all}
 use Rattle.std.proofs.lemmas.Bool.{eqb-true}
 use Rattle.vx_rows_values.proofs.Booleans.{and-left, and-right, and-both}
 use Rattle.vx_rows_values.specs.Values.{Name}
-use Rattle.vx_catalog_relations.specs.Naming.{name_at}
+use Rattle.vx_rows_values.specs.declared.order.OrderEntry.{OrderEntry}
+use Rattle.vx_rows_values.specs.Order.{entry_eq}
+use Rattle.vx_catalog_relations.specs.Naming.{name_at, order_text}
 use Rattle.vx_plan_nodes.specs.Plan.{by_hash, by_range, Part, one, any, all, routed, Claim, Plan, scan, unary, binary, exchange, claim}
 use Rattle.vx_plan_nodes.specs.Outline.{Outline, plan_in}
 use Rattle.vx_plan_nodes.specs.Outline as outline
 use Rattle.vx_plan_nodes.specs.Names.{Names}
 use Rattle.vx_plan_json.specs.Document as form
 use Rattle.vx_plan.specs.ByName.{names_at, part_by_name, claim_by_name, tree_by_name}
-use Rattle.vx_check_rules.specs.Rules.{part_gives, contains, within, is_prefix, covers}
+use Rattle.vx_check_rules.specs.Rules.{part_gives, contains, within, is_front, covers}
 use Rattle.vx_check_rules.proofs.Bools.{or-left, or-right, all-more}
 use Rattle.vx_check_options.specs.Options.{is_routed}
 use Rattle.vx_check_options.specs.Laws.{KeepsClaim, Keeps}
 use Rattle.vx_check_options.specs.Claimed.{KeepsKeysOf, KeepsKeys}
 use Rattle.vx_check_options.proofs.Telling.{same, gives-is, or-cases}
 use Rattle.vx_check_annotate.specs.Claimed.{with_claims}
-use Rattle.vx_check_annotate.specs.Telling.{begins, has_name, covers_name, part_tells, claim_tells, tree_tells}
+use Rattle.vx_check_annotate.specs.Telling.{begins_order, has_name, covers_name, part_tells, claim_tells, tree_tells}
 use Rattle.vx_check_annotate.proofs.TellingFacts.{name_self, part_self}
 
 -- ---- what is asked of parts
@@ -60,12 +62,15 @@ same-name : (names : List Name) (c d : ℕ) → (c == d) ≡ true → bytes_eq (
 same-name names c d h = subst (λ x. bytes_eq (name_at names c) (name_at names x) ≡ true) (eqb-true c d h) (name_self (name_at names c))
 
 -- an order that begins with another one does so by names
-order-told : (names : List Name) (cs ds : List ℕ) → is_prefix cs ds ≡ true → begins (names_at names cs) (names_at names ds) ≡ true
-order-told names [] ds h = refl
-order-told names (c ∷ cs) [] h = cc
-order-told names (c ∷ cs) (d ∷ ds) h =
-    and-both (bytes_eq (name_at names c) (name_at names d)) (begins (names_at names cs) (names_at names ds)) (same-name names c d (and-left (c == d) (is_prefix cs ds) h))
-    (order-told names cs ds (and-right (c == d) (is_prefix cs ds) h))
+order-told : (names : List Name) (order other : List OrderEntry) → is_front order other ≡ true → begins_order (order_text names order) (order_text names other) ≡ true
+order-told names [] other h = refl
+order-told names (x ∷ xs) [] h = cc
+order-told names (x ∷ xs) (y ∷ ys) h =
+    let way : Bool = cond x.falling y.falling (not y.falling) in
+    let here = and-left (entry_eq x y) (is_front xs ys) h in
+    and-both (bytes_eq (name_at names x.column) (name_at names y.column) && way) (begins_order (order_text names xs) (order_text names ys))
+    (and-both (bytes_eq (name_at names x.column) (name_at names y.column)) way (same-name names x.column y.column (and-left (x.column == y.column) way here)) (and-right (x.column == y.column) way here))
+    (order-told names xs ys (and-right (entry_eq x y) (is_front xs ys) h))
 
 -- ---- keys
 
@@ -112,7 +117,7 @@ keys-told names (first ∷ claimed) keys h =
 -- at a node
 claim-told : (s : Names) (names : List Name) (c d : Claim) → TellsPart c d → KeepsClaim c d → KeepsKeysOf c d → claim_tells (claim_by_name s names d) (claim_by_name s names c) ≡ true
 claim-told s names c d part kept keys =
-    let order : Bool = begins (names_at names c.order) (names_at names d.order) in
+    let order : Bool = begins_order (order_text names c.order) (order_text names d.order) in
     let keyed : Bool = list_all (covers_name (map (names_at names) d.keys)) (map (names_at names) c.keys) in
     and-both (part_tells (part_by_name s names d.part) (part_by_name s names c.part)) (order && keyed) (part-told s names c.part d.part part)
     (and-both order keyed (order-told names c.order d.order kept.1) (keys-told names c.keys d.keys keys))

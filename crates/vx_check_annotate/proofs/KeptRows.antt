@@ -1,11 +1,13 @@
 -- Where an accepted plan is kept with its keys, the first rows that its limits take are known still; and what refuses the claims that are found is a node that no claims
 -- can save, or a limit.
-use Rattle.std.proofs.Common.{◌≡◌, ◌∙◌, ℕ, ◌==◌, Bool, true, false, ◌&&◌, ◌||◌, ◌⊎◌, ⊎_elim, List, [], ◌∷◌, Option, Some, None, true≢false, refl, sym, ap, subst}
+use Rattle.std.proofs.Common.{◌≡◌, ◌∙◌, ℕ, ◌==◌, Bool, true, false, cond, not, ◌&&◌, ◌||◌, ◌⊎◌, ⊎_elim, List, [], ◌∷◌, Option, Some, None, true≢false, refl, sym, ap, subst}
 use Rattle.vx_rows_values.proofs.Booleans.{and-left, and-right, and-both}
+use Rattle.vx_rows_values.specs.declared.order.OrderEntry.{OrderEntry}
+use Rattle.vx_rows_values.specs.Order.{order_columns, entry_eq}
 use Rattle.vx_catalog_relations.specs.Relation.{Relation}
 use Rattle.vx_plan_nodes.specs.Plan.{Claim, claim, Unary, select, project, distinct, sort, group, limit, Plan, scan, unary, binary, exchange, size, is_one}
 use Rattle.vx_plan_nodes.specs.Types.{width, unary_width, binary_width}
-use Rattle.vx_check_rules.specs.Rules.{contains, within, is_prefix, covers, numbers_below, is_total_order, sizes_match, not_replicated, inputs_match, order_given, first_rows_known, allowed_here, allowed}
+use Rattle.vx_check_rules.specs.Rules.{contains, within, is_front, covers, numbers_below, is_total_order, sizes_match, not_replicated, inputs_match, order_given, first_rows_known, allowed_here, allowed}
 use Rattle.vx_check_rules.specs.Refusal.{Rule, size_mismatch, root_not_one, part_not_shown, inputs_not_matched, replicated_input, order_not_shown, order_needed, key_not_shown, total_not_shown, first_rows_open, or_else, refused_at}
 use Rattle.vx_check_rules.proofs.Bools.{or-left, or-right, all-more}
 use Rattle.vx_check_rules.proofs.Refusals.{none-both}
@@ -33,12 +35,14 @@ width-kept catalog (exchange n c kind m p) x k = ap (width catalog) k.2 ∙ widt
 
 -- ---- total orders
 
-front-within : (xs ys : List ℕ) → is_prefix xs ys ≡ true → within xs ys ≡ true
+pub front-within : (xs ys : List OrderEntry) → is_front xs ys ≡ true → within (order_columns xs) (order_columns ys) ≡ true
 front-within [] ys h = refl
 front-within (x ∷ xs) [] h = cc
 front-within (x ∷ xs) (y ∷ ys) h =
-    and-both (contains (y ∷ ys) x) (within xs (y ∷ ys)) (or-left (x == y) (contains ys x) (and-left (x == y) (is_prefix xs ys) h))
-    (all-more (contains ys) (contains (y ∷ ys)) xs (λ c e. or-right (c == y) (contains ys c) e) (front-within xs ys (and-right (x == y) (is_prefix xs ys) h)))
+    let same : (x.column == y.column) ≡ true = and-left (x.column == y.column) (cond x.falling y.falling (not y.falling)) (and-left (entry_eq x y) (is_front xs ys) h) in
+    let others : List ℕ = order_columns ys in
+    and-both (contains (y.column ∷ others) x.column) (within (order_columns xs) (y.column ∷ others)) (or-left (x.column == y.column) (contains others x.column) same)
+    (all-more (contains others) (contains (y.column ∷ others)) (order_columns xs) (λ c e. or-right (c == y.column) (contains others c) e) (front-within xs ys (and-right (entry_eq x y) (is_front xs ys) h)))
 
 keeps-top : (p x : Plan) → Keeps p x → KeepsClaim (claim p) (claim x)
 keeps-top (scan n c r m z) x k = let P : Plan → Type 0 = λ y. KeepsClaim c (claim y) in subst P (sym k.1) k.2
@@ -54,21 +58,21 @@ keys-top (exchange n c kind m p) x k = let P : Plan → Type 0 = λ y. KeepsKeys
 
 -- a total order stays one
 pub total-kept : (catalog : ℕ → Relation) (p x : Plan) → Keeps p x → KeepsKeys p x → is_total_order catalog p ≡ true → is_total_order catalog x ≡ true
-total-kept catalog p x k j h = by (covers (claim p).keys (claim p).order) refl h
+total-kept catalog p x k j h = by (covers (claim p).keys (order_columns (claim p).order)) refl h
   where
     wide : width catalog x ≡ width catalog p
     wide = width-kept catalog p x k
 
-    longer : within (claim p).order (claim x).order ≡ true
+    longer : within (order_columns (claim p).order) (order_columns (claim x).order) ≡ true
     longer = front-within (claim p).order (claim x).order (keeps-top p x k).1
 
-    by : (b : Bool) → covers (claim p).keys (claim p).order ≡ b → (b || within (numbers_below (width catalog p)) (claim p).order) ≡ true → is_total_order catalog x ≡ true
+    by : (b : Bool) → covers (claim p).keys (order_columns (claim p).order) ≡ b → (b || within (numbers_below (width catalog p)) (order_columns (claim p).order)) ≡ true → is_total_order catalog x ≡ true
     by true e t =
-        or-left (covers (claim x).keys (claim x).order) (within (numbers_below (width catalog x)) (claim x).order)
-        (covers-more (claim x).keys (claim p).order (claim x).order (keys-top p x j (claim p).order e) longer)
+        or-left (covers (claim x).keys (order_columns (claim x).order)) (within (numbers_below (width catalog x)) (order_columns (claim x).order))
+        (covers-more (claim x).keys (order_columns (claim p).order) (order_columns (claim x).order) (keys-top p x j (order_columns (claim p).order) e) longer)
     by false e t =
-        or-right (covers (claim x).keys (claim x).order) (within (numbers_below (width catalog x)) (claim x).order)
-        (rw wide (within-trans (numbers_below (width catalog p)) (claim p).order (claim x).order t longer))
+        or-right (covers (claim x).keys (order_columns (claim x).order)) (within (numbers_below (width catalog x)) (order_columns (claim x).order))
+        (rw wide (within-trans (numbers_below (width catalog p)) (order_columns (claim p).order) (order_columns (claim x).order) t longer))
 
 -- ---- the first rows of limits
 

@@ -1,32 +1,34 @@
--- Orders of columns that stand at the same places: where one contains a key that was found, the other one does.
+-- Columns of orders that stand at the same places: where those of one order contain a key that was found, those of the other do.
 use Rattle.std.specs.Prelude.{⊤}
-use Rattle.std.proofs.Common.{◌≡◌, ℕ, zero, suc, ◌+◌, ◌<◌, ◌==◌, nat_lt, nat_le, Bool, true, false, cond, not, ◌&&◌, ◌||◌, ⊎_elim, List, [], ◌∷◌, map, flat_map, length, Option, Some, None, slice_get, unwrap_or, option_map, refl, sym, ap, ap₂, ◌∙◌, subst, arith, eqb-true, true≢false}
+use Rattle.std.proofs.Common.{◌≡◌, ℕ, zero, suc, ◌+◌, ◌<◌, ◌==◌, nat_lt, nat_le, Bool, true, false, cond, not, ◌&&◌, ◌||◌, ⊎_elim, List, [], ◌∷◌, ◌++◌, map, flat_map, filter, length, Option, Some, None, slice_get, unwrap_or, option_map, refl, sym, ap, ap₂, ◌∙◌, subst, arith, eqb-true, true≢false}
 use Rattle.std.specs.List.{list_any, list_all}
 use Rattle.std.proofs.lemmas.Bool.Decides.{nat_tests}
+use Rattle.std.proofs.lemmas.List.{map-append}
+use Rattle.std.proofs.lemmas.List.Folds.{list_any-append}
 use Rattle.vx_rows_values.specs.declared.value.ColType.{ColType}
+use Rattle.vx_rows_values.specs.declared.order.OrderEntry.{OrderEntry}
+use Rattle.vx_rows_values.specs.Order.{order_columns, entry_eq}
 use Rattle.vx_rows_values.specs.Lists.{is_some_list}
 use Rattle.vx_rows_values.proofs.Booleans.{and-left, and-right, and-both}
 use Rattle.vx_catalog_relations.specs.Relation.{Relation}
 use Rattle.vx_catalog_relations.specs.Catalog.{relation_at, all_below, are_distinct, IsCatalog}
-use Rattle.vx_plan_nodes.specs.Plan.{Part, Unary, select, project, distinct, sort, group, limit, plain, partial, final, Binary, union, join, semi_join, ExchangeKind, route_to, round, broadcast, gather, concat, Plan, scan, unary, binary, exchange, claim, size, is_one}
+use Rattle.vx_plan_nodes.specs.Plan.{Part, Unary, select, project, distinct, sort, group, limit, plain, partial, final, by_hashing, by_merging, left_order, Binary, union, join, semi_join, ExchangeKind, route_to, round, broadcast, gather, concat, Plan, scan, unary, binary, exchange, claim, size, is_one}
 use Rattle.vx_plan_nodes.specs.Phases.{first_columns, phase_fits}
 use Rattle.vx_plan_nodes.specs.Types.{types_of, unary_types, width, binary_width}
 use Rattle.vx_plan_nodes.specs.Typed.{Scope, are_columns, is_unary, is_kind, typed}
 use Rattle.vx_plan_nodes.specs.Describe.{Copying, whole_rows, columns_kept, right_of, source, keys_kept, key_of_first, described, described_both}
-use Rattle.vx_check_rules.specs.Rules.{contains, within, covers, cons_both, shifted, numbers_below}
+use Rattle.vx_check_rules.specs.Rules.{contains, within, covers, cons_both, entry_at, shifted, numbers_below}
 use Rattle.vx_check_rules.specs.Behaviour.{Keyed, sources, keyed_by, keyed_after, keyed_held, keyed_over, is_column, has_copy, has_key, keys_give}
 use Rattle.vx_check_rules.proofs.Bools.{or-false, or-left, or-right, all-more, any-more}
 use Rattle.vx_check_rules.proofs.ColumnFacts.{list_all-ext, list_any-ext, contains-below}
 use Rattle.vx_check_rules.proofs.Exact.{sources-whole, key-first, join-keys}
 use Rattle.vx_check_rules.proofs.WidthFacts.{types_of-width}
-use Rattle.vx_check_options.specs.Options.{OrderChoices, copies, singles, place_then, places_up, places_after, narrowed, or_nowhere, places_over_both, rising, places_sent, places_at, parts_at}
+use Rattle.vx_check_options.specs.Options.{OrderChoices, copies, singles, has_entry, entry_copies, place_then, places_up, places_after, narrowed, or_nowhere, places_over_both, rising, places_sent, places_at, parts_at}
 use Rattle.vx_check_options.specs.FoundKeys.{show, FoundKeys}
 use Rattle.vx_check_options.specs.Laws.{AtEach}
 use Rattle.vx_check_options.specs.Claimed.{IsClaimed}
 use Rattle.vx_check_options.proofs.FoundFacts.{either, not-true, contains-in, any-of}
-use Rattle.vx_check_options.proofs.PlacedOrders.{same-number, any-flat, any-number, copies-source}
-use Rattle.vx_check_options.proofs.PlacedIsFit.{kept-passes}
-use Rattle.vx_check_options.proofs.ChosenOrders.{lone-is}
+use Rattle.vx_check_options.proofs.PlacedOrders.{same-number, copies-source}
 use Rattle.vx_check_options.proofs.TypedParts.{unary-types}
 use Rattle.vx_check_options.proofs.TypedOrders.{declared-typed}
 use Rattle.vx_check_options.proofs.KeysMonotone.{alone-shown}
@@ -34,20 +36,24 @@ use Rattle.vx_check_annotate.specs.Accepted.{HasRoom}
 
 -- ---- places
 
+-- one of these entries is of the column
+abbrev pub has_column : List OrderEntry → ℕ → Bool
+has_column s c = contains (order_columns s) c
+
 -- the column may stand at one of the places
 abbrev pub stands : OrderChoices → ℕ → Bool
-stands places c = list_any (λ s. contains s c) places
+stands places c = list_any (λ s. has_column s c) places
 
 -- no column may stand at two places
 abbrev pub Apart : OrderChoices → Type 0
 Apart [] = ⊤
-Apart (s ∷ places) = ((c : ℕ) → contains s c ≡ true → stands places c ≡ false) × Apart places
+Apart (s ∷ places) = ((c : ℕ) → has_column s c ≡ true → stands places c ≡ false) × Apart places
 
 -- each place of the first is that of the second, or narrower
 abbrev pub Narrower : OrderChoices → OrderChoices → Type 0
 Narrower [] more = ⊤
 Narrower (s ∷ places) [] = ⊥
-Narrower (s ∷ places) (t ∷ more) = ((c : ℕ) → contains s c ≡ true → contains t c ≡ true) × Narrower places more
+Narrower (s ∷ places) (t ∷ more) = ((c : ℕ) → has_column s c ≡ true → has_column t c ≡ true) × Narrower places more
 
 narrower-self : (places : OrderChoices) → Narrower places places
 narrower-self [] = tt
@@ -63,7 +69,7 @@ narrower-stands : (a b : OrderChoices) → Narrower a b → (c : ℕ) → stands
 narrower-stands [] b h c e = absurd (true≢false (sym e))
 narrower-stands (s ∷ a) [] h c e = absurd h
 narrower-stands (s ∷ a) (t ∷ b) h c e =
-    ⊎_elim (λ f. or-left (contains t c) (stands b c) (h.0 c f)) (λ f. or-right (contains t c) (stands b c) (narrower-stands a b h.1 c f)) (either (contains s c) (stands a c) e)
+    ⊎_elim (λ f. or-left (has_column t c) (stands b c) (h.0 c f)) (λ f. or-right (has_column t c) (stands b c) (narrower-stands a b h.1 c f)) (either (has_column s c) (stands a c) e)
 
 not-so : (b : Bool) → (b ≡ true → ⊥) → b ≡ false
 not-so true f = absurd (f refl)
@@ -75,36 +81,54 @@ narrower-apart (s ∷ a) [] h p = absurd h
 narrower-apart (s ∷ a) (t ∷ b) h p =
     (λ c e. not-so (stands a c) (λ f. true≢false (sym (narrower-stands a b h.1 c f) ∙ p.0 c (h.0 c e))), narrower-apart a b h.1 p.1)
 
--- places that begin with some columns
-narrowed-narrower : (cs : List ℕ) (places more : OrderChoices) → narrowed cs places ≡ Some more → Narrower more places
+lone-is : (x c : ℕ) → contains (x ∷ []) c ≡ true → c ≡ x
+lone-is x c h = eqb-true c x (sym (or-false (c == x)) ∙ h)
+
+-- an entry that may stand there is of a column that may
+pub entry-column : (s : List OrderEntry) (e : OrderEntry) → has_entry s e ≡ true → has_column s e.column ≡ true
+entry-column [] e h = absurd (true≢false (sym h))
+entry-column (d ∷ s) e h = ⊎_elim
+    (λ k. or-left (e.column == d.column) (has_column s e.column) (and-left (e.column == d.column) (cond e.falling d.falling (not d.falling)) k))
+    (λ k. or-right (e.column == d.column) (has_column s e.column) (entry-column s e k)) (either (entry_eq e d) (has_entry s e) h)
+
+-- places that begin with some entries
+narrowed-narrower : (es : List OrderEntry) (places more : OrderChoices) → narrowed es places ≡ Some more → Narrower more places
 narrowed-narrower [] places more e = let is : places ≡ more = cc in let P : OrderChoices → Type 0 = λ m. Narrower m places in subst P is (narrower-self places)
-narrowed-narrower (c ∷ cs) [] more e = cc
-narrowed-narrower (c ∷ cs) (s ∷ places) more e = by (contains s c) (narrowed cs places) refl (λ m n. narrowed-narrower cs places m n) e
+narrowed-narrower (d ∷ es) [] more e = cc
+narrowed-narrower (d ∷ es) (s ∷ places) more e = by (has_entry s d) (narrowed es places) refl (λ m n. narrowed-narrower es places m n) e
   where
-    by : (b : Bool) (o : Option OrderChoices) → contains s c ≡ b → ((m : OrderChoices) → o ≡ Some m → Narrower m places)
-        → cond b (option_map (λ m. (c ∷ []) ∷ m) o) None ≡ Some more → Narrower more (s ∷ places)
+    by : (b : Bool) (o : Option OrderChoices) → has_entry s d ≡ b → ((m : OrderChoices) → o ≡ Some m → Narrower m places)
+        → cond b (option_map (λ m. (d ∷ []) ∷ m) o) None ≡ Some more → Narrower more (s ∷ places)
     by true (Some m) t rest n =
-        let is : (c ∷ []) ∷ m ≡ more = cc in
+        let is : (d ∷ []) ∷ m ≡ more = cc in
         let P : OrderChoices → Type 0 = λ z. Narrower z (s ∷ places) in
-        let here : Narrower ((c ∷ []) ∷ m) (s ∷ places) = (λ d l. ap (contains s) (lone-is c d l) ∙ t, rest m refl) in
+        let here : Narrower ((d ∷ []) ∷ m) (s ∷ places) = (λ c l. ap (has_column s) (lone-is d.column c l) ∙ entry-column s d t, rest m refl) in
         subst P is here
     by true None t rest n = cc
     by false o t rest n = cc
 
-nowhere-narrower : (cs : List ℕ) (places : OrderChoices) → Narrower (or_nowhere (narrowed cs places)) places
-nowhere-narrower cs places = by (narrowed cs places) refl
+nowhere-narrower : (es : List OrderEntry) (places : OrderChoices) → Narrower (or_nowhere (narrowed es places)) places
+nowhere-narrower es places = by (narrowed es places) refl
   where
-    by : (o : Option OrderChoices) → narrowed cs places ≡ o → Narrower (unwrap_or o []) places
+    by : (o : Option OrderChoices) → narrowed es places ≡ o → Narrower (unwrap_or o []) places
     by None e = tt
-    by (Some m) e = narrowed-narrower cs places m e
+    by (Some m) e = narrowed-narrower es places m e
 
-then-narrower : (t s : List ℕ) (places : OrderChoices) → ((c : ℕ) → contains t c ≡ true → contains s c ≡ true) → Narrower (place_then t places) (s ∷ places)
+then-narrower : (t s : List OrderEntry) (places : OrderChoices) → ((c : ℕ) → has_column t c ≡ true → has_column s c ≡ true) → Narrower (place_then t places) (s ∷ places)
 then-narrower [] s places h = tt
-then-narrower (c ∷ cs) s places h = (h, narrower-self places)
+then-narrower (e ∷ es) s places h = (h, narrower-self places)
+
+kept-column : (test : OrderEntry → Bool) (s : List OrderEntry) (c : ℕ) → has_column (filter test s) c ≡ true → has_column s c ≡ true
+kept-column test [] c h = h
+kept-column test (e ∷ s) c h = by (test e) (kept-column test s c) h
+  where
+    by : (b : Bool) → (has_column (filter test s) c ≡ true → has_column s c ≡ true) → has_column (cond b (e ∷ filter test s) (filter test s)) c ≡ true → has_column (e ∷ s) c ≡ true
+    by true more k = ⊎_elim (λ f. or-left (c == e.column) (has_column s c) f) (λ f. or-right (c == e.column) (has_column s c) (more f)) (either (c == e.column) (has_column (filter test s) c) k)
+    by false more k = or-right (c == e.column) (has_column s c) (more k)
 
 rising-narrower : (parts : List Part) (places : OrderChoices) → Narrower (rising parts places) places
 rising-narrower parts [] = tt
-rising-narrower parts (s ∷ places) = then-narrower _ s places (λ c e. (kept-passes _ s c e).0)
+rising-narrower parts (s ∷ places) = then-narrower _ s places (λ c e. kept-column _ s c e)
 
 -- ---- columns of places
 
@@ -125,15 +149,15 @@ tidy-more v u places t = record { below = λ c e. more c (t.below c e); apart = 
     more : (c : ℕ) → nat_lt c v ≡ true → nat_lt c (v + u) ≡ true
     more c h = grind (arith, nat_tests, h)
 
-singles-stands : (xs : List ℕ) (c : ℕ) → stands (singles xs) c ≡ contains xs c
+singles-stands : (xs : List OrderEntry) (c : ℕ) → stands (singles xs) c ≡ has_column xs c
 singles-stands [] c = refl
-singles-stands (x ∷ xs) c = ap (λ b. b || stands (singles xs) c) (or-false (c == x)) ∙ ap (λ b. (c == x) || b) (singles-stands xs c)
+singles-stands (x ∷ xs) c = ap (λ b. b || stands (singles xs) c) (or-false (c == x.column)) ∙ ap (λ b. (c == x.column) || b) (singles-stands xs c)
 
-singles-apart : (xs : List ℕ) → are_distinct xs ≡ true → Apart (singles xs)
+singles-apart : (xs : List OrderEntry) → are_distinct (order_columns xs) ≡ true → Apart (singles xs)
 singles-apart [] h = tt
 singles-apart (x ∷ xs) h = (
-  λ c e. ap (stands (singles xs)) (lone-is x c e) ∙ (singles-stands xs x ∙ not-true (contains xs x) (and-left (not (contains xs x)) (are_distinct xs) h)),
-  singles-apart xs (and-right (not (contains xs x)) (are_distinct xs) h),
+  λ c e. ap (stands (singles xs)) (lone-is x.column c e) ∙ (singles-stands xs x.column ∙ not-true (has_column xs x.column) (and-left (not (has_column xs x.column)) (are_distinct (order_columns xs)) h)),
+  singles-apart xs (and-right (not (has_column xs x.column)) (are_distinct (order_columns xs)) h),
 )
 
 below-at : (w : ℕ) (xs : List ℕ) (c : ℕ) → all_below w xs ≡ true → contains xs c ≡ true → nat_lt c w ≡ true
@@ -141,28 +165,41 @@ below-at w [] c h e = absurd (true≢false (sym e))
 below-at w (x ∷ xs) c h e =
     ⊎_elim (λ f. ap (λ d. nat_lt d w) (eqb-true c x f) ∙ and-left (nat_lt x w) (all_below w xs) h) (λ f. below-at w xs c (and-right (nat_lt x w) (all_below w xs) h) f) (either (c == x) (contains xs c) e)
 
-singles-tidy : (w : ℕ) (xs : List ℕ) → are_columns w xs ≡ true → Tidy w (singles xs)
+singles-tidy : (w : ℕ) (xs : List OrderEntry) → are_columns w (order_columns xs) ≡ true → Tidy w (singles xs)
 singles-tidy w xs h = record {
-  below = λ c e. below-at w xs c (and-left (all_below w xs) (are_distinct xs) h) (sym (singles-stands xs c) ∙ e);
-  apart = singles-apart xs (and-right (all_below w xs) (are_distinct xs) h);
+  below = λ c e. below-at w (order_columns xs) c (and-left (all_below w (order_columns xs)) (are_distinct (order_columns xs)) h) (sym (singles-stands xs c) ∙ e);
+  apart = singles-apart xs (and-right (all_below w (order_columns xs)) (are_distinct (order_columns xs)) h);
 }
 
 -- ---- copies of places
 
-copies-from : (k : Copying) (s : List ℕ) (d : ℕ) → contains (flat_map (copies k) s) d ≡ true → (a : ℕ) × (contains s a ≡ true) × (contains (copies k a) d ≡ true)
-copies-from k s d h = any-number (λ c. contains (copies k c) d) s (sym (any-flat (λ y. d == y) (copies k) s) ∙ h)
+entries-columns : (e : OrderEntry) (cs : List ℕ) → order_columns (map (λ c. entry_at c e) cs) ≡ cs
+entries-columns e [] = refl
+entries-columns e (c ∷ cs) = ap (λ l. c ∷ l) (entries-columns e cs)
+
+copies-split : (k : Copying) (e : OrderEntry) (s : List OrderEntry) (d : ℕ) → has_column (entry_copies k e ++ s) d ≡ (contains (copies k e.column) d || has_column s d)
+copies-split k e s d =
+    ap (λ l. contains l d) (map-append (λ (f : OrderEntry). f.column) (entry_copies k e) s)
+    ∙ (list_any-append (λ y. d == y) (order_columns (entry_copies k e)) (order_columns s) ∙ ap (λ l. contains l d || has_column s d) (entries-columns e (copies k e.column)))
+
+copies-from : (k : Copying) (s : List OrderEntry) (d : ℕ) → has_column (flat_map (entry_copies k) s) d ≡ true → (a : ℕ) × (has_column s a ≡ true) × (contains (copies k a) d ≡ true)
+copies-from k [] d h = absurd (true≢false (sym h))
+copies-from k (e ∷ s) d h = ⊎_elim
+    (λ f. (e.column, or-left (e.column == e.column) (has_column s e.column) (same-number e.column), f))
+    (λ f. let v = copies-from k s d f in (v.0, or-right (v.0 == e.column) (has_column s v.0) v.1, v.2))
+    (either (contains (copies k e.column) d) (has_column (flat_map (entry_copies k) s) d) (sym (copies-split k e (flat_map (entry_copies k) s) d) ∙ h))
 
 up-stands : (k : Copying) (places : OrderChoices) (d : ℕ) → stands (places_up k places) d ≡ true → (a : ℕ) × (stands places a ≡ true) × (contains (copies k a) d ≡ true)
 up-stands k [] d h = absurd (true≢false (sym h))
-up-stands k (s ∷ places) d h = by (flat_map (copies k) s) refl (up-stands k places d) h
+up-stands k (s ∷ places) d h = by (flat_map (entry_copies k) s) refl (up-stands k places d) h
   where
-    by : (t : List ℕ) → flat_map (copies k) s ≡ t → (stands (places_up k places) d ≡ true → (a : ℕ) × (stands places a ≡ true) × (contains (copies k a) d ≡ true))
+    by : (t : List OrderEntry) → flat_map (entry_copies k) s ≡ t → (stands (places_up k places) d ≡ true → (a : ℕ) × (stands places a ≡ true) × (contains (copies k a) d ≡ true))
         → stands (place_then t (places_up k places)) d ≡ true → (a : ℕ) × (stands (s ∷ places) a ≡ true) × (contains (copies k a) d ≡ true)
     by [] e rest l = absurd (true≢false (sym l))
     by (c ∷ cs) e rest l = ⊎_elim
-        (λ f. let v = copies-from k s d (ap (λ t. contains t d) e ∙ f) in (v.0, or-left (contains s v.0) (stands places v.0) v.1, v.2))
-        (λ f. let v = rest f in (v.0, or-right (contains s v.0) (stands places v.0) v.1, v.2))
-        (either (contains (c ∷ cs) d) (stands (places_up k places) d) l)
+        (λ f. let v = copies-from k s d (ap (λ t. has_column t d) e ∙ f) in (v.0, or-left (has_column s v.0) (stands places v.0) v.1, v.2))
+        (λ f. let v = rest f in (v.0, or-right (has_column s v.0) (stands places v.0) v.1, v.2))
+        (either (has_column (c ∷ cs) d) (stands (places_up k places) d) l)
 
 some-same : (a b : ℕ) → Some a ≡ Some b → a ≡ b
 some-same a b e = cc
@@ -173,13 +210,13 @@ copied-same k a b d h l = some-same a b (sym (copies-source k a d h) ∙ copies-
 
 up-apart : (k : Copying) (places : OrderChoices) → Apart places → Apart (places_up k places)
 up-apart k [] p = tt
-up-apart k (s ∷ places) p = by (flat_map (copies k) s) refl (up-apart k places p.1)
+up-apart k (s ∷ places) p = by (flat_map (entry_copies k) s) refl (up-apart k places p.1)
   where
-    by : (t : List ℕ) → flat_map (copies k) s ≡ t → Apart (places_up k places) → Apart (place_then t (places_up k places))
+    by : (t : List OrderEntry) → flat_map (entry_copies k) s ≡ t → Apart (places_up k places) → Apart (place_then t (places_up k places))
     by [] e m = tt
     by (c ∷ cs) e m = (
       λ d h. not-so (stands (places_up k places) d) (λ f.
-          let v = copies-from k s d (ap (λ t. contains t d) e ∙ h) in
+          let v = copies-from k s d (ap (λ t. has_column t d) e ∙ h) in
           let w = up-stands k places d f in
           true≢false (sym w.1 ∙ (ap (stands places) (sym (copied-same k v.0 w.0 d v.2 w.2)) ∙ p.0 v.0 v.1))),
       m,
@@ -190,7 +227,7 @@ after-tidy : (op : Unary) (ts : List ColType) (places : OrderChoices) → is_una
 after-tidy (select cs) ts places h t = t
 after-tidy (project cols) ts places h t = t
 after-tidy (distinct cols) ts places h t = t
-after-tidy (sort of_parts cols) ts places h t = singles-tidy (length ts) cols (and-right (is_some_list cols) (are_columns (length ts) cols) h)
+after-tidy (sort of_parts order) ts places h t = singles-tidy (length ts) order (and-right (is_some_list order) (are_columns (length ts) (order_columns order)) h)
 after-tidy (group plain by aggregates) ts places h t = t
 after-tidy (group partial by aggregates) ts places h t = t
 after-tidy (group final by aggregates) ts places h t = t
@@ -204,12 +241,12 @@ up-tidy op ts places t = record {
 
 both-tidy : (op : Binary) (ts us : List ColType) (places : OrderChoices) → Tidy (length ts) places → Tidy (binary_width op (length ts) (length us)) (places_over_both op places)
 both-tidy union ts us places t = tidy-none (length ts)
-both-tidy (join true on) ts us places t =
-    tidy-more (length ts) (length us) _ (tidy-narrower (length ts) (or_nowhere (narrowed (map (λ x. x.0) on) places)) places (nowhere-narrower (map (λ x. x.0) on) places) t)
-both-tidy (join false on) ts us places t = tidy-more (length ts) (length us) places t
+both-tidy (join (by_merging falls) on) ts us places t =
+    tidy-more (length ts) (length us) _ (tidy-narrower (length ts) (or_nowhere (narrowed (left_order falls on) places)) places (nowhere-narrower (left_order falls on) places) t)
+both-tidy (join by_hashing on) ts us places t = tidy-more (length ts) (length us) places t
 both-tidy (semi_join matched on conditions) ts us places t = t
 
-sent-tidy : (k : ExchangeKind) (alone : Bool) (w : ℕ) (merge : List ℕ) (parts : List Part) (places : OrderChoices) → are_columns w merge ≡ true → Tidy w places
+sent-tidy : (k : ExchangeKind) (alone : Bool) (w : ℕ) (merge : List OrderEntry) (parts : List Part) (places : OrderChoices) → are_columns w (order_columns merge) ≡ true → Tidy w places
     → Tidy w (cond alone (or_nowhere (narrowed merge places)) (places_sent k merge parts places))
 sent-tidy k true w merge parts places m t = tidy-narrower w (or_nowhere (narrowed merge places)) places (nowhere-narrower merge places) t
 sent-tidy concat false w merge parts places m t = tidy-narrower w (rising parts places) places (rising-narrower parts places) t
@@ -247,20 +284,20 @@ places-tidy s (exchange n c k m p) cat h =
     let catalog : ℕ → Relation = relation_at s.catalog in
     let ts : List ColType = types_of catalog p in
     let rest = and-right (is_kind s ts k) _ (and-right (typed s p) _ h) in
-    let Q : ℕ → Type 0 = λ w. are_columns w m ≡ true in
-    let merge : are_columns (width catalog p) m ≡ true = subst Q (types_of-width catalog p) (and-left (are_columns (length ts) m) _ rest) in
+    let Q : ℕ → Type 0 = λ w. are_columns w (order_columns m) ≡ true in
+    let merge : are_columns (width catalog p) (order_columns m) ≡ true = subst Q (types_of-width catalog p) (and-left (are_columns (length ts) (order_columns m)) _ rest) in
     tidy-narrower _ _ _ (nowhere-narrower c.order (cond (is_one (size p)) (or_nowhere (narrowed m (places_at catalog p))) (places_sent k m (parts_at catalog p) (places_at catalog p))))
     (sent-tidy k (is_one (size p)) (width catalog p) m (parts_at catalog p) (places_at catalog p) merge (places-tidy s p cat (and-left (typed s p) _ h)))
 
 -- ---- orders beside one another
 
--- two orders that are equally long, of columns that may stand at the same places
+-- the columns of two orders that are equally long, which may stand at the same places
 abbrev pub Beside : (order other : List ℕ) → OrderChoices → Type 0
 Beside [] [] places = ⊤
 Beside [] (d ∷ ds) places = ⊥
 Beside (c ∷ cs) [] places = ⊥
 Beside (c ∷ cs) (d ∷ ds) [] = ⊥
-Beside (c ∷ cs) (d ∷ ds) (s ∷ places) = (contains s c ≡ true) × (contains s d ≡ true) × Beside cs ds places
+Beside (c ∷ cs) (d ∷ ds) (s ∷ places) = (has_column s c ≡ true) × (has_column s d ≡ true) × Beside cs ds places
 
 pub beside-narrower : (o u : List ℕ) (a b : OrderChoices) → Narrower a b → Beside o u a → Beside o u b
 beside-narrower [] [] a b n h = tt
@@ -275,21 +312,21 @@ beside-left [] u p h c e = absurd (true≢false (sym e))
 beside-left (x ∷ xs) [] p h c e = absurd h
 beside-left (x ∷ xs) (y ∷ ys) [] h c e = absurd h
 beside-left (x ∷ xs) (y ∷ ys) (s ∷ p) h c e = ⊎_elim
-    (λ f. or-left (contains s c) (stands p c) (ap (contains s) (eqb-true c x f) ∙ h.0)) (λ f. or-right (contains s c) (stands p c) (beside-left xs ys p h.2 c f)) (either (c == x) (contains xs c) e)
+    (λ f. or-left (has_column s c) (stands p c) (ap (has_column s) (eqb-true c x f) ∙ h.0)) (λ f. or-right (has_column s c) (stands p c) (beside-left xs ys p h.2 c f)) (either (c == x) (contains xs c) e)
 
 beside-right : (o u : List ℕ) (p : OrderChoices) → Beside o u p → (c : ℕ) → contains u c ≡ true → stands p c ≡ true
 beside-right o [] p h c e = absurd (true≢false (sym e))
 beside-right [] (y ∷ ys) p h c e = absurd h
 beside-right (x ∷ xs) (y ∷ ys) [] h c e = absurd h
 beside-right (x ∷ xs) (y ∷ ys) (s ∷ p) h c e = ⊎_elim
-    (λ f. or-left (contains s c) (stands p c) (ap (contains s) (eqb-true c y f) ∙ h.1)) (λ f. or-right (contains s c) (stands p c) (beside-right xs ys p h.2 c f)) (either (c == y) (contains ys c) e)
+    (λ f. or-left (has_column s c) (stands p c) (ap (has_column s) (eqb-true c y f) ∙ h.1)) (λ f. or-right (has_column s c) (stands p c) (beside-right xs ys p h.2 c f)) (either (c == y) (contains ys c) e)
 
-same-singles : (o u cols : List ℕ) → Beside o u (singles cols) → o ≡ u
-same-singles [] [] cols b = refl
-same-singles [] (d ∷ ds) cols b = absurd b
-same-singles (c ∷ cs) [] cols b = absurd b
+same-singles : (o u : List ℕ) (order : List OrderEntry) → Beside o u (singles order) → o ≡ u
+same-singles [] [] order b = refl
+same-singles [] (d ∷ ds) order b = absurd b
+same-singles (c ∷ cs) [] order b = absurd b
 same-singles (c ∷ cs) (d ∷ ds) [] b = absurd b
-same-singles (c ∷ cs) (d ∷ ds) (x ∷ xs) b = ap₂ (λ a l. a ∷ l) (lone-is x c b.0 ∙ sym (lone-is x d b.1)) (same-singles cs ds xs b.2)
+same-singles (c ∷ cs) (d ∷ ds) (x ∷ xs) b = ap₂ (λ a l. a ∷ l) (lone-is x.column c b.0 ∙ sym (lone-is x.column d b.1)) (same-singles cs ds xs b.2)
 
 all-below-of : (w : ℕ) (xs : List ℕ) → ((c : ℕ) → contains xs c ≡ true → nat_lt c w ≡ true) → all_below w xs ≡ true
 all-below-of w [] h = refl
@@ -303,9 +340,9 @@ swap-all (x ∷ xs) [] p a b h c e = absurd b
 swap-all (x ∷ xs) (y ∷ ys) [] a b h c e = absurd b
 swap-all (x ∷ xs) (y ∷ ys) (s ∷ p) a b h c e =
     let same : y ≡ x = ⊎_elim (λ f. eqb-true y x f) (λ f. absurd (true≢false (sym (beside-left xs ys p b.2 y f) ∙ a.0 y b.1)))
-    (either (y == x) (contains xs y) (h y (or-left (contains s y) (stands p y) b.1))) in
+    (either (y == x) (contains xs y) (h y (or-left (has_column s y) (stands p y) b.1))) in
     let rest : (d : ℕ) → stands p d ≡ true → contains xs d ≡ true = λ d f. ⊎_elim
-    (λ g. absurd (true≢false (sym f ∙ a.0 d (ap (contains s) (eqb-true d x g) ∙ b.0)))) (λ g. g) (either (d == x) (contains xs d) (h d (or-right (contains s d) (stands p d) f))) in
+    (λ g. absurd (true≢false (sym f ∙ a.0 d (ap (has_column s) (eqb-true d x g) ∙ b.0)))) (λ g. g) (either (d == x) (contains xs d) (h d (or-right (has_column s d) (stands p d) f))) in
     ⊎_elim (λ g. or-left (c == y) (contains ys c) (ap (λ z. c == z) same ∙ g)) (λ g. or-right (c == y) (contains ys c) (swap-all xs ys p a.1 b.2 rest c g)) (either (c == x) (contains xs c) e)
 
 pub within-swaps : (n : ℕ) (o u : List ℕ) (p : OrderChoices) → Tidy n p → Beside o u p → within (numbers_below n) o ≡ true → within (numbers_below n) u ≡ true
@@ -321,16 +358,16 @@ beside-up k [] [] places h = ([], [], refl, refl, tt)
 beside-up k [] (d ∷ ds) places h = absurd h
 beside-up k (c ∷ cs) [] places h = absurd h
 beside-up k (c ∷ cs) (d ∷ ds) [] h = absurd h
-beside-up k (c ∷ cs) (d ∷ ds) (s ∷ places) h = by (flat_map (copies k) s) refl (beside-up k cs ds places) h
+beside-up k (c ∷ cs) (d ∷ ds) (s ∷ places) h = by (flat_map (entry_copies k) s) refl (beside-up k cs ds places) h
   where
-    by : (t : List ℕ) → flat_map (copies k) s ≡ t
+    by : (t : List OrderEntry) → flat_map (entry_copies k) s ≡ t
         → (Beside cs ds (places_up k places) → (i : List ℕ) × (j : List ℕ) × (sources k cs ≡ Some i) × (sources k ds ≡ Some j) × Beside i j places)
         → Beside (c ∷ cs) (d ∷ ds) (place_then t (places_up k places))
         → (i : List ℕ) × (j : List ℕ) × (sources k (c ∷ cs) ≡ Some i) × (sources k (d ∷ ds) ≡ Some j) × Beside i j (s ∷ places)
     by [] e rest l = absurd l
     by (x ∷ xs) e rest l =
-        let v = copies-from k s c (ap (λ t. contains t c) e ∙ l.0) in
-        let u = copies-from k s d (ap (λ t. contains t d) e ∙ l.1) in
+        let v = copies-from k s c (ap (λ t. has_column t c) e ∙ l.0) in
+        let u = copies-from k s d (ap (λ t. has_column t d) e ∙ l.1) in
         let w = rest l.2 in (
           v.0 ∷ w.0,
           u.0 ∷ w.1,
@@ -361,8 +398,18 @@ key-sources k keys o i e =
 abbrev pub Swaps : OrderChoices → List (List ℕ) → Type 0
 Swaps places keys = (o u : List ℕ) → Beside o u places → covers keys o ≡ true → covers keys u ≡ true
 
-singles-swaps : (cols : List ℕ) (keys : List (List ℕ)) → Swaps (singles cols) keys
-singles-swaps cols keys o u b h = ap (covers keys) (sym (same-singles o u cols b)) ∙ h
+singles-swaps : (order : List OrderEntry) (keys : List (List ℕ)) → Swaps (singles order) keys
+singles-swaps order keys o u b h = ap (covers keys) (sym (same-singles o u order b)) ∙ h
+
+-- a number that passes
+any-number : (test : ℕ → Bool) (xs : List ℕ) → list_any test xs ≡ true → (x : ℕ) × (contains xs x ≡ true) × (test x ≡ true)
+any-number test [] h = cc
+any-number test (x ∷ xs) h = by (test x) refl (any-number test xs) h
+  where
+    by : (b : Bool) → test x ≡ b → (list_any test xs ≡ true → (y : ℕ) × (contains xs y ≡ true) × (test y ≡ true)) → (b || list_any test xs) ≡ true
+        → (y : ℕ) × (contains (x ∷ xs) y ≡ true) × (test y ≡ true)
+    by true e more l = (x, or-left (x == x) (contains xs x) (same-number x), e)
+    by false e more l = let w = more l in (w.0, or-right (w.0 == x) (contains xs w.0) w.1, w.2)
 
 copy-more : (k : Copying) (x y : List ℕ) (c : ℕ) → within x y ≡ true → has_copy k x c ≡ true → has_copy k y c ≡ true
 copy-more k x y c w h =
@@ -418,8 +465,8 @@ unary-swaps : (op : Unary) (w : ℕ) (places : OrderChoices) (keys : List (List 
 unary-swaps (select cs) w places keys t swaps o u b h = kept-swaps whole_rows keys places swaps o u b h
 unary-swaps (project cols) w places keys t swaps o u b h = kept-swaps (columns_kept cols) keys places swaps o u b h
 unary-swaps (distinct cols) w places keys t swaps o u b h = first-swaps (length cols) o u _ (kept-tidy cols w places t) b h
-unary-swaps (sort false cols) w places keys t swaps o u b h = kept-swaps whole_rows keys (singles cols) (singles-swaps cols keys) o u b h
-unary-swaps (sort true cols) w places keys t swaps o u b h = absurd (true≢false (sym h))
+unary-swaps (sort false order) w places keys t swaps o u b h = kept-swaps whole_rows keys (singles order) (singles-swaps order keys) o u b h
+unary-swaps (sort true order) w places keys t swaps o u b h = absurd (true≢false (sym h))
 unary-swaps (group plain by aggregates) w places keys t swaps o u b h = first-swaps (length by) o u _ (kept-tidy by w places t) b h
 unary-swaps (group partial by aggregates) w places keys t swaps o u b h = absurd (true≢false (sym h))
 unary-swaps (group final by aggregates) w places keys t swaps o u b h = first-swaps (length by) o u _ (kept-tidy by w places t) b h
@@ -463,10 +510,10 @@ join-swaps on v lefts rights o u l left h =
 both-swaps : (op : Binary) (v : ℕ) (places : OrderChoices) (lefts rights : List (List ℕ)) → Tidy v places → Swaps places lefts → (o u : List ℕ) → Beside o u (places_over_both op places)
     → show (keyed_over (described_both v op).meeting (described_both v op) lefts rights) o ≡ true → show (keyed_over (described_both v op).meeting (described_both v op) lefts rights) u ≡ true
 both-swaps union v places lefts rights t swaps o u b h = absurd (true≢false (sym h))
-both-swaps (join true on) v places lefts rights t swaps o u b h =
-    let c = beside-narrower o u _ places (nowhere-narrower (map (λ x. x.0) on) places) b in
+both-swaps (join (by_merging falls) on) v places lefts rights t swaps o u b h =
+    let c = beside-narrower o u _ places (nowhere-narrower (left_order falls on) places) b in
     join-swaps on v lefts rights o u (all-below-of v o (λ d e. t.below d (beside-left o u places c d e))) (swaps o u c) h
-both-swaps (join false on) v places lefts rights t swaps o u b h =
+both-swaps (join by_hashing on) v places lefts rights t swaps o u b h =
     join-swaps on v lefts rights o u (all-below-of v o (λ d e. t.below d (beside-left o u places b d e))) (swaps o u b) h
 both-swaps (semi_join matched on conditions) v places lefts rights t swaps o u b h = alone-shown-swaps b h
   where
@@ -478,7 +525,7 @@ both-swaps (semi_join matched on conditions) v places lefts rights t swaps o u b
 
 -- ---- exchanges
 
-sent-swaps : (k : ExchangeKind) (alone : Bool) (merge : List ℕ) (parts : List Part) (places : OrderChoices) (keys : List (List ℕ)) → Swaps places keys → (o u : List ℕ)
+sent-swaps : (k : ExchangeKind) (alone : Bool) (merge : List OrderEntry) (parts : List Part) (places : OrderChoices) (keys : List (List ℕ)) → Swaps places keys → (o u : List ℕ)
     → Beside o u (cond alone (or_nowhere (narrowed merge places)) (places_sent k merge parts places)) → covers keys o ≡ true → covers keys u ≡ true
 sent-swaps k true merge parts places keys swaps o u b h = swaps o u (beside-narrower o u _ places (nowhere-narrower merge places) b) h
 sent-swaps concat false merge parts places keys swaps o u b h = swaps o u (beside-narrower o u _ places (rising-narrower parts places) b) h
@@ -489,7 +536,7 @@ sent-swaps gather false merge parts places keys swaps o u b h = singles-swaps me
 
 -- ---- nodes
 
-pub keys-swap : (s : Scope) (p : Plan) (q : Part) (order : List ℕ) (x : Plan) → IsCatalog s.catalog → typed s p ≡ true → IsClaimed (relation_at s.catalog) p q order x → AtEach HasRoom x
+pub keys-swap : (s : Scope) (p : Plan) (q : Part) (order : List OrderEntry) (x : Plan) → IsCatalog s.catalog → typed s p ≡ true → IsClaimed (relation_at s.catalog) p q order x → AtEach HasRoom x
     → Swaps (places_at (relation_at s.catalog) p) (claim x).keys
 keys-swap s (scan n c r m z) q order x cat t h few =
     λ o u b e. singles-swaps (relation_at s.catalog r).order (claim x).keys o u (beside-narrower o u _ _ (nowhere-narrower c.order (singles (relation_at s.catalog r).order)) b) e

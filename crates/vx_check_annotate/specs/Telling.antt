@@ -1,7 +1,8 @@
 -- When claims tell at least as much as others.
-use Rattle.std.specs.Prelude.{◌≡◌, List, [], ◌∷◌, Bool, true, false, not, ◌&&◌, ◌||◌, bytes_eq, Ok}
+use Rattle.std.specs.Prelude.{◌≡◌, List, [], ◌∷◌, Bool, true, false, cond, not, ◌&&◌, ◌||◌, bytes_eq, Ok}
 use Rattle.std.specs.List.{list_all, list_any}
 use Rattle.vx_rows_values.specs.Values.{Name}
+use Rattle.vx_catalog_json.specs.Look.{OrderText}
 use Rattle.vx_catalog_relations.specs.Relation.{Relation}
 use Rattle.vx_catalog_relations.specs.Catalog.{relation_at}
 use Rattle.vx_plan_nodes.specs.Outline.{plan_in}
@@ -15,6 +16,16 @@ abbrev pub begins : List Name → List Name → Bool
 begins [] ys = true
 begins (x ∷ xs) [] = false
 begins (x ∷ xs) (y ∷ ys) = bytes_eq x y && begins xs ys
+
+-- the same column in the same direction
+abbrev pub same_entry : OrderText → OrderText → Bool
+same_entry a b = bytes_eq a.name b.name && cond a.falling b.falling (not b.falling)
+
+-- the second order begins with the first, each entry in its direction
+abbrev pub begins_order : List OrderText → List OrderText → Bool
+begins_order [] ys = true
+begins_order (x ∷ xs) [] = false
+begins_order (x ∷ xs) (y ∷ ys) = same_entry x y && begins_order xs ys
 
 abbrev pub has_name : List Name → Name → Bool
 has_name names x = list_any (bytes_eq x) names
@@ -36,7 +47,7 @@ part_tells _ _ = false
 
 -- a part that tells the other one, an order that begins with the other, and for each key of the other one that it contains
 abbrev pub claim_tells : ClaimForm → ClaimForm → Bool
-claim_tells c d = part_tells c.part d.part && (begins d.order c.order && list_all (covers_name c.keys) d.keys)
+claim_tells c d = part_tells c.part d.part && (begins_order d.order c.order && list_all (covers_name c.keys) d.keys)
 
 -- so at every node
 abbrev pub tree_tells : Tree → Tree → Bool

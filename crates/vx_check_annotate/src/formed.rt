@@ -5,9 +5,10 @@ ghost use Rattle.std.specs.List.{list_all};
 ghost use Rattle.vx_rows_values.specs.Lists.{is_some_list};
 ghost use Rattle.vx_plan_json.specs.Document.{part_form, claim_form};
 ghost use Rattle.vx_check_annotate.specs.Unclaimed.{no_claim};
-ghost use Rattle.vx_plan_json.specs.Formed.{are_names, are_some_names, is_part_form, is_claim_form};
+ghost use Rattle.vx_plan_json.specs.Formed.{are_names, are_some_names, is_order_entry, is_order, is_part_form, is_claim_form};
 
 use std::alloc::Global;
+use vx_catalog_json::OrderText;
 use vx_plan_json::{NamedClaim, NamedPart};
 
 /// A claim in which no name is empty, and no route is without columns.
@@ -56,6 +57,23 @@ fn are_some_names(names: &[String]) -> bool
     !names.is_empty() && are_names(names)
 }
 
+fn is_order_entry(entry: &OrderText) -> bool
+    ensures { result ≡ is_order_entry entry.now }
+{
+    is_name(&entry.name)
+}
+
+fn is_order(order: &[OrderText]) -> bool
+    ensures { result ≡ is_order order.now }
+{
+    for entry in order {
+        if !is_order_entry(entry) {
+            return false;
+        }
+    }
+    true
+}
+
 fn is_part(part: &NamedPart) -> bool
     ensures { result ≡ is_part_form (part_form part.now) }
 {
@@ -69,7 +87,7 @@ fn is_part(part: &NamedPart) -> bool
 fn is_formed(claim: &NamedClaim) -> bool
     ensures { result ≡ is_claim_form (claim_form claim.now) }
 {
-    is_part(&claim.part) && are_names(claim.order.as_slice()) && are_keys(claim.keys.as_slice())
+    is_part(&claim.part) && is_order(claim.order.as_slice()) && are_keys(claim.keys.as_slice())
 }
 
 /// A claim that says nothing.

@@ -8,7 +8,7 @@ use Rattle.vx_plan_nodes.specs.Names.{TypedPlanView}
 use Rattle.vx_plan_json.specs.Document.{Document}
 use Rattle.vx_plan_json.specs.declared.fault.PlanFault.TheVariants.{NoMemory}
 use Rattle.vx_plan.specs.Resolve.{resolved}
-use Rattle.vx_check_rules.specs.Rules.{part_gives, is_prefix, covers, contains}
+use Rattle.vx_check_rules.specs.Rules.{part_gives, is_front, covers, contains}
 use Rattle.vx_check_rules.specs.Refusal.{Rule, part_not_shown, order_not_shown, key_not_shown, total_not_shown}
 use Rattle.vx_check_annotate.specs.declared.fault.AnnotateFault.{AnnotateFault}
 use Rattle.vx_check_annotate.specs.declared.fault.AnnotateFault.TheVariants as fault
@@ -47,7 +47,7 @@ HasNoClaims catalog d = (f : AnnotateFault) × (is_memory f ≡ false) × IsReas
 
 -- what a node claims is given by this claim: its part, which one worker gives too, an order that begins that one's, and of each key one that it contains
 abbrev pub is_given : Plan → Claim → Bool
-is_given p d = (is_one (size p) || part_gives d.part (claim p).part) && (is_prefix (claim p).order d.order && list_all (covers d.keys) (claim p).keys)
+is_given p d = (is_one (size p) || part_gives d.part (claim p).part) && (is_front (claim p).order d.order && list_all (covers d.keys) (claim p).keys)
 
 -- a failure of this rule at a node goes away over the claims that follow below it, where the node has this claim in the plan with these, which is total or
 -- not: one of the node's own claim where the new one gives it, one of the whole order where the new plan is total, and one of an operator always

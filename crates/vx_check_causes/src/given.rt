@@ -7,7 +7,7 @@ ghost use Rattle.vx_check_rules.specs.Rules.{covers};
 ghost use Rattle.vx_check_rules.specs.RuleView.{rule_of};
 ghost use Rattle.vx_check_causes.specs.Causes.{is_given, goes_away};
 
-use vx_check_rules::{ColumnsSeen, KeysSeen, Rule, are_covered, gives, has_one_worker};
+use vx_check_rules::{ColumnsSeen, KeysSeen, OrderSeen, Rule, are_covered, gives, has_one_worker};
 use vx_plan_nodes::{Claim, TypedNode};
 
 // Whether each of the keys contains one of the others.
@@ -31,7 +31,7 @@ fn is_given(node: &TypedNode, other: &Claim) -> bool
 {
     let claim = &node.head().claim;
     (has_one_worker(node) || gives(&other.part, &claim.part))
-        && ColumnsSeen::Listed(claim.order.as_slice()).begin(other.order.as_slice())
+        && OrderSeen::Listed(claim.order.as_slice()).begin(other.order.as_slice())
         && are_keys_given(claim.keys.as_slice(), other.keys.as_slice())
 }
 

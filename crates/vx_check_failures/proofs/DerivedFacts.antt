@@ -1,6 +1,8 @@
 -- What is asked for the claim of a node by what is known of columns: its inputs' claims name columns of them.
 use Rattle.std.proofs.Common.{◌≡◌, ◌∙◌, ℕ, ◌<◌, ◌==◌, nat_lt, nat_le, Bool, true, ◌&&◌, List, [], ◌∷◌, map, length, slice_index, refl, sym, ap, arith, lt-ltb, ltb-true}
 use Rattle.std.specs.List.{list_all}
+use Rattle.vx_rows_values.specs.declared.order.OrderEntry.{OrderEntry}
+use Rattle.vx_rows_values.specs.Order.{order_columns}
 use Rattle.vx_rows_values.proofs.Booleans.{and-left, and-right, and-both}
 use Rattle.vx_catalog_relations.specs.Relation.{Relation}
 use Rattle.vx_catalog_relations.specs.Catalog.{relation_at, all_below, is_key_of, IsRelation, IsCatalog}
@@ -28,7 +30,7 @@ parts-named catalog k (exchange n c x m p) h = refl
 
 claimed-named : (catalog : ℕ → Relation) (k : KnownColumns) (p : Plan) → IsKnownOf catalog k p → are_of catalog p (claim p).part (claim p).order ≡ true
 claimed-named catalog k p h =
-    and-both (all_below (width catalog p) (part_columns (claim p).part)) (all_below (width catalog p) (claim p).order) (part-below catalog k p h) (order-below catalog k p h)
+    and-both (all_below (width catalog p) (part_columns (claim p).part)) (all_below (width catalog p) (order_columns (claim p).order)) (part-below catalog k p h) (order-below catalog k p h)
 
 pub order-named : (catalog : ℕ → Relation) (k : KnownColumns) (p : Plan) → IsKnownOf catalog k p → are_of_input catalog p (claim (first_input p)).part (claim (first_input p)).order ≡ true
 order-named catalog k (scan n c r m z) h = refl
@@ -72,9 +74,9 @@ module _ (w : ℕ) (f g : ℕ → ℕ) (same : (c : ℕ) → c < w → f c ≡ g
       ∙ keys-same (with_new found (with_named g [] key)) keys (and-right (all_below w key) (list_all (all_below w) keys) h)
 
 -- a claim by its parts
-abbrev claim_with : Part → List ℕ → List (List ℕ) → Claim
+abbrev claim_with : Part → List OrderEntry → List (List ℕ) → Claim
 claim_with part order keys = record { part = part; order = order; keys = keys }
 
-pub claim-is : (catalog : ℕ → Relation) (p : Plan) (part : Part) (order : List ℕ) (keys : List (List ℕ)) → part ≡ (derived_claim catalog p).part → order ≡ (derived_claim catalog p).order
+pub claim-is : (catalog : ℕ → Relation) (p : Plan) (part : Part) (order : List OrderEntry) (keys : List (List ℕ)) → part ≡ (derived_claim catalog p).part → order ≡ (derived_claim catalog p).order
     → keys ≡ (derived_claim catalog p).keys → claim_with part order keys ≡ derived_claim catalog p
 claim-is catalog p part order keys a b c = rw (a, b, c) refl

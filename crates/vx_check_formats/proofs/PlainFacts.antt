@@ -10,6 +10,7 @@ use Rattle.serde_json.specs.Find.{of_integer}
 use Rattle.serde_json.specs.View.{items_of}
 use Rattle.vx_rows_values.specs.declared.value.ColType.{ColType}
 use Rattle.vx_rows_values.specs.declared.value.ColType.TheVariants as type
+use Rattle.vx_rows_values.specs.declared.order.OrderEntry.{OrderEntry}
 use Rattle.vx_rows_values.specs.Values.{Name, Val, num, text}
 use Rattle.vx_plan_nodes.specs.Plan.{Size, one_worker, group_of, Route, Part, one, any, all, routed, Claim, ExchangeKind, route_to, round, broadcast, gather, concat, size}
 use Rattle.vx_plan_nodes.specs.Names.{Names}
@@ -21,7 +22,7 @@ use Rattle.vx_plan_facts.specs.Equal.{Equality, equal_at}
 use Rattle.vx_plan_facts.specs.Fixed.{Values, fixed_at}
 use Rattle.vx_plan_facts.specs.Facts.{each_once}
 use Rattle.vx_check.specs.Explain.{name_at, description}
-use Rattle.vx_check_formats.specs.Json.{columns_json, keys_json, type_json, size_json, route_word, route_name, routed_json, part_json, with_claim, op_word, with_operator, inputs, with_workers, classes, value_json, fixed_json, all_fixed, with_facts, with_output, with_kind, with_exchange, node_json, nodes_json, with_derive, outline_json, fixed_if, is_first}
+use Rattle.vx_check_formats.specs.Json.{columns_json, entry_json, order_json, keys_json, type_json, size_json, route_word, route_name, routed_json, part_json, with_claim, op_word, with_operator, inputs, with_workers, classes, value_json, fixed_json, all_fixed, with_facts, with_output, with_kind, with_exchange, node_json, nodes_json, with_derive, outline_json, fixed_if, is_first}
 
 -- no deeper than n, and without floats
 pub record IsPlain (n : ℕ) (d : Data) : Type 0 where
@@ -111,6 +112,14 @@ list-plain n json plain xs = array-plain n (map json xs) (each-map n json plain 
 columns-plain : (n : ℕ) (names : List Name) (cols : List ℕ) → IsPlain (suc n) (columns_json names cols)
 columns-plain n names cols = list-plain n (λ c. string (name_at names c)) (λ c. text-plain n (name_at names c)) cols
 
+directed-plain : (n : ℕ) (falling : Bool) (name : Name)
+    → IsPlain (suc n) (cond falling (object (put (codes "desc") (boolean true) (put (codes "column") (string name) no_members))) (string name))
+directed-plain n true name = object-plain n _ (put-plain n (codes "desc") _ _ (truth-plain n true) (put-plain n (codes "column") _ _ (text-plain n name) (none-plain n)))
+directed-plain n false name = text-plain (suc n) name
+
+order-plain : (n : ℕ) (names : List Name) (order : List OrderEntry) → IsPlain (suc (suc n)) (order_json names order)
+order-plain n names order = list-plain (suc n) (entry_json names) (λ e. directed-plain n e.falling (name_at names e.column)) order
+
 keys-plain : (n : ℕ) (names : List Name) (keys : List (List ℕ)) → IsPlain (suc (suc n)) (keys_json names keys)
 keys-plain n names keys = list-plain (suc n) (columns_json names) (columns-plain n names) keys
 
@@ -142,7 +151,7 @@ workers-plain s t ms q =
 
 claim-plain : (s : Names) (names : List Name) (c : Claim) (ms : Members) → ArePlain 2 ms → ArePlain 2 (with_claim s names c ms)
 claim-plain s names c ms q =
-    put-plain 2 (codes "keys") _ _ (keys-plain 0 names c.keys) (put-plain 2 (codes "order") _ _ (columns-plain 1 names c.order) (put-plain 2 (codes "part") _ _ (part-plain 0 s names c.part) q))
+    put-plain 2 (codes "keys") _ _ (keys-plain 0 names c.keys) (put-plain 2 (codes "order") _ _ (order-plain 0 names c.order) (put-plain 2 (codes "part") _ _ (part-plain 0 s names c.part) q))
 
 value-plain : (n : ℕ) (v : Val) → IsPlain n (value_json v)
 value-plain n (num z) = integer-plain n z
@@ -175,7 +184,7 @@ exchange-plain : (s : Names) (t : Outline) (ms : Members) → ArePlain 2 ms → 
 exchange-plain s (scan h r m z p) ms q = q
 exchange-plain s (unary h op f t) ms q = q
 exchange-plain s (binary h op t u) ms q = q
-exchange-plain s (exchange h k m t) ms q = put-plain 2 (codes "merge") _ _ (columns-plain 1 (columns t).names m) (kind-plain s (columns t).names k ms q)
+exchange-plain s (exchange h k m t) ms q = put-plain 2 (codes "merge") _ _ (order-plain 0 (columns t).names m) (kind-plain s (columns t).names k ms q)
 
 -- ---- the plan
 

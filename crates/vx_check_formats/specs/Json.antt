@@ -6,8 +6,9 @@ use Rattle.serde_json.specs.Find.{of_integer}
 use Rattle.serde_json.specs.View.{items_of}
 use Rattle.vx_rows_values.specs.declared.value.ColType.{ColType}
 use Rattle.vx_rows_values.specs.declared.value.ColType.TheVariants as type
+use Rattle.vx_rows_values.specs.declared.order.OrderEntry.{OrderEntry}
 use Rattle.vx_rows_values.specs.Values.{Name, Val, num, text}
-use Rattle.vx_plan_nodes.specs.Plan.{Size, one_worker, group_of, Route, by_hash, by_range, Part, one, any, all, routed, Claim, Unary, select, project, distinct, sort, group, limit, Phase, plain, partial, final, Binary, union, join, semi_join, ExchangeKind, route_to, round, broadcast, gather, concat, size}
+use Rattle.vx_plan_nodes.specs.Plan.{Size, one_worker, group_of, Route, by_hash, by_range, Part, one, any, all, routed, Claim, Unary, select, project, distinct, sort, group, limit, Phase, plain, partial, final, JoinMethod, by_hashing, by_merging, Binary, union, join, semi_join, ExchangeKind, route_to, round, broadcast, gather, concat, size}
 use Rattle.vx_plan_nodes.specs.Names.{Names}
 use Rattle.vx_plan_nodes.specs.Outline.{Outline, scan, unary, binary, exchange, Columns, top, columns, plan_in}
 use Rattle.vx_plan_nodes.specs.declared.typed_plan.TypedPlan.{TypedPlan}
@@ -28,6 +29,14 @@ columns_json names cols = array (items_of (map (λ c. string (name_at names c)) 
 
 abbrev pub keys_json : List Name → List (List ℕ) → Data
 keys_json names keys = array (items_of (map (columns_json names) keys))
+
+-- a column of an order: its name where it rises, and where it falls an object that says so
+abbrev pub entry_json : List Name → OrderEntry → Data
+entry_json names e =
+    cond e.falling (object (put (codes "desc") (boolean true) (put (codes "column") (string (name_at names e.column)) no_members))) (string (name_at names e.column))
+
+abbrev pub order_json : List Name → List OrderEntry → Data
+order_json names order = array (items_of (map (entry_json names) order))
 
 abbrev pub names_json : List Name → Data
 names_json names = array (items_of (map string names))
@@ -66,7 +75,7 @@ part_json s names (routed r cols) = routed_json s names r cols
 
 -- a claim, over columns of these names
 abbrev pub with_claim : Names → List Name → Claim → Members → Members
-with_claim s names c ms = put (codes "keys") (keys_json names c.keys) (put (codes "order") (columns_json names c.order) (put (codes "part") (part_json s names c.part) ms))
+with_claim s names c ms = put (codes "keys") (keys_json names c.keys) (put (codes "order") (order_json names c.order) (put (codes "part") (part_json s names c.part) ms))
 
 -- ---- what is known of columns
 
@@ -126,13 +135,17 @@ abbrev pub unary_word : Unary → List ℕ
 unary_word (select cs) = codes "select"
 unary_word (project cols) = codes "project"
 unary_word (distinct cols) = codes "distinct"
-unary_word (sort of_parts cols) = cond of_parts (codes "partial-sort") (codes "sort")
+unary_word (sort of_parts order) = cond of_parts (codes "partial-sort") (codes "sort")
 unary_word (group phase by aggregates) = phase_word phase
 unary_word (limit rows) = codes "limit"
 
+abbrev pub method_word : JoinMethod → List ℕ
+method_word by_hashing = codes "hash-join"
+method_word (by_merging falls) = codes "merge-join"
+
 abbrev pub binary_word : Binary → List ℕ
 binary_word union = codes "union"
-binary_word (join merging on) = cond merging (codes "merge-join") (codes "hash-join")
+binary_word (join method on) = method_word method
 binary_word (semi_join matched on conditions) = cond matched (codes "hash-semi-join") (codes "hash-anti-join")
 
 abbrev pub op_word : Outline → List ℕ
@@ -175,12 +188,12 @@ with_kind s inputs (broadcast z) ms = put (codes "kind") (string (codes "broadca
 with_kind s inputs gather ms = put (codes "kind") (string (codes "gather")) ms
 with_kind s inputs concat ms = put (codes "kind") (string (codes "concat")) ms
 
--- how an exchange sends, by columns of its input, and on which it merges; other nodes do neither
+-- how an exchange sends, by columns of its input, and by which order it merges; other nodes do neither
 abbrev pub with_exchange : Names → Outline → Members → Members
 with_exchange s (scan h r m z p) ms = ms
 with_exchange s (unary h op renamed t) ms = ms
 with_exchange s (binary h op t u) ms = ms
-with_exchange s (exchange h k m t) ms = put (codes "merge") (columns_json (columns t).names m) (with_kind s (columns t).names k ms)
+with_exchange s (exchange h k m t) ms = put (codes "merge") (order_json (columns t).names m) (with_kind s (columns t).names k ms)
 
 -- ---- nodes
 

@@ -13,7 +13,7 @@ ghost use Rattle.vx_plan_nodes.specs.TypedView.{names_in};
 ghost use Rattle.vx_check_rules.specs.CheckedView.{typed_plan};
 ghost use Rattle.vx_check_formats.specs.Json.{keys_json, names_json, type_json, types_json, size_json, routed_json, part_json, with_claim, phase_word, unary_word, binary_word, op_word, with_operator, inputs, with_workers, with_output, with_route, with_kind, with_exchange, node_json, nodes_json, with_derive, plan_json};
 
-use crate::columns::{Members, columns_json, put_text, text_json};
+use crate::columns::{Members, columns_json, order_json, put_text, text_json};
 use crate::facts::put_facts;
 use crate::words::{route_name, route_word};
 use serde_json::{Map, Value as Json, put};
@@ -137,7 +137,7 @@ fn put_claim(
         members,
         alloc,
         "order",
-        columns_json(alloc, names, claim.order.as_slice())?,
+        order_json(alloc, names, claim.order.as_slice())?,
     )?;
     put(
         members,
@@ -177,7 +177,7 @@ fn binary_word(operator: &Binary) -> &'static str
     match operator {
         Binary::Union => "union",
         Binary::HashJoin(_) => "hash-join",
-        Binary::MergeJoin(_) => "merge-join",
+        Binary::MergeJoin(_, _) => "merge-join",
         Binary::SemiJoin(_, _) => "hash-semi-join",
         Binary::AntiJoin(_, _) => "hash-anti-join",
     }
@@ -315,7 +315,7 @@ fn put_kind(
     }
 }
 
-// How an exchange sends and on which columns it merges. Other nodes do neither.
+// How an exchange sends and by which order it merges. Other nodes do neither.
 fn put_exchange(
     members: &mut Members,
     alloc: Global,
@@ -335,7 +335,7 @@ fn put_exchange(
                 members,
                 alloc,
                 "merge",
-                columns_json(alloc, names, exchange.merge.as_slice())?,
+                order_json(alloc, names, exchange.merge.as_slice())?,
             )
         }
     }

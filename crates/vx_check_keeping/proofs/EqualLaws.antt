@@ -200,7 +200,7 @@ unary-is : (op : Unary) (e : Equality) → IsEquivalence e → IsEquivalence (un
 unary-is (select cs) e is = conditions-is cs e is
 unary-is (project cols) e is = lifted-is (described (project cols)).copying e is
 unary-is (distinct cols) e is = lifted-is (described (distinct cols)).copying e is
-unary-is (sort of_parts cols) e is = lifted-is (described (sort of_parts cols)).copying e is
+unary-is (sort of_parts order) e is = lifted-is (described (sort of_parts order)).copying e is
 unary-is (group phase by aggregates) e is = lifted-is (described (group phase by aggregates)).copying e is
 unary-is (limit m) e is = lifted-is (described (limit m)).copying e is
 

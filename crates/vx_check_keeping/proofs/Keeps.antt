@@ -1,5 +1,7 @@
 -- Claims that tell the most keep what an accepted plan claims: by induction over the plan.
 use Rattle.std.proofs.Common.{◌≡◌, ℕ, Bool, true, false, ◌&&◌, ◌||◌, ⊎_elim, List, refl, sym, ap, ◌∙◌, subst, true≢false}
+use Rattle.vx_rows_values.specs.declared.order.OrderEntry.{OrderEntry}
+use Rattle.vx_rows_values.specs.Order.{order_columns}
 use Rattle.vx_rows_values.proofs.Booleans.{and-left, and-right, and-both}
 use Rattle.vx_catalog_relations.specs.Relation.{Relation}
 use Rattle.vx_catalog_relations.specs.Catalog.{relation_at, all_below, IsCatalog}
@@ -100,8 +102,8 @@ module _ (catalog : List Relation) (fine : IsCatalog catalog) where
     named : are_columns (width C f) (part_columns (claim e).part) ≡ true
     named = subst (λ (w : ℕ). are_columns w (part_columns (claim e).part) ≡ true) (sym (width-same C e g)) (claimed-distinct catalog e b.typed)
 
-    follows-named : all_below (width C f) (claim e).order ≡ true
-    follows-named = subst (λ (w : ℕ). all_below w (claim e).order ≡ true) (sym (width-same C e g)) (order-below catalog e b.typed)
+    follows-named : all_below (width C f) (order_columns (claim e).order) ≡ true
+    follows-named = subst (λ (w : ℕ). all_below w (order_columns (claim e).order) ≡ true) (sym (width-same C e g)) (order-below catalog e b.typed)
 
     derived-order : order_derived C e (claim e).order ≡ true
     derived-order =
@@ -156,7 +158,7 @@ module _ (catalog : List Relation) (fine : IsCatalog catalog) where
     order = λ h. two-up catalog n c op p q g b u c.order (order-below catalog (binary n c op p q) b.typed) h;
   }
 
-  sent-passes : (n : ℕ) (c : Claim) (k : ExchangeKind) (m : List ℕ) (p g : Plan) → Both catalog (exchange n c k m p) g → Under catalog p (under g)
+  sent-passes : (n : ℕ) (c : Claim) (k : ExchangeKind) (m : List OrderEntry) (p g : Plan) → Both catalog (exchange n c k m p) g → Under catalog p (under g)
       → Passes C (exchange n c k m p) (with_claims (exchange n c k m p) g)
   sent-passes n c k m p g b u = record {
     sizes = λ h. h;

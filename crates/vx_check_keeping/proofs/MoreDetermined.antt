@@ -172,12 +172,12 @@ more-over catalog (binary n c op p q) g h k keys =
         → ((s : Columns) → WithinFirst (width (relation_at catalog) q) (determined (relation_at catalog) q s) (determined (relation_at catalog) (with_claims q (beside g)) s))
         → AddsMore (relation_at catalog) (binary n c op p q) (with_claims (binary n c op p q) g)
     both-add catalog n c union p q g near wide l r t d m i = i
-    both-add catalog n c (join merging on) p q g near wide l r t d m i =
+    both-add catalog n c (join method on) p q g near wide l r t d m i =
         let v : ℕ = width (relation_at catalog) p in
         let u : ℕ = width (relation_at catalog) q in
         let x : Plan = with_claims p (under g) in
         let y : Plan = with_claims q (beside g) in
-        let w : ℕ = width (relation_at catalog) (with_claims (binary n c (join merging on) p q) g) in
+        let w : ℕ = width (relation_at catalog) (with_claims (binary n c (join method on) p q) g) in
         or-more (by_input (v + u) (left_of v) (determined (relation_at catalog) p) t d) (by_input (v + u) (right_of v) (determined (relation_at catalog) q) t d)
         (by_input w (left_of (width (relation_at catalog) x)) (determined (relation_at catalog) x) t d)
         (by_input w (right_of (width (relation_at catalog) x)) (determined (relation_at catalog) y) t d)

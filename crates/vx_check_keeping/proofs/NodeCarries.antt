@@ -1,8 +1,9 @@
 -- What nodes carry of what is known of their inputs' columns.
 use Rattle.std.proofs.Common.{◌≡◌, ℕ, ◌+◌, ◌<◌, ◌==◌, Bool, true, ◌&&◌, ◌||◌, List, [], ◌∷◌, sym, subst, Option, Some}
 use Rattle.vx_rows_values.specs.Test.{Test, equal, unequal, below, at_most, above, at_least}
+use Rattle.vx_rows_values.specs.declared.order.OrderEntry.{OrderEntry}
 use Rattle.vx_catalog_relations.specs.Relation.{Relation}
-use Rattle.vx_plan_nodes.specs.Plan.{Claim, claim, Side, column, constant, Condition, Unary, select, project, distinct, sort, group, limit, join, semi_join, ExchangeKind, Plan, unary, binary, exchange}
+use Rattle.vx_plan_nodes.specs.Plan.{Claim, claim, Side, column, constant, Condition, Unary, select, project, distinct, sort, group, limit, JoinMethod, join, semi_join, ExchangeKind, Plan, unary, binary, exchange}
 use Rattle.vx_plan_nodes.specs.Types.{width, well_formed}
 use Rattle.vx_plan_nodes.specs.Describe.{Copying, whole_rows, source, left_of, right_of, described}
 use Rattle.vx_plan_facts.specs.Equal.{Equality, both_equal, lifted, with_test, with_conditions, with_pairs, unary_equal, equal_at}
@@ -80,7 +81,7 @@ unary-carries catalog n c op p formed under names = record {
   is = equal-is catalog (unary n c op p);
 }
 
-pub left-carries : (catalog : ℕ → Relation) (n : ℕ) (c : Claim) (m : Bool) (on : List (ℕ × ℕ)) (p q : Plan) → well_formed catalog (binary n c (join m on) p q) ≡ true → well_formed catalog p ≡ true
+pub left-carries : (catalog : ℕ → Relation) (n : ℕ) (c : Claim) (m : JoinMethod) (on : List (ℕ × ℕ)) (p q : Plan) → well_formed catalog (binary n c (join m on) p q) ≡ true → well_formed catalog p ≡ true
     → Carries (width catalog (binary n c (join m on) p q)) (width catalog p) (left_of (width catalog p)) (equal_at catalog p) (equal_at catalog (binary n c (join m on) p q))
     (determined catalog p) (determined catalog (binary n c (join m on) p q))
 left-carries catalog n c m on p q formed under =
@@ -119,7 +120,7 @@ kept-carries catalog n c matched on conditions p q formed under =
       is = equal-is catalog x;
     }
 
-pub passed-carries : (catalog : ℕ → Relation) (n : ℕ) (c : Claim) (k : ExchangeKind) (m : List ℕ) (p : Plan) → well_formed catalog (exchange n c k m p) ≡ true → well_formed catalog p ≡ true
+pub passed-carries : (catalog : ℕ → Relation) (n : ℕ) (c : Claim) (k : ExchangeKind) (m : List OrderEntry) (p : Plan) → well_formed catalog (exchange n c k m p) ≡ true → well_formed catalog p ≡ true
     → Carries (width catalog (exchange n c k m p)) (width catalog p) whole_rows (equal_at catalog p) (equal_at catalog (exchange n c k m p)) (determined catalog p) (determined catalog (exchange n c k m p))
 passed-carries catalog n c k m p formed under = record {
   reaches = whole-reaches (width catalog p);

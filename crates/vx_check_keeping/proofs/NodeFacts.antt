@@ -2,6 +2,7 @@
 use Rattle.std.proofs.Common.{◌≡◌, ℕ, ◌+◌, ◌-◌, ◌<◌, ◌≤◌, ◌==◌, nat_lt, nat_le, Bool, true, false, cond, ◌&&◌, ◌||◌, List, refl, subst, arith, Option, Some, None, ltb-true, leb-true}
 use Rattle.std.specs.List.{list_any, list_all}
 use Rattle.vx_rows_values.specs.Lists.{is_some_list}
+use Rattle.vx_rows_values.specs.Order.{order_columns}
 use Rattle.vx_rows_values.proofs.Booleans.{and-left, and-right, and-both}
 use Rattle.vx_catalog_relations.specs.Relation.{Relation}
 use Rattle.vx_catalog_relations.specs.Catalog.{relation_at, all_below}
@@ -51,15 +52,15 @@ claim-named catalog (binary n c (semi_join matched on conditions) p q) h =
 claim-named catalog (exchange n c k m p) h = and-right (well_formed catalog p) (names_columns (width catalog p) c) h
 
 pub part-named : (w : ℕ) (c : Claim) → names_columns w c ≡ true → all_below w (part_columns c.part) ≡ true
-part-named w c h = and-left (all_below w (part_columns c.part)) (all_below w c.order && list_all (all_below w) c.keys) h
+part-named w c h = and-left (all_below w (part_columns c.part)) (all_below w (order_columns c.order) && list_all (all_below w) c.keys) h
 
-pub order-named : (w : ℕ) (c : Claim) → names_columns w c ≡ true → all_below w c.order ≡ true
+pub order-named : (w : ℕ) (c : Claim) → names_columns w c ≡ true → all_below w (order_columns c.order) ≡ true
 order-named w c h =
-    and-left (all_below w c.order) (list_all (all_below w) c.keys) (and-right (all_below w (part_columns c.part)) (all_below w c.order && list_all (all_below w) c.keys) h)
+    and-left (all_below w (order_columns c.order)) (list_all (all_below w) c.keys) (and-right (all_below w (part_columns c.part)) (all_below w (order_columns c.order) && list_all (all_below w) c.keys) h)
 
 pub keys-named : (w : ℕ) (c : Claim) → names_columns w c ≡ true → list_all (all_below w) c.keys ≡ true
 keys-named w c h =
-    and-right (all_below w c.order) (list_all (all_below w) c.keys) (and-right (all_below w (part_columns c.part)) (all_below w c.order && list_all (all_below w) c.keys) h)
+    and-right (all_below w (order_columns c.order)) (list_all (all_below w) c.keys) (and-right (all_below w (part_columns c.part)) (all_below w (order_columns c.order) && list_all (all_below w) c.keys) h)
 
 -- ---- copies
 
@@ -74,7 +75,7 @@ pub unary-reaches : (v : ℕ) (op : Unary) → names_within v op ≡ true → Re
 unary-reaches v (select cs) h = whole-reaches v
 unary-reaches v (project cols) h = λ c x l e. within-is v (source (described (project cols)).copying c) x (project-within v (project cols) cols refl h c) e
 unary-reaches v (distinct cols) h = λ c x l e. within-is v (source (described (distinct cols)).copying c) x (distinct-within v (distinct cols) cols refl h c) e
-unary-reaches v (sort of_parts cols) h = whole-reaches v
+unary-reaches v (sort of_parts order) h = whole-reaches v
 unary-reaches v (group phase by aggregates) h =
     λ c x l e. within-is v (source (described (group phase by aggregates)).copying c) x (group-within v (group phase by aggregates) phase by aggregates refl h c) e
 unary-reaches v (limit m) h = whole-reaches v

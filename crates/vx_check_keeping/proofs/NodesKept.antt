@@ -1,10 +1,12 @@
 -- At the nodes of two plans of the same operators: what is asked of the inputs' parts, and the parts that are shown, over inputs whose claims tell the other ones'.
 use Rattle.std.proofs.Common.{◌≡◌, ℕ, nat_lt, Bool, true, false, ◌&&◌, ◌||◌, List, [], ◌∷◌, length, refl, sym, ap, ◌∙◌, subst, true≢false, arith}
 use Rattle.std.proofs.lemmas.Bool.{and_parts}
+use Rattle.vx_rows_values.specs.Order.{order_columns}
 use Rattle.vx_rows_values.specs.Lists.{is_some_list}
 use Rattle.vx_rows_values.specs.declared.value.ColType.{ColType}
 use Rattle.vx_rows_values.specs.Types.{type_at}
 use Rattle.vx_rows_values.proofs.Booleans.{and-left, and-right, and-both}
+use Rattle.vx_rows_values.specs.declared.order.OrderEntry.{OrderEntry}
 use Rattle.vx_catalog_relations.specs.Relation.{Relation}
 use Rattle.vx_catalog_relations.specs.Catalog.{relation_at, all_below}
 use Rattle.vx_plan_nodes.specs.Plan.{by_hash, by_range, Part, one, any, all, routed, Claim, claim, Size, one_worker, group_of, size, size_eq, is_one, Unary, Binary, union, join, semi_join, ExchangeKind, Plan, scan, unary, binary, exchange}
@@ -54,8 +56,8 @@ claimed-output s (binary n c op p q) h =
 claimed-output s (exchange n c k m p) h =
     let types : List ColType = types_of (relation_at s.catalog) p in
     let out : Bool = is_output s types c in
-    and-right (may_merge k m) out (and-right (are_columns (length types) m) (may_merge k m && out)
-    (and-right (is_kind s types k) (are_columns (length types) m && (may_merge k m && out)) (and-right (typed s p) (is_kind s types k && (are_columns (length types) m && (may_merge k m && out))) h)))
+    and-right (may_merge k m) out (and-right (are_columns (length types) (order_columns m)) (may_merge k m && out)
+    (and-right (is_kind s types k) (are_columns (length types) (order_columns m) && (may_merge k m && out)) (and-right (typed s p) (is_kind s types k && (are_columns (length types) (order_columns m) && (may_merge k m && out))) h)))
 
 pub claimed-distinct : (catalog : List Relation) (p : Plan) → IsTypedOver catalog p → are_columns (width (relation_at catalog) p) (part_columns (claim p).part) ≡ true
 claimed-distinct catalog p (s, same, h) =
@@ -192,6 +194,6 @@ module _ (catalog : List Relation) where
       (subst (λ (y : Equality). semi_join_test (width C p) (equal_at C p) y (equal_at C f) on p q x ≡ true) (sym (equal-same C q (beside g)))
       (subst (λ (y : Equality). semi_join_test (width C p) (equal_at C p) (equal_at C q) y on p q x ≡ true) (sym (equal-same C e g)) h))))
 
-  pub sent-parts : (n i : ℕ) (c d : Claim) (k : ExchangeKind) (m : List ℕ) (p g : Plan) (x : Part) → Shown (exchange n c k m p) x → Shown (exchange i d k m (with_claims p g)) x
+  pub sent-parts : (n i : ℕ) (c d : Claim) (k : ExchangeKind) (m : List OrderEntry) (p g : Plan) (x : Part) → Shown (exchange n c k m p) x → Shown (exchange i d k m (with_claims p g)) x
   sent-parts n i c d k m p g x h =
       subst (λ (e : Equality). (unless_one (kind_shows k) x || part_matches e (kind_part k) x) ≡ true) (sym (equal-same C p g)) h

@@ -1,43 +1,48 @@
 -- Orders that follow: along, from those that they begin, and by what determines more.
 use Rattle.std.proofs.Common.{◌≡◌, ℕ, ◌<◌, ◌≤◌, ◌==◌, nat_lt, Bool, true, false, cond, ⊎_elim, List, [], ◌∷◌, refl, sym, ap, ◌∙◌, subst, arith, true≢false, ltb-true, eqb-true}
 use Rattle.std.proofs.lemmas.Bool.Decides.{nat_tests}
+use Rattle.vx_rows_values.specs.declared.order.OrderEntry.{OrderEntry}
+use Rattle.vx_rows_values.specs.Order.{order_columns, entry_eq}
 use Rattle.vx_rows_values.proofs.Booleans.{and-left, and-right, and-both}
 use Rattle.vx_catalog_relations.specs.Catalog.{all_below}
 use Rattle.vx_plan_facts.specs.Equal.{Equality}
 use Rattle.vx_plan_facts.specs.Determined.{Columns}
 use Rattle.vx_plan_facts.specs.DeterminedFacts.{WithinFirst}
-use Rattle.vx_plan_facts.specs.Following.{begins_equally, short, order_follows}
+use Rattle.vx_plan_facts.specs.Following.{equal_entries, begins_equally, short, order_follows}
 use Rattle.vx_plan_facts.proofs.Tests.{or-cases, or-left, or-right}
-use Rattle.vx_check_rules.specs.Rules.{is_prefix}
+use Rattle.vx_check_rules.specs.Rules.{is_front}
 use Rattle.vx_check_rules.proofs.Shortening.{Closes, with_one, short_past, Alike, alike-at, alike-same, alike-equal, short-starts}
+use Rattle.vx_check_shown.proofs.Entries.{one_way, entry-same, entry-itself, entry-chain}
 use Rattle.vx_check_keeping.specs.Laws.{IsEquivalence}
 
 -- ---- lists
 
-pub begins-joins : (e : Equality) → IsEquivalence e → (xs ys zs : List ℕ) → begins_equally e xs ys ≡ true → begins_equally e ys zs ≡ true → begins_equally e xs zs ≡ true
+pub begins-joins : (e : Equality) → IsEquivalence e → (xs ys zs : List OrderEntry) → begins_equally e xs ys ≡ true → begins_equally e ys zs ≡ true → begins_equally e xs zs ≡ true
 begins-joins e is [] ys zs h k = refl
 begins-joins e is (x ∷ xs) [] zs h k = absurd (true≢false (sym h))
 begins-joins e is (x ∷ xs) (y ∷ ys) [] h k = absurd (true≢false (sym k))
 begins-joins e is (x ∷ xs) (y ∷ ys) (z ∷ zs) h k =
-    and-both (e x z) (begins_equally e xs zs) (is.joins x y z (and-left (e x y) (begins_equally e xs ys) h) (and-left (e y z) (begins_equally e ys zs) k))
-    (begins-joins e is xs ys zs (and-right (e x y) (begins_equally e xs ys) h) (and-right (e y z) (begins_equally e ys zs) k))
+    and-both (equal_entries e x z) (begins_equally e xs zs)
+    (entry-chain e is.joins x y z (and-left (equal_entries e x y) (begins_equally e xs ys) h) (and-left (equal_entries e y z) (begins_equally e ys zs) k))
+    (begins-joins e is xs ys zs (and-right (equal_entries e x y) (begins_equally e xs ys) h) (and-right (equal_entries e y z) (begins_equally e ys zs) k))
 
-pub begins-self : (e : Equality) → IsEquivalence e → (xs : List ℕ) → begins_equally e xs xs ≡ true
+pub begins-self : (e : Equality) → IsEquivalence e → (xs : List OrderEntry) → begins_equally e xs xs ≡ true
 begins-self e is [] = refl
-begins-self e is (x ∷ xs) = and-both (e x x) (begins_equally e xs xs) (is.same x) (begins-self e is xs)
+begins-self e is (x ∷ xs) = and-both (equal_entries e x x) (begins_equally e xs xs) (entry-itself e is.same x) (begins-self e is xs)
 
-pub prefix-begins : (e : Equality) → IsEquivalence e → (xs ys : List ℕ) → is_prefix xs ys ≡ true → begins_equally e xs ys ≡ true
-prefix-begins e is [] ys h = refl
-prefix-begins e is (x ∷ xs) [] h = absurd (true≢false (sym h))
-prefix-begins e is (x ∷ xs) (y ∷ ys) h =
-    and-both (e x y) (begins_equally e xs ys) (subst (λ z. e x z ≡ true) (eqb-true x y (and-left (x == y) (is_prefix xs ys) h)) (is.same x))
-    (prefix-begins e is xs ys (and-right (x == y) (is_prefix xs ys) h))
+pub front-begins : (e : Equality) → IsEquivalence e → (xs ys : List OrderEntry) → is_front xs ys ≡ true → begins_equally e xs ys ≡ true
+front-begins e is [] ys h = refl
+front-begins e is (x ∷ xs) [] h = absurd (true≢false (sym h))
+front-begins e is (x ∷ xs) (y ∷ ys) h =
+    and-both (equal_entries e x y) (begins_equally e xs ys)
+    (subst (λ (z : OrderEntry). equal_entries e x z ≡ true) (entry-same x y (and-left (entry_eq x y) (is_front xs ys) h)) (entry-itself e is.same x))
+    (front-begins e is xs ys (and-right (entry_eq x y) (is_front xs ys) h))
 
-pub column-below : (w c : ℕ) (cols : List ℕ) → all_below w (c ∷ cols) ≡ true → c < w
-column-below w c cols l = ltb-true c w (and-left (nat_lt c w) (all_below w cols) l)
+pub column-below : (w : ℕ) (c : OrderEntry) (order : List OrderEntry) → all_below w (order_columns (c ∷ order)) ≡ true → c.column < w
+column-below w c order l = ltb-true c.column w (and-left (nat_lt c.column w) (all_below w (order_columns order)) l)
 
-pub rest-below : (w c : ℕ) (cols : List ℕ) → all_below w (c ∷ cols) ≡ true → all_below w cols ≡ true
-rest-below w c cols l = and-right (nat_lt c w) (all_below w cols) l
+pub rest-below : (w : ℕ) (c : OrderEntry) (order : List OrderEntry) → all_below w (order_columns (c ∷ order)) ≡ true → all_below w (order_columns order) ≡ true
+rest-below w c order l = and-right (nat_lt c.column w) (all_below w (order_columns order)) l
 
 pub longer-below : (v w : ℕ) (cols : List ℕ) → v ≤ w → all_below v cols ≡ true → all_below w cols ≡ true
 longer-below v w [] l h = refl
@@ -52,15 +57,17 @@ longer-below v w (c ∷ cols) l h =
 abbrev pub none : Columns
 none c = false
 
-pub past-below : (w : ℕ) (det : Columns → Columns) (s : Columns) (cols : List ℕ) → all_below w cols ≡ true → all_below w (short_past det s cols) ≡ true
+pub past-below : (w : ℕ) (det : Columns → Columns) (s : Columns) (order : List OrderEntry) → all_below w (order_columns order) ≡ true
+    → all_below w (order_columns (short_past det s order)) ≡ true
 past-below w det s [] l = refl
-past-below w det s (c ∷ cols) l =
-    go (det s c) (past-below w det s cols (rest-below w c cols l)) (past-below w det (with_one s c) cols (rest-below w c cols l))
+past-below w det s (c ∷ order) l =
+    go (det s c.column) (past-below w det s order (rest-below w c order l)) (past-below w det (with_one s c.column) order (rest-below w c order l))
   where
-    go : (b : Bool) → all_below w (short_past det s cols) ≡ true → all_below w (short_past det (with_one s c) cols) ≡ true
-        → all_below w (cond b (short_past det s cols) (c ∷ short_past det (with_one s c) cols)) ≡ true
+    go : (b : Bool) → all_below w (order_columns (short_past det s order)) ≡ true → all_below w (order_columns (short_past det (with_one s c.column) order)) ≡ true
+        → all_below w (order_columns (cond b (short_past det s order) (c ∷ short_past det (with_one s c.column) order))) ≡ true
     go true x y = x
-    go false x y = and-both (nat_lt c w) (all_below w (short_past det (with_one s c) cols)) (and-left (nat_lt c w) (all_below w cols) l) y
+    go false x y =
+        and-both (nat_lt c.column w) (all_below w (order_columns (short_past det (with_one s c.column) order))) (and-left (nat_lt c.column w) (all_below w (order_columns order)) l) y
 
 pub same-bool : (a b : Bool) → (a ≡ true → b ≡ true) → (b ≡ true → a ≡ true) → a ≡ b
 same-bool true b f g = sym (f refl)
@@ -68,8 +75,8 @@ same-bool false true f g = g refl
 same-bool false false f g = refl
 
 module _ (w : ℕ) (e : Equality) (det : Columns → Columns) (closes : Closes w e det) where
-  pub short-is : (cols : List ℕ) → all_below w cols ≡ true → short det cols ≡ short_past det none cols
-  short-is cols l = short-starts w e det closes none cols (λ c. refl) l
+  pub short-is : (order : List OrderEntry) → all_below w (order_columns order) ≡ true → short det order ≡ short_past det none order
+  short-is order l = short-starts w e det closes none order (λ c. refl) l
 
   pub self-alike : (s : Columns) → Alike w det s s
   self-alike s = alike-same w e det closes s s (λ c l. refl)
@@ -81,33 +88,38 @@ module _ (w : ℕ) (e : Equality) (det : Columns → Columns) (closes : Closes w
       ∙ same-bool (det t c) (det t d) (λ k. closes.equal t c d l m same k) (λ k. closes.equal t d c m l (closes.swap c d l m same) k)
 
   -- a list that begins another one does so without what is determined
-  pub begins-past : (s t : Columns) (cs ds : List ℕ) → Alike w det s t → all_below w cs ≡ true → all_below w ds ≡ true → begins_equally e cs ds ≡ true
-      → begins_equally e (short_past det s cs) (short_past det t ds) ≡ true
+  pub begins-past : (s t : Columns) (cs ds : List OrderEntry) → Alike w det s t → all_below w (order_columns cs) ≡ true → all_below w (order_columns ds) ≡ true
+      → begins_equally e cs ds ≡ true → begins_equally e (short_past det s cs) (short_past det t ds) ≡ true
   begins-past s t [] ds h l m k = refl
   begins-past s t (c ∷ cs) [] h l m k = absurd (true≢false (sym k))
   begins-past s t (c ∷ cs) (d ∷ ds) h l m k =
-      let same : e c d ≡ true = and-left (e c d) (begins_equally e cs ds) k in
-      let rest : begins_equally e cs ds ≡ true = and-right (e c d) (begins_equally e cs ds) k in
+      let x : ℕ = c.column in
+      let y : ℕ = d.column in
+      let alike : equal_entries e c d ≡ true = and-left (equal_entries e c d) (begins_equally e cs ds) k in
+      let same : e x y ≡ true = and-left (e x y) (one_way c.falling d.falling) alike in
+      let rest : begins_equally e cs ds ≡ true = and-right (equal_entries e c d) (begins_equally e cs ds) k in
       let lc = column-below w c cs l in
       let ld = column-below w d ds m in
-      go (det s c) (det t d) (equal-at s t h c d lc ld same) same (begins-past s t cs ds h (rest-below w c cs l) (rest-below w d ds m) rest)
-      (begins-past (with_one s c) (with_one t d) cs ds (alike-equal w e det closes s t c d lc ld same h) (rest-below w c cs l) (rest-below w d ds m) rest)
+      go (det s x) (det t y) (equal-at s t h x y lc ld same) alike (begins-past s t cs ds h (rest-below w c cs l) (rest-below w d ds m) rest)
+      (begins-past (with_one s x) (with_one t y) cs ds (alike-equal w e det closes s t x y lc ld same h) (rest-below w c cs l) (rest-below w d ds m) rest)
     where
-      go : (a b : Bool) → a ≡ b → e c d ≡ true → begins_equally e (short_past det s cs) (short_past det t ds) ≡ true
-          → begins_equally e (short_past det (with_one s c) cs) (short_past det (with_one t d) ds) ≡ true
-          → begins_equally e (cond a (short_past det s cs) (c ∷ short_past det (with_one s c) cs)) (cond b (short_past det t ds) (d ∷ short_past det (with_one t d) ds)) ≡ true
+      go : (a b : Bool) → a ≡ b → equal_entries e c d ≡ true → begins_equally e (short_past det s cs) (short_past det t ds) ≡ true
+          → begins_equally e (short_past det (with_one s c.column) cs) (short_past det (with_one t d.column) ds) ≡ true
+          → begins_equally e (cond a (short_past det s cs) (c ∷ short_past det (with_one s c.column) cs))
+          (cond b (short_past det t ds) (d ∷ short_past det (with_one t d.column) ds)) ≡ true
       go true true i j x y = x
       go true false i j x y = absurd (true≢false i)
       go false true i j x y = absurd (true≢false (sym i))
-      go false false i j x y = and-both (e c d) (begins_equally e (short_past det (with_one s c) cs) (short_past det (with_one t d) ds)) j y
+      go false false i j x y =
+          and-both (equal_entries e c d) (begins_equally e (short_past det (with_one s c.column) cs) (short_past det (with_one t d.column) ds)) j y
 
   -- an order follows where it begins equally
-  pub begins-follows : (given order : List ℕ) → all_below w given ≡ true → all_below w order ≡ true → begins_equally e order given ≡ true
+  pub begins-follows : (given order : List OrderEntry) → all_below w (order_columns given) ≡ true → all_below w (order_columns order) ≡ true → begins_equally e order given ≡ true
       → order_follows e det given order ≡ true
   begins-follows given order l m h =
       let x : begins_equally e (short_past det none order) (short_past det none given) ≡ true = begins-past none none order given (self-alike none) m l h in
-      subst (λ (xs : List ℕ). begins_equally e xs (short det given) ≡ true) (sym (short-is order m))
-      (subst (λ (ys : List ℕ). begins_equally e (short_past det none order) ys ≡ true) (sym (short-is given l)) x)
+      subst (λ (xs : List OrderEntry). begins_equally e xs (short det given) ≡ true) (sym (short-is order m))
+      (subst (λ (ys : List OrderEntry). begins_equally e (short_past det none order) ys ≡ true) (sym (short-is given l)) x)
 
 -- ---- what determines more
 
@@ -143,51 +155,60 @@ module _ (v w : ℕ) (e d : Equality) (det other : Columns → Columns) (larger 
       (or-cases (t x) (x == c) m)
 
   -- what the smaller one leaves out the larger one leaves out
-  pub past-again : (t s : Columns) (cols : List ℕ) → In t s → all_below v cols ≡ true → short_past other s (short_past det t cols) ≡ short_past other s cols
+  pub past-again : (t s : Columns) (order : List OrderEntry) → In t s → all_below v (order_columns order) ≡ true → short_past other s (short_past det t order) ≡ short_past other s order
   past-again t s [] h l = refl
-  past-again t s (c ∷ cols) h l =
-      let lc = column-below v c cols l in
-      let rest = rest-below v c cols l in
+  past-again t s (x ∷ order) h l =
+      let c : ℕ = x.column in
+      let lc = column-below v x order l in
+      let rest = rest-below v x order l in
       let wide : v ≤ w = larger.wide in
-      go (det t c) (other s c) (in-more t s h c lc) (past-again t s cols h rest)
-      (λ is. past-again (with_one t c) s cols (in-one t s h c is) rest)
-      (past-again (with_one t c) (with_one s c) cols (in-both t s h c (omega (arith, lc, wide))) rest) refl
+      go (det t c) (other s c) (in-more t s h c lc) (past-again t s order h rest)
+      (λ is. past-again (with_one t c) s order (in-one t s h c is) rest)
+      (past-again (with_one t c) (with_one s c) order (in-both t s h c (omega (arith, lc, wide))) rest) refl
     where
-      go : (a b : Bool) → (a ≡ true → b ≡ true) → short_past other s (short_past det t cols) ≡ short_past other s cols
-          → (b ≡ true → short_past other s (short_past det (with_one t c) cols) ≡ short_past other s cols)
-          → short_past other (with_one s c) (short_past det (with_one t c) cols) ≡ short_past other (with_one s c) cols → other s c ≡ b
-          → short_past other s (cond a (short_past det t cols) (c ∷ short_past det (with_one t c) cols)) ≡ cond b (short_past other s cols) (c ∷ short_past other (with_one s c) cols)
-      go true true f x y z is = x
-      go true false f x y z is = absurd (true≢false (sym (f refl)))
-      go false true f x y z is =
-          ap (λ k. cond k (short_past other s (short_past det (with_one t c) cols)) (c ∷ short_past other (with_one s c) (short_past det (with_one t c) cols))) is ∙ y refl
-      go false false f x y z is =
-          ap (λ k. cond k (short_past other s (short_past det (with_one t c) cols)) (c ∷ short_past other (with_one s c) (short_past det (with_one t c) cols))) is ∙ ap (λ xs. c ∷ xs) z
+      go : (a b : Bool) → (a ≡ true → b ≡ true) → short_past other s (short_past det t order) ≡ short_past other s order
+          → (b ≡ true → short_past other s (short_past det (with_one t x.column) order) ≡ short_past other s order)
+          → short_past other (with_one s x.column) (short_past det (with_one t x.column) order) ≡ short_past other (with_one s x.column) order → other s x.column ≡ b
+          → short_past other s (cond a (short_past det t order) (x ∷ short_past det (with_one t x.column) order))
+          ≡ cond b (short_past other s order) (x ∷ short_past other (with_one s x.column) order)
+      go true true f u y z is = u
+      go true false f u y z is = absurd (true≢false (sym (f refl)))
+      go false true f u y z is =
+          let less : List OrderEntry = short_past det (with_one t x.column) order in
+          ap (λ k. cond k (short_past other s less) (x ∷ short_past other (with_one s x.column) less)) is ∙ y refl
+      go false false f u y z is =
+          let less : List OrderEntry = short_past det (with_one t x.column) order in
+          ap (λ k. cond k (short_past other s less) (x ∷ short_past other (with_one s x.column) less)) is ∙ ap (λ xs. x ∷ xs) z
 
   none-in : In none none
   none-in x l m = absurd (true≢false (sym m))
 
   -- the short form by the larger one of the short form by the smaller one
-  pub short-again : (cols : List ℕ) → all_below v cols ≡ true → short other (short det cols) ≡ short other cols
-  short-again cols l =
+  pub short-again : (order : List OrderEntry) → all_below v (order_columns order) ≡ true → short other (short det order) ≡ short other order
+  short-again order l =
       let wide : v ≤ w = larger.wide in
-      let inner : short det cols ≡ short_past det none cols = short-is v e det larger.closes cols l in
-      let below : all_below w (short_past det none cols) ≡ true = longer-below v w (short_past det none cols) wide (past-below v det none cols l) in
-      ap (short other) inner ∙ short-is w d other larger.above (short_past det none cols) below ∙ past-again none none cols none-in l
-      ∙ sym (short-is w d other larger.above cols (longer-below v w cols wide l))
+      let inner : short det order ≡ short_past det none order = short-is v e det larger.closes order l in
+      let below : all_below w (order_columns (short_past det none order)) ≡ true =
+      longer-below v w (order_columns (short_past det none order)) wide (past-below v det none order l) in
+      ap (short other) inner ∙ short-is w d other larger.above (short_past det none order) below ∙ past-again none none order none-in l
+      ∙ sym (short-is w d other larger.above order (longer-below v w (order_columns order) wide l))
 
-  begins-equal : (cs ds : List ℕ) → all_below v cs ≡ true → all_below v ds ≡ true → begins_equally e cs ds ≡ true → begins_equally d cs ds ≡ true
+  begins-equal : (cs ds : List OrderEntry) → all_below v (order_columns cs) ≡ true → all_below v (order_columns ds) ≡ true → begins_equally e cs ds ≡ true → begins_equally d cs ds ≡ true
   begins-equal [] ds l m h = refl
   begins-equal (c ∷ cs) [] l m h = h
   begins-equal (c ∷ cs) (x ∷ ds) l m h =
-      and-both (d c x) (begins_equally d cs ds) (larger.equal c x (column-below v c cs l) (column-below v x ds m) (and-left (e c x) (begins_equally e cs ds) h))
-      (begins-equal cs ds (rest-below v c cs l) (rest-below v x ds m) (and-right (e c x) (begins_equally e cs ds) h))
+      let alike : equal_entries e c x ≡ true = and-left (equal_entries e c x) (begins_equally e cs ds) h in
+      let one : Bool = one_way c.falling x.falling in
+      and-both (equal_entries d c x) (begins_equally d cs ds)
+      (and-both (d c.column x.column) one
+      (larger.equal c.column x.column (column-below v c cs l) (column-below v x ds m) (and-left (e c.column x.column) one alike)) (and-right (e c.column x.column) one alike))
+      (begins-equal cs ds (rest-below v c cs l) (rest-below v x ds m) (and-right (equal_entries e c x) (begins_equally e cs ds) h))
 
-  pub short-below : (cols : List ℕ) → all_below v cols ≡ true → all_below v (short det cols) ≡ true
-  short-below cols l = subst (λ (xs : List ℕ). all_below v xs ≡ true) (sym (short-is v e det larger.closes cols l)) (past-below v det none cols l)
+  pub short-below : (order : List OrderEntry) → all_below v (order_columns order) ≡ true → all_below v (order_columns (short det order)) ≡ true
+  short-below order l = subst (λ (xs : List OrderEntry). all_below v (order_columns xs) ≡ true) (sym (short-is v e det larger.closes order l)) (past-below v det none order l)
 
   -- what follows by the smaller one follows by the larger one
-  pub follows-more : (given order : List ℕ) → all_below v given ≡ true → all_below v order ≡ true → order_follows e det given order ≡ true
+  pub follows-more : (given order : List OrderEntry) → all_below v (order_columns given) ≡ true → all_below v (order_columns order) ≡ true → order_follows e det given order ≡ true
       → order_follows d other given order ≡ true
   follows-more given order l m h =
       let wide : v ≤ w = larger.wide in
@@ -195,14 +216,15 @@ module _ (v w : ℕ) (e d : Equality) (det other : Columns → Columns) (larger 
       let lo = short-below order m in
       let begun : begins_equally d (short det order) (short det given) ≡ true = begins-equal (short det order) (short det given) lo lg h in
       let x : order_follows d other (short det given) (short det order) ≡ true =
-      begins-follows w d other larger.above (short det given) (short det order) (longer-below v w (short det given) wide lg) (longer-below v w (short det order) wide lo) begun in
-      subst (λ (xs : List ℕ). begins_equally d xs (short other given) ≡ true) (short-again order m)
-      (subst (λ (ys : List ℕ). begins_equally d (short other (short det order)) ys ≡ true) (short-again given l) x)
+      begins-follows w d other larger.above (short det given) (short det order) (longer-below v w (order_columns (short det given)) wide lg)
+      (longer-below v w (order_columns (short det order)) wide lo) begun in
+      subst (λ (xs : List OrderEntry). begins_equally d xs (short other given) ≡ true) (short-again order m)
+      (subst (λ (ys : List OrderEntry). begins_equally d (short other (short det order)) ys ≡ true) (short-again given l) x)
 
 -- along
-pub follows-joins : (e : Equality) (det : Columns → Columns) → IsEquivalence e → (given mid order : List ℕ) → order_follows e det given mid ≡ true
+pub follows-joins : (e : Equality) (det : Columns → Columns) → IsEquivalence e → (given mid order : List OrderEntry) → order_follows e det given mid ≡ true
     → order_follows e det mid order ≡ true → order_follows e det given order ≡ true
 follows-joins e det is given mid order h k = begins-joins e is (short det order) (short det mid) (short det given) k h
 
-pub follows-self : (e : Equality) (det : Columns → Columns) → IsEquivalence e → (order : List ℕ) → order_follows e det order order ≡ true
+pub follows-self : (e : Equality) (det : Columns → Columns) → IsEquivalence e → (order : List OrderEntry) → order_follows e det order order ≡ true
 follows-self e det is order = begins-self e is (short det order)

@@ -3,7 +3,7 @@ use Rattle.std.proofs.Common.{◌≡◌, ℕ, ◌-◌, ◌≤◌, nat_lt, nat_le
 use Rattle.std.specs.List.{list_all}
 use Rattle.vx_rows_values.proofs.Booleans.{and-left, and-right, and-both}
 use Rattle.vx_catalog_relations.specs.Catalog.{all_below}
-use Rattle.vx_plan_nodes.specs.Plan.{Route, Part, one, any, all, routed, Unary, select, project, distinct, sort, group, limit, Phase, plain, partial, final, Aggregate, union, join, Plan, claim, size, is_one}
+use Rattle.vx_plan_nodes.specs.Plan.{Route, Part, one, any, all, routed, Unary, select, project, distinct, sort, group, limit, Phase, plain, partial, final, Aggregate, JoinMethod, union, join, Plan, claim, size, is_one}
 use Rattle.vx_plan_nodes.specs.Types.{part_columns}
 use Rattle.vx_plan_nodes.specs.Describe.{Copying, whole_rows, columns_kept, left_of, right_of, described}
 use Rattle.vx_plan_facts.specs.Equal.{Equality}
@@ -65,7 +65,7 @@ module _ (e : Equality) (is : IsEquivalence e) where
       → ((is_one (size s) || keeps_apart op s) || unary_meets_equally e op (claim s).part) ≡ true
   unary-matches (select cs) p s i h = free (is_one (size s))
   unary-matches (project cols) p s i h = free (is_one (size s))
-  unary-matches (sort of_parts cols) p s i h = free (is_one (size s))
+  unary-matches (sort of_parts order) p s i h = free (is_one (size s))
   unary-matches (distinct cols) p s i h = apart-kept p s i cols h
   unary-matches (group plain by aggregates) p s i h = apart-kept p s i by h
   unary-matches (group partial by aggregates) p s i h = free (is_one (size s))
@@ -136,7 +136,7 @@ module _ (e : Equality) (is : IsEquivalence e) where
   first-as w (select conditions) g also p n r cs l h = given-as e is w whole_rows g (claim p).part r cs cs (whole-stand w g also cs l) (has-gives p (routed r cs) n h)
   first-as w (project cols) g also p n r cs l h = kept-as w cols g also p n r cs l h
   first-as w (distinct cols) g also p n r cs l h = kept-as w cols g also p n r cs l h
-  first-as w (sort of_parts cols) g also p n r cs l h = given-as e is w whole_rows g (claim p).part r cs cs (whole-stand w g also cs l) (has-gives p (routed r cs) n h)
+  first-as w (sort of_parts order) g also p n r cs l h = given-as e is w whole_rows g (claim p).part r cs cs (whole-stand w g also cs l) (has-gives p (routed r cs) n h)
   first-as w (group phase by aggregates) g also p n r cs l h = group-as w phase by aggregates g (claim p).part (routed r cs) (kept-as w by g also p n r cs l h)
   first-as w (limit m) g also p n r cs l h = given-as e is w whole_rows g (claim p).part r cs cs (whole-stand w g also cs l) (has-gives p (routed r cs) n h)
 
@@ -144,7 +144,7 @@ module _ (e : Equality) (is : IsEquivalence e) where
   unary-any (select cs) p s i h = has-any p s i h
   unary-any (project cols) p s i h = has-any p s i h
   unary-any (distinct cols) p s i h = has-any p s i h
-  unary-any (sort of_parts cols) p s i h = has-any p s i h
+  unary-any (sort of_parts order) p s i h = has-any p s i h
   unary-any (group phase by aggregates) p s i h = has-any p s i h
   unary-any (limit m) p s i h = has-any p s i h
 
@@ -152,7 +152,7 @@ module _ (e : Equality) (is : IsEquivalence e) where
   unary-all (select cs) p s i h = has-all p s i h
   unary-all (project cols) p s i h = has-all p s i h
   unary-all (distinct cols) p s i h = has-all p s i h
-  unary-all (sort of_parts cols) p s i h = has-all p s i h
+  unary-all (sort of_parts order) p s i h = has-all p s i h
   unary-all (group phase by aggregates) p s i h = has-all p s i h
   unary-all (limit m) p s i h = has-all p s i h
 
@@ -201,7 +201,7 @@ module _ (e f : Equality) (is : IsEquivalence e) (also : IsEquivalence f) (p q s
     alike-kept : is_one (size p) ≡ false → before ≡ true → after ≡ true
     alike-kept n h = alike-told e f is also on (claim s).part (claim p).part (claim t).part (claim q).part (left.part n) (right.part (same ∙ n)) h
 
-    pub join-inputs : (m : Bool) → ((is_one (size p) || binary_inputs_match (join m on) p q) || before) ≡ true → ((is_one (size s) || binary_inputs_match (join m on) s t) || after) ≡ true
+    pub join-inputs : (m : JoinMethod) → ((is_one (size p) || binary_inputs_match (join m on) p q) || before) ≡ true → ((is_one (size s) || binary_inputs_match (join m on) s t) || after) ≡ true
     join-inputs m h = by (is_one (size p)) refl
       where
         by : (a : Bool) → is_one (size p) ≡ a → ((is_one (size s) || binary_inputs_match (join m on) s t) || after) ≡ true

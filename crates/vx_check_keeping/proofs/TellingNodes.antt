@@ -1,6 +1,8 @@
 -- Plans beside known ones, node by node.
 use Rattle.std.proofs.Common.{◌≡◌, ◌∙◌, ℕ, Bool, true, false, ◌&&◌, List, refl, ap, sym, subst}
 use Rattle.std.specs.List.{list_all}
+use Rattle.vx_rows_values.specs.declared.order.OrderEntry.{OrderEntry}
+use Rattle.vx_rows_values.specs.Order.{order_columns}
 use Rattle.vx_rows_values.proofs.Booleans.{and-left, and-right}
 use Rattle.vx_catalog_relations.specs.Relation.{Relation}
 use Rattle.vx_catalog_relations.specs.Catalog.{all_below}
@@ -23,7 +25,7 @@ IsUnder p x = (catalog : ℕ → Relation) (k : rust_known.KnownColumns) → IsK
 pub under-unary : (n : ℕ) (c : Claim) (op : Unary) (p x : Plan) → x ≡ unary n c op p → IsUnder p x
 under-unary n c op p x is = λ catalog k h. known-under catalog k n c op p (rw is at h)
 
-pub under-sent : (n : ℕ) (c : Claim) (kind : ExchangeKind) (m : List ℕ) (p x : Plan) → x ≡ exchange n c kind m p → IsUnder p x
+pub under-sent : (n : ℕ) (c : Claim) (kind : ExchangeKind) (m : List OrderEntry) (p x : Plan) → x ≡ exchange n c kind m p → IsUnder p x
 under-sent n c kind m p x is = λ catalog k h. known-passed catalog k n c kind m p (rw is at h)
 
 pub under-left : (n : ℕ) (c : Claim) (op : Binary) (p q x : Plan) → x ≡ binary n c op p q → IsUnder p x
@@ -74,7 +76,7 @@ module _ (catalog : ℕ → Relation) (k : rust_known.KnownColumns) (f e : Plan)
         same = ap left-of (rw (is, are) at h.same);
       }
 
-  pub beside-sent : (n i : ℕ) (c d : Claim) (kind l : ExchangeKind) (m o : List ℕ) (p q : Plan) → f ≡ exchange n c kind m p → e ≡ exchange i d l o q → IsBesideKnown catalog k p q
+  pub beside-sent : (n i : ℕ) (c d : Claim) (kind l : ExchangeKind) (m o : List OrderEntry) (p q : Plan) → f ≡ exchange n c kind m p → e ≡ exchange i d l o q → IsBesideKnown catalog k p q
   beside-sent n i c d kind l m o p q is are =
       let formed = rw are at h.formed in
       record {
@@ -125,9 +127,9 @@ module _ (catalog : ℕ → Relation) (k : rust_known.KnownColumns) (f e : Plan)
   pub part-beside : all_below (width catalog f) (part_columns (claim e).part) ≡ true
   part-beside = and-left (all_below (width catalog f) (part_columns (claim e).part)) _ other-named
 
-  pub order-beside : all_below (width catalog f) (claim e).order ≡ true
+  pub order-beside : all_below (width catalog f) (order_columns (claim e).order) ≡ true
   order-beside =
-      and-left (all_below (width catalog f) (claim e).order) (list_all (all_below (width catalog f)) (claim e).keys)
+      and-left (all_below (width catalog f) (order_columns (claim e).order)) (list_all (all_below (width catalog f)) (claim e).keys)
       (and-right (all_below (width catalog f) (part_columns (claim e).part)) _ other-named)
 
 -- ---- answers, put together
@@ -136,7 +138,7 @@ pub unary-tells : (catalog : ℕ → Relation) (f e : Plan) (n i : ℕ) (c d : C
     → tells_derived catalog f e ≡ (tells_derived catalog p q && tells_here catalog f e)
 unary-tells catalog f e n i c d op o p q is are = rw (is, are) refl
 
-pub sent-tells : (catalog : ℕ → Relation) (f e : Plan) (n i : ℕ) (c d : Claim) (kind l : ExchangeKind) (m o : List ℕ) (p q : Plan) → f ≡ exchange n c kind m p → e ≡ exchange i d l o q
+pub sent-tells : (catalog : ℕ → Relation) (f e : Plan) (n i : ℕ) (c d : Claim) (kind l : ExchangeKind) (m o : List OrderEntry) (p q : Plan) → f ≡ exchange n c kind m p → e ≡ exchange i d l o q
     → tells_derived catalog f e ≡ (tells_derived catalog p q && tells_here catalog f e)
 sent-tells catalog f e n i c d kind l m o p q is are = rw (is, are) refl
 

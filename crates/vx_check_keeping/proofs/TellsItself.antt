@@ -1,19 +1,21 @@
 -- Each plan tells what it claims itself.
 use Rattle.std.proofs.Common.{◌≡◌, ℕ, ◌==◌, Bool, true, ◌&&◌, ◌||◌, List, [], ◌∷◌, refl, eq-eqb}
 use Rattle.std.specs.List.{list_all, list_any}
+use Rattle.vx_rows_values.specs.declared.order.OrderEntry.{OrderEntry}
 use Rattle.vx_rows_values.proofs.Booleans.{and-both}
 use Rattle.vx_catalog_relations.specs.Relation.{Relation}
 use Rattle.vx_plan_nodes.specs.Plan.{Route, by_hash, by_range, Part, one, any, all, routed, Plan, scan, unary, binary, exchange, claim, size, is_one}
 use Rattle.vx_plan_facts.specs.Determined.{Columns, determined}
 use Rattle.vx_plan_facts.specs.DeterminedFacts.{Within}
 use Rattle.vx_plan_facts.specs.Equal.{Equality, equal_at}
-use Rattle.vx_plan_facts.specs.Following.{set_of, begins_equally, short, order_follows, key_follows}
+use Rattle.vx_plan_facts.specs.Following.{set_of, equal_entries, begins_equally, short, order_follows, key_follows}
 use Rattle.vx_plan_facts.proofs.Least.{more-from-more}
 use Rattle.vx_plan_facts.proofs.Tests.{or-left, or-right, all-more}
 use Rattle.vx_check_rules.specs.Rules.{numbers_eq, route_eq, part_gives}
 use Rattle.vx_check_rules.specs.Derived.{part_matches}
 use Rattle.vx_check_shown.specs.PartLaws.{told}
 use Rattle.vx_check_keeping.specs.Telling.{tells_here, tells_derived, TellsItself}
+use Rattle.vx_check_shown.proofs.Entries.{entry-itself}
 use Rattle.vx_check_shown.proofs.Equivalent.{equal-equivalence}
 
 -- ---- parts
@@ -34,9 +36,9 @@ part-itself (routed r cols) = and-both (route_eq r r) (numbers_eq cols cols) (ro
 
 -- ---- orders
 
-begins-itself : (e : Equality) → ((c : ℕ) → e c c ≡ true) → (xs : List ℕ) → begins_equally e xs xs ≡ true
+begins-itself : (e : Equality) → ((c : ℕ) → e c c ≡ true) → (xs : List OrderEntry) → begins_equally e xs xs ≡ true
 begins-itself e h [] = refl
-begins-itself e h (x ∷ xs) = and-both (e x x) (begins_equally e xs xs) (h x) (begins-itself e h xs)
+begins-itself e h (x ∷ xs) = and-both (equal_entries e x x) (begins_equally e xs xs) (entry-itself e h x) (begins-itself e h xs)
 
 -- ---- keys
 
@@ -63,7 +65,7 @@ here-itself catalog p =
     let e : Equality = equal_at catalog p in
     let det : Columns → Columns = determined catalog p in
     let q : Part = (claim p).part in
-    let order : List ℕ = (claim p).order in
+    let order : List OrderEntry = (claim p).order in
     let keys : List (List ℕ) = (claim p).keys in
     and-both (is_one (size p) || told e q q) (order_follows e det order order && list_all (key_follows det keys) keys)
     (or-right (is_one (size p)) (told e q q) (or-left (part_gives q q) (part_matches e q q) (part-itself q)))

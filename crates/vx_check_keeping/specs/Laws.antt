@@ -1,5 +1,7 @@
 -- What holds of two plans of the same operators, whose claims differ.
 use Rattle.std.specs.Prelude.{◌≡◌, ℕ, true, List}
+use Rattle.vx_rows_values.specs.declared.order.OrderEntry.{OrderEntry}
+use Rattle.vx_rows_values.specs.Order.{order_columns}
 use Rattle.vx_catalog_relations.specs.Relation.{Relation}
 use Rattle.vx_plan_nodes.specs.Plan.{Plan, size}
 use Rattle.vx_plan_nodes.specs.Types.{width}
@@ -38,10 +40,10 @@ MoreDetermined = (catalog : List Relation) (e f : Plan) → IsTypedOver catalog 
 -- under keys that say more each order follows that followed; and orders follow along
 pub record OrdersFollow : Type 0 where
   pub more : (catalog : List Relation) (e f : Plan) → IsTypedOver catalog e → IsTypedOver catalog f → SameNodes e f → KeysTell (relation_at catalog) f e
-      → (given order : List ℕ) → all_below (width (relation_at catalog) e) given ≡ true → all_below (width (relation_at catalog) e) order ≡ true
+      → (given order : List OrderEntry) → all_below (width (relation_at catalog) e) (order_columns given) ≡ true → all_below (width (relation_at catalog) e) (order_columns order) ≡ true
       → order_follows (equal_at (relation_at catalog) e) (determined (relation_at catalog) e) given order ≡ true
       → order_follows (equal_at (relation_at catalog) f) (determined (relation_at catalog) f) given order ≡ true
-  pub along : (catalog : ℕ → Relation) (p : Plan) (given mid order : List ℕ) → order_follows (equal_at catalog p) (determined catalog p) given mid ≡ true
+  pub along : (catalog : ℕ → Relation) (p : Plan) (given mid order : List OrderEntry) → order_follows (equal_at catalog p) (determined catalog p) given mid ≡ true
       → order_follows (equal_at catalog p) (determined catalog p) mid order ≡ true → order_follows (equal_at catalog p) (determined catalog p) given order ≡ true
 
 -- where the first plan passes the second table, the second claims what tells the most that is shown, all of it shown, and its keys say what the first one's say:

@@ -20,7 +20,7 @@ ghost use Rattle.vx_check_keeping.specs.Telling.{tells_here, tells_derived, IsBe
 
 use std::alloc::{AllocError, Global};
 use vx_check_rules::{
-    ColumnsSeen, claimed_keys, claimed_order, claimed_part, gives, has_one_worker, is_same_equally,
+    OrderSeen, claimed_keys, claimed_order, claimed_part, gives, has_one_worker, is_same_equally,
     order_follows, seen,
 };
 use vx_plan_facts::{ColumnSet, KnownColumns, known_columns};
@@ -88,8 +88,8 @@ fn does_tell_here(node: &TypedNode, other: &TypedNode, known: &mut KnownColumns<
     if !order_follows(
         node,
         known,
-        ColumnsSeen::Listed(given),
-        ColumnsSeen::Listed(wanted),
+        OrderSeen::Listed(given),
+        OrderSeen::Listed(wanted),
     ) {
         return false;
     }

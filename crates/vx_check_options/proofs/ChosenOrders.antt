@@ -1,17 +1,20 @@
 -- The orders that are placed are chosen from the places of their nodes.
-use Rattle.std.proofs.Common.{◌≡◌, ℕ, suc, ◌+◌, ◌-◌, ◌≤◌, nat_lt, nat_le, Bool, true, false, cond, ◌&&◌, ◌||◌, ◌==◌, List, [], ◌∷◌, flat_map, filter, Option, Some, None, is_some, option_map, unwrap_or, slice_get, refl, sym, ap, ◌∙◌, true≢false, eqb-true, eq-eqb, arith}
+use Rattle.std.proofs.Common.{◌≡◌, ℕ, suc, ◌+◌, ◌-◌, ◌≤◌, nat_lt, nat_le, Bool, true, false, cond, ◌&&◌, ◌||◌, ◌==◌, List, [], ◌∷◌, flat_map, filter, Option, Some, None, is_some, option_map, unwrap_or, slice_get, refl, sym, ap, ◌∙◌, true≢false, eqb-true, arith}
 use Rattle.std.specs.List.{list_any, list_all}
 use Rattle.std.proofs.lemmas.Bool.Decides.{nat_tests}
-use Rattle.std.proofs.lemmas.List.Folds.{list_any-append}
+use Rattle.vx_rows_values.specs.declared.order.OrderEntry.{OrderEntry}
+use Rattle.vx_rows_values.specs.Order.{order_columns, entry_eq}
 use Rattle.vx_rows_values.specs.Lists.{is_some_list}
 use Rattle.vx_rows_values.proofs.Booleans.{and-left, and-right, and-both}
 use Rattle.vx_plan_nodes.specs.Plan.{Part}
 use Rattle.vx_plan_nodes.specs.Describe.{Copying, whole_rows, columns_kept, left_of, right_of, no_columns, source}
-use Rattle.vx_check_rules.specs.Rules.{contains, is_prefix, rises_by}
-use Rattle.vx_check_rules.proofs.Bools.{or-false, or-right}
-use Rattle.vx_check_options.specs.Options.{OrderChoices, places_from, copies, singles, place_then, places_up, narrowed, or_nowhere, rising}
-use Rattle.vx_check_options.specs.Placed.{first_columns, column_at, order_along, is_chosen}
-use Rattle.vx_check_options.specs.Laws.{is_front}
+use Rattle.vx_check_rules.specs.Rules.{contains, is_front, entry_at, rises_by}
+use Rattle.vx_check_rules.proofs.Bools.{or-false}
+use Rattle.vx_check_rules.proofs.WayFacts.{any-flat}
+use Rattle.vx_check_options.specs.Options.{OrderChoices, places_from, copies, singles, has_entry, entry_copies, place_then, places_up, narrowed, or_nowhere, rising}
+use Rattle.vx_check_options.specs.Placed.{first_entries, entry_or_first, source_entry, order_along, is_chosen}
+use Rattle.vx_check_options.specs.Laws.{may_begin}
+use Rattle.vx_check_options.proofs.Entries.{entry-itself, lone-entry, has-first, any-entry, kept-passes, copy-column, copy-back}
 
 -- ---- copies and what they are copies of
 
@@ -69,129 +72,128 @@ are_front_copies k xs [] = true
 are_front_copies k [] (c ∷ cs) = false
 are_front_copies k (x ∷ xs) (c ∷ cs) = contains (copies k x) c && are_front_copies k xs cs
 
--- a copy of one of these columns, and which one
-copied-from : (k : Copying) (s : List ℕ) (c : ℕ) → contains (flat_map (copies k) s) c ≡ true → (x : ℕ) × (contains s x ≡ true) × (contains (copies k x) c ≡ true)
-copied-from k [] c h = absurd (true≢false (sym h))
-copied-from k (x ∷ xs) c h = by (contains (copies k x) c) refl (copied-from k xs c) (sym (list_any-append (λ y. c == y) (copies k x) (flat_map (copies k) xs)) ∙ h)
-  where
-    by : (b : Bool) → contains (copies k x) c ≡ b → (contains (flat_map (copies k) xs) c ≡ true → (z : ℕ) × (contains xs z ≡ true) × (contains (copies k z) c ≡ true))
-        → (b || contains (flat_map (copies k) xs) c) ≡ true → (z : ℕ) × (contains (x ∷ xs) z ≡ true) × (contains (copies k z) c ≡ true)
-    by true e more l = (x, ap (λ b. b || contains xs x) (eq-eqb x x refl), e)
-    by false e more l = let w = more l in (w.0, grind (arith, w.1), w.2)
+-- a copy of one of these entries, and which one
+copied-from : (k : Copying) (s : List OrderEntry) (c : OrderEntry) → has_entry (flat_map (entry_copies k) s) c ≡ true
+    → (x : OrderEntry) × (has_entry s x ≡ true) × (has_entry (entry_copies k x) c ≡ true)
+copied-from k s c h = any-entry (λ x. has_entry (entry_copies k x) c) s (sym (any-flat (entry_eq c) (entry_copies k) s) ∙ h)
 
 -- ---- orders along copies
 
--- there is a column for each place
+-- there is an entry for each place
 abbrev pub are_filled : OrderChoices → Bool
 are_filled places = list_all is_some_list places
 
--- the first column of each place is chosen
-pub first-columns-chosen : (places : OrderChoices) → are_filled places ≡ true → is_chosen (first_columns places) places ≡ true
-first-columns-chosen [] h = refl
-first-columns-chosen ([] ∷ places) h = absurd (true≢false (sym h))
-first-columns-chosen ((c ∷ cs) ∷ places) h =
-    and-both (contains (c ∷ cs) c) (is_chosen (first_columns places) places) (ap (λ b. b || contains cs c) (eq-eqb c c refl)) (first-columns-chosen places h)
+-- the first entry of each place is chosen
+pub first-entries-chosen : (places : OrderChoices) → are_filled places ≡ true → is_chosen (first_entries places) places ≡ true
+first-entries-chosen [] h = refl
+first-entries-chosen ([] ∷ places) h = absurd (true≢false (sym h))
+first-entries-chosen ((c ∷ cs) ∷ places) h =
+    and-both (has_entry (c ∷ cs) c) (is_chosen (first_entries places) places) (has-first c cs) (first-entries-chosen places h)
 
--- each column is the one copy of itself
-whole-flat : (s : List ℕ) → flat_map (copies whole_rows) s ≡ s
+-- each entry is the one copy of itself
+whole-flat : (s : List OrderEntry) → flat_map (entry_copies whole_rows) s ≡ s
 whole-flat [] = refl
 whole-flat (x ∷ xs) = ap (λ l. x ∷ l) (whole-flat xs)
 
 -- whole rows have their own places
-pub front-whole : (order : List ℕ) (places : OrderChoices) → is_front order places ≡ true → is_front order (places_up whole_rows places) ≡ true
-front-whole [] places h = refl
-front-whole (c ∷ cs) [] h = h
-front-whole (c ∷ cs) ([] ∷ places) h = absurd (true≢false (sym h))
-front-whole (c ∷ cs) ((d ∷ ds) ∷ places) h =
-    and-both (contains (d ∷ flat_map (copies whole_rows) ds) c) (is_front cs (places_up whole_rows places))
-    (ap (λ l. contains (d ∷ l) c) (whole-flat ds) ∙ and-left (contains (d ∷ ds) c) (is_front cs places) h)
-    (front-whole cs places (and-right (contains (d ∷ ds) c) (is_front cs places) h))
+pub begin-whole : (order : List OrderEntry) (places : OrderChoices) → may_begin order places ≡ true → may_begin order (places_up whole_rows places) ≡ true
+begin-whole [] places h = refl
+begin-whole (c ∷ cs) [] h = h
+begin-whole (c ∷ cs) ([] ∷ places) h = absurd (true≢false (sym h))
+begin-whole (c ∷ cs) ((d ∷ ds) ∷ places) h =
+    and-both (has_entry (d ∷ flat_map (entry_copies whole_rows) ds) c) (may_begin cs (places_up whole_rows places))
+    (ap (λ l. has_entry (d ∷ l) c) (whole-flat ds) ∙ and-left (has_entry (d ∷ ds) c) (may_begin cs places) h)
+    (begin-whole cs places (and-right (has_entry (d ∷ ds) c) (may_begin cs places) h))
 
 -- what stands at a place may stand there
-column-stands : (s : List ℕ) (c : ℕ) → is_some_list s ≡ true → contains s (column_at s c) ≡ true
-column-stands [] c h = absurd (true≢false (sym h))
-column-stands (d ∷ ds) c h = by (contains (d ∷ ds) c) refl
+entry-stands : (s : List OrderEntry) (c : OrderEntry) → is_some_list s ≡ true → has_entry s (entry_or_first s c) ≡ true
+entry-stands [] c h = absurd (true≢false (sym h))
+entry-stands (d ∷ ds) c h = by (has_entry (d ∷ ds) c) refl
   where
-    by : (b : Bool) → contains (d ∷ ds) c ≡ b → contains (d ∷ ds) (cond b c d) ≡ true
+    by : (b : Bool) → has_entry (d ∷ ds) c ≡ b → has_entry (d ∷ ds) (cond b c d) ≡ true
     by true e = e
-    by false e = ap (λ b. b || contains ds d) (eq-eqb d d refl)
+    by false e = has-first d ds
 
--- a column that may stand there stays
-column-stays : (s : List ℕ) (c : ℕ) → contains s c ≡ true → column_at s c ≡ c
-column-stays [] c h = absurd (true≢false (sym h))
-column-stays (d ∷ ds) c h = ap (λ b. cond b c d) h
+-- an entry that may stand there stays
+entry-stays : (s : List OrderEntry) (c : OrderEntry) → has_entry s c ≡ true → entry_or_first s c ≡ c
+entry-stays [] c h = absurd (true≢false (sym h))
+entry-stays (d ∷ ds) c h = ap (λ b. cond b c d) h
 
 -- the order that an input gets is chosen from its places
-pub along-chosen : (k : Copying) (order : List ℕ) (places : OrderChoices) → are_filled places ≡ true → is_chosen (order_along k order places) places ≡ true
-along-chosen k [] places h = first-columns-chosen places h
+pub along-chosen : (k : Copying) (order : List OrderEntry) (places : OrderChoices) → are_filled places ≡ true → is_chosen (order_along k order places) places ≡ true
+along-chosen k [] places h = first-entries-chosen places h
 along-chosen k (c ∷ cs) [] h = refl
 along-chosen k (c ∷ cs) (s ∷ places) h =
-    and-both (contains s (column_at s (unwrap_or (source k c) 0))) (is_chosen (order_along k cs places) places)
-    (column-stands s (unwrap_or (source k c) 0) (and-left (is_some_list s) (are_filled places) h)) (along-chosen k cs places (and-right (is_some_list s) (are_filled places) h))
+    and-both (has_entry s (entry_or_first s (source_entry k c))) (is_chosen (order_along k cs places) places)
+    (entry-stands s (source_entry k c) (and-left (is_some_list s) (are_filled places) h)) (along-chosen k cs places (and-right (is_some_list s) (are_filled places) h))
 
--- and an order of the output that goes with their copies is copies of it
-pub along-copies : (k : Copying) (order : List ℕ) (places : OrderChoices) → is_front order (places_up k places) ≡ true → are_front_copies k (order_along k order places) order ≡ true
+-- and the columns of an order of the output that goes with their copies are copies of its columns
+pub along-copies : (k : Copying) (order : List OrderEntry) (places : OrderChoices) → may_begin order (places_up k places) ≡ true
+    → are_front_copies k (order_columns (order_along k order places)) (order_columns order) ≡ true
 along-copies k [] places h = refl
 along-copies k (c ∷ cs) [] h = absurd (true≢false (sym h))
-along-copies k (c ∷ cs) (s ∷ places) h = by (flat_map (copies k) s) refl (along-copies k cs places) h
+along-copies k (c ∷ cs) (s ∷ places) h = by (flat_map (entry_copies k) s) refl (along-copies k cs places) h
   where
-    by : (l : List ℕ) → flat_map (copies k) s ≡ l → (is_front cs (places_up k places) ≡ true → are_front_copies k (order_along k cs places) cs ≡ true)
-        → is_front (c ∷ cs) (place_then l (places_up k places)) ≡ true → are_front_copies k (order_along k (c ∷ cs) (s ∷ places)) (c ∷ cs) ≡ true
+    by : (l : List OrderEntry) → flat_map (entry_copies k) s ≡ l
+        → (may_begin cs (places_up k places) ≡ true → are_front_copies k (order_columns (order_along k cs places)) (order_columns cs) ≡ true)
+        → may_begin (c ∷ cs) (place_then l (places_up k places)) ≡ true → are_front_copies k (order_columns (order_along k (c ∷ cs) (s ∷ places))) (order_columns (c ∷ cs)) ≡ true
     by [] e more l = absurd (true≢false (sym l))
     by (d ∷ ds) e more l =
-        let w = copied-from k s c (ap (λ m. contains m c) e ∙ and-left (contains (d ∷ ds) c) (is_front cs (places_up k places)) l) in
-        let a : column_at s (unwrap_or (source k c) 0) ≡ w.0 = ap (λ o. column_at s (unwrap_or o 0)) (copy-source k w.0 c w.2) ∙ column-stays s w.0 w.1 in
-        and-both (contains (copies k (column_at s (unwrap_or (source k c) 0))) c) (are_front_copies k (order_along k cs places) cs)
-        (ap (λ x. contains (copies k x) c) a ∙ w.2) (more (and-right (contains (d ∷ ds) c) (is_front cs (places_up k places)) l))
+        let w = copied-from k s c (ap (λ m. has_entry m c) e ∙ and-left (has_entry (d ∷ ds) c) (may_begin cs (places_up k places)) l) in
+        let column : contains (copies k w.0.column) c.column ≡ true = copy-column k w.0 c w.2 in
+        let from : source_entry k c ≡ w.0 = ap (λ o. entry_at (unwrap_or o 0) c) (copy-source k w.0.column c.column column) ∙ copy-back k w.0 c w.2 in
+        let a : entry_or_first s (source_entry k c) ≡ w.0 = ap (entry_or_first s) from ∙ entry-stays s w.0 w.1 in
+        and-both (contains (copies k (entry_or_first s (source_entry k c)).column) c.column) (are_front_copies k (order_columns (order_along k cs places)) (order_columns cs))
+        (ap (λ (x : OrderEntry). contains (copies k x.column) c.column) a ∙ column) (more (and-right (has_entry (d ∷ ds) c) (may_begin cs (places_up k places)) l))
 
 -- ---- narrowed places
 
 -- a chosen order goes with its places
-pub chosen-front : (order : List ℕ) (places : OrderChoices) → is_chosen order places ≡ true → is_front order places ≡ true
-chosen-front [] places h = refl
-chosen-front (c ∷ cs) [] h = h
-chosen-front (c ∷ cs) (s ∷ places) h =
-    and-both (contains s c) (is_front cs places) (and-left (contains s c) (is_chosen cs places) h) (chosen-front cs places (and-right (contains s c) (is_chosen cs places) h))
+pub chosen-begins : (order : List OrderEntry) (places : OrderChoices) → is_chosen order places ≡ true → may_begin order places ≡ true
+chosen-begins [] places h = refl
+chosen-begins (c ∷ cs) [] h = h
+chosen-begins (c ∷ cs) (s ∷ places) h =
+    and-both (has_entry s c) (may_begin cs places) (and-left (has_entry s c) (is_chosen cs places) h) (chosen-begins cs places (and-right (has_entry s c) (is_chosen cs places) h))
 
 -- an order of narrowed places goes with the wider ones
-pub front-narrowed : (cols order : List ℕ) (places : OrderChoices) → is_front order (or_nowhere (narrowed cols places)) ≡ true → is_front order places ≡ true
-front-narrowed [] order places h = h
-front-narrowed (x ∷ xs) [] places h = refl
-front-narrowed (x ∷ xs) (c ∷ cs) [] h = h
-front-narrowed (x ∷ xs) (c ∷ cs) (s ∷ places) h = by (contains s x) refl (narrowed xs places) (front-narrowed xs cs places) h
+pub narrowed-begins : (cols order : List OrderEntry) (places : OrderChoices) → may_begin order (or_nowhere (narrowed cols places)) ≡ true → may_begin order places ≡ true
+narrowed-begins [] order places h = h
+narrowed-begins (x ∷ xs) [] places h = refl
+narrowed-begins (x ∷ xs) (c ∷ cs) [] h = h
+narrowed-begins (x ∷ xs) (c ∷ cs) (s ∷ places) h = by (has_entry s x) refl (narrowed xs places) (narrowed-begins xs cs places) h
   where
-    by : (b : Bool) → contains s x ≡ b → (o : Option OrderChoices) → (is_front cs (or_nowhere o) ≡ true → is_front cs places ≡ true)
-        → is_front (c ∷ cs) (or_nowhere (cond b (option_map (λ more. (x ∷ []) ∷ more) o) None)) ≡ true → is_front (c ∷ cs) (s ∷ places) ≡ true
+    by : (b : Bool) → has_entry s x ≡ b → (o : Option OrderChoices) → (may_begin cs (or_nowhere o) ≡ true → may_begin cs places ≡ true)
+        → may_begin (c ∷ cs) (or_nowhere (cond b (option_map (λ more. (x ∷ []) ∷ more) o) None)) ≡ true → may_begin (c ∷ cs) (s ∷ places) ≡ true
     by true e (Some more) next l =
-        and-both (contains s c) (is_front cs places)
-        (ap (contains s) (lone-is x c (and-left (contains (x ∷ []) c) (is_front cs more) l)) ∙ e)
-        (next (and-right (contains (x ∷ []) c) (is_front cs more) l))
+        and-both (has_entry s c) (may_begin cs places)
+        (ap (has_entry s) (lone-entry x c (and-left (has_entry (x ∷ []) c) (may_begin cs more) l)) ∙ e)
+        (next (and-right (has_entry (x ∷ []) c) (may_begin cs more) l))
     by true e None next l = absurd (true≢false (sym l))
     by false e o next l = absurd (true≢false (sym l))
 
--- an order of narrowed places begins with their columns
-pub prefix-chosen : (cols order : List ℕ) (places : OrderChoices) → is_some (narrowed cols places) ≡ true → is_chosen order (or_nowhere (narrowed cols places)) ≡ true → is_prefix cols order ≡ true
-prefix-chosen [] order places some h = refl
-prefix-chosen (x ∷ xs) order [] some h = absurd (true≢false (sym some))
-prefix-chosen (x ∷ xs) order (s ∷ places) some h = by (contains s x) (narrowed xs places) order (λ cs. prefix-chosen xs cs places) some h
+-- an order of narrowed places begins with what they are narrowed to
+pub begins-chosen : (cols order : List OrderEntry) (places : OrderChoices) → is_some (narrowed cols places) ≡ true → is_chosen order (or_nowhere (narrowed cols places)) ≡ true → is_front cols order ≡ true
+begins-chosen [] order places some h = refl
+begins-chosen (x ∷ xs) order [] some h = absurd (true≢false (sym some))
+begins-chosen (x ∷ xs) order (s ∷ places) some h = by (has_entry s x) (narrowed xs places) order (λ cs. begins-chosen xs cs places) some h
   where
-    by : (b : Bool) (o : Option OrderChoices) (order : List ℕ) → ((cs : List ℕ) → is_some o ≡ true → is_chosen cs (or_nowhere o) ≡ true → is_prefix xs cs ≡ true)
+    by : (b : Bool) (o : Option OrderChoices) (order : List OrderEntry) → ((cs : List OrderEntry) → is_some o ≡ true → is_chosen cs (or_nowhere o) ≡ true → is_front xs cs ≡ true)
         → is_some (cond b (option_map (λ more. (x ∷ []) ∷ more) o) None) ≡ true
-        → is_chosen order (or_nowhere (cond b (option_map (λ more. (x ∷ []) ∷ more) o) None)) ≡ true → is_prefix (x ∷ xs) order ≡ true
+        → is_chosen order (or_nowhere (cond b (option_map (λ more. (x ∷ []) ∷ more) o) None)) ≡ true → is_front (x ∷ xs) order ≡ true
     by true (Some more) [] next t l = absurd (true≢false (sym l))
     by true (Some more) (c ∷ cs) next t l =
-        and-both (x == c) (is_prefix xs cs) (eq-eqb x c (sym (lone-is x c (and-left (contains (x ∷ []) c) (is_chosen cs more) l))))
-        (next cs refl (and-right (contains (x ∷ []) c) (is_chosen cs more) l))
+        and-both (entry_eq x c) (is_front xs cs) (ap (entry_eq x) (lone-entry x c (and-left (has_entry (x ∷ []) c) (is_chosen cs more) l)) ∙ entry-itself x)
+        (next cs refl (and-right (has_entry (x ∷ []) c) (is_chosen cs more) l))
     by true None order next t l = absurd (true≢false (sym t))
     by false o order next t l = absurd (true≢false (sym t))
 
 -- ---- no place is empty
 
 -- narrowed places are filled
-pub nowhere-filled : (cols : List ℕ) (places : OrderChoices) → are_filled places ≡ true → are_filled (or_nowhere (narrowed cols places)) ≡ true
+pub nowhere-filled : (cols : List OrderEntry) (places : OrderChoices) → are_filled places ≡ true → are_filled (or_nowhere (narrowed cols places)) ≡ true
 nowhere-filled [] places h = h
 nowhere-filled (x ∷ xs) [] h = refl
-nowhere-filled (x ∷ xs) (s ∷ places) h = by (contains s x) (narrowed xs places) (nowhere-filled xs places (and-right (is_some_list s) (are_filled places) h))
+nowhere-filled (x ∷ xs) (s ∷ places) h = by (has_entry s x) (narrowed xs places) (nowhere-filled xs places (and-right (is_some_list s) (are_filled places) h))
   where
     by : (b : Bool) (o : Option OrderChoices) → are_filled (or_nowhere o) ≡ true → are_filled (or_nowhere (cond b (option_map (λ more. (x ∷ []) ∷ more) o) None)) ≡ true
     by true (Some more) next = next
@@ -199,19 +201,19 @@ nowhere-filled (x ∷ xs) (s ∷ places) h = by (contains s x) (narrowed xs plac
     by false o next = refl
 
 -- and those with others in front
-then-filled : (s : List ℕ) (places : OrderChoices) → are_filled places ≡ true → are_filled (place_then s places) ≡ true
+then-filled : (s : List OrderEntry) (places : OrderChoices) → are_filled places ≡ true → are_filled (place_then s places) ≡ true
 then-filled [] places h = refl
 then-filled (c ∷ cs) places h = h
 
--- and those of one column each
-pub singles-filled : (cols : List ℕ) → are_filled (singles cols) ≡ true
+-- and those of one entry each
+pub singles-filled : (cols : List OrderEntry) → are_filled (singles cols) ≡ true
 singles-filled [] = refl
 singles-filled (c ∷ cs) = singles-filled cs
 
 -- and those of copies
 pub up-filled : (k : Copying) (places : OrderChoices) → are_filled (places_up k places) ≡ true
 up-filled k [] = refl
-up-filled k (s ∷ places) = then-filled (flat_map (copies k) s) (places_up k places) (up-filled k places)
+up-filled k (s ∷ places) = then-filled (flat_map (entry_copies k) s) (places_up k places) (up-filled k places)
 
 -- and those of a concat
 pub rising-filled : (parts : List Part) (places : OrderChoices) → are_filled places ≡ true → are_filled (rising parts places) ≡ true
@@ -221,28 +223,15 @@ rising-filled parts (s ∷ places) h =
 
 -- ---- the places of a concat
 
--- what a filter keeps was there
-filtered : (test : ℕ → Bool) (s : List ℕ) (c : ℕ) → contains (filter test s) c ≡ true → contains s c ≡ true
-filtered test [] c h = h
-filtered test (x ∷ xs) c h = by (test x) (filtered test xs c) h
-  where
-    behind : (d : Bool) → (contains (filter test xs) c ≡ true → contains xs c ≡ true) → (d || contains (filter test xs) c) ≡ true → (d || contains xs c) ≡ true
-    behind true next l = refl
-    behind false next l = next l
-
-    by : (b : Bool) → (contains (filter test xs) c ≡ true → contains xs c ≡ true) → contains (cond b (x ∷ filter test xs) (filter test xs)) c ≡ true → contains (x ∷ xs) c ≡ true
-    by true next l = behind (c == x) next l
-    by false next l = or-right (c == x) (contains xs c) (next l)
-
 -- an order by which the rows rise goes with all places
-pub front-rising : (parts : List Part) (order : List ℕ) (places : OrderChoices) → is_front order (rising parts places) ≡ true → is_front order places ≡ true
-front-rising parts [] places h = refl
-front-rising parts (c ∷ cs) [] h = h
-front-rising parts (c ∷ cs) (s ∷ places) h = by (filter (λ c. list_any (λ x. rises_by x (c ∷ [])) parts) s) refl h
+pub rising-begins : (parts : List Part) (order : List OrderEntry) (places : OrderChoices) → may_begin order (rising parts places) ≡ true → may_begin order places ≡ true
+rising-begins parts [] places h = refl
+rising-begins parts (c ∷ cs) [] h = h
+rising-begins parts (c ∷ cs) (s ∷ places) h = by (filter (λ c. list_any (λ x. rises_by x (c ∷ [])) parts) s) refl h
   where
-    by : (l : List ℕ) → filter (λ c. list_any (λ x. rises_by x (c ∷ [])) parts) s ≡ l → is_front (c ∷ cs) (place_then l places) ≡ true → is_front (c ∷ cs) (s ∷ places) ≡ true
+    by : (l : List OrderEntry) → filter (λ c. list_any (λ x. rises_by x (c ∷ [])) parts) s ≡ l → may_begin (c ∷ cs) (place_then l places) ≡ true → may_begin (c ∷ cs) (s ∷ places) ≡ true
     by [] e k = absurd (true≢false (sym k))
     by (d ∷ ds) e k =
-        and-both (contains s c) (is_front cs places)
-        (filtered (λ c. list_any (λ x. rises_by x (c ∷ [])) parts) s c (ap (λ l. contains l c) e ∙ and-left (contains (d ∷ ds) c) (is_front cs places) k))
-        (and-right (contains (d ∷ ds) c) (is_front cs places) k)
+        and-both (has_entry s c) (may_begin cs places)
+        (kept-passes (λ z. list_any (λ x. rises_by x (z ∷ [])) parts) s c (ap (λ l. has_entry l c) e ∙ and-left (has_entry (d ∷ ds) c) (may_begin cs places) k)).0
+        (and-right (has_entry (d ∷ ds) c) (may_begin cs places) k)

@@ -1,6 +1,7 @@
 -- The parts that are placed are options of their nodes.
 use Rattle.std.proofs.Common.{◌≡◌, ℕ, Bool, true, false, cond, ◌&&◌, ◌||◌, ◌==◌, List, [], ◌∷◌, Option, Some, None, option_map, unwrap_or, refl, sym, ap, ◌∙◌, true≢false, eqb-true, eq-eqb}
 use Rattle.std.specs.List.{list_any, list_all, find}
+use Rattle.vx_rows_values.specs.declared.order.OrderEntry.{OrderEntry}
 use Rattle.vx_rows_values.proofs.Booleans.{and-left, and-right, and-both}
 use Rattle.vx_catalog_relations.specs.Relation.{Relation}
 use Rattle.vx_plan_nodes.specs.Plan.{Route, by_hash, by_range, Part, one, any, all, routed, ExchangeKind, route_to, round, broadcast, gather, concat, Plan}
@@ -141,7 +142,7 @@ parts_below-options catalog p q lefts rights = by (first_two (is_given catalog p
     by (Some w) e = let h = two-listed (is_given catalog p q) w.0 w.1 lefts rights e in (listed-option w.0 lefts h.0, listed-option w.1 rights h.1)
 
 -- the part of the input of an exchange is an option of it
-pub part_sent-option : (k : ExchangeKind) (order : List ℕ) (parts : List Part) → is_option parts (part_sent k order parts) ≡ true
+pub part_sent-option : (k : ExchangeKind) (order : List OrderEntry) (parts : List Part) → is_option parts (part_sent k order parts) ≡ true
 part_sent-option (route_to z r cols) order parts = first-option parts
 part_sent-option (round z) order parts = first-option parts
 part_sent-option (broadcast z) order parts = first-option parts

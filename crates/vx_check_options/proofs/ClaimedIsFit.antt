@@ -1,5 +1,6 @@
 -- The checker refuses claims with the keys that are found exactly where no claims fit, or where a limit's first rows are not known with them.
 use Rattle.std.proofs.Common.{◌≡◌, ℕ, Bool, true, false, ◌∷◌, [], List, None, Option, sym, ap, ◌∙◌, subst, refl}
+use Rattle.vx_rows_values.specs.declared.order.OrderEntry.{OrderEntry}
 use Rattle.vx_rows_values.proofs.Booleans.{and-left, and-right}
 use Rattle.vx_catalog_relations.specs.Relation.{Relation}
 use Rattle.vx_catalog_relations.specs.Catalog.{relation_at}
@@ -54,7 +55,7 @@ none-unfit catalog (exchange n c k m p) x h =
 
 -- ---- the checker
 
-node-claimed : (s : Scope) (p : Plan) (q : Part) (order : List ℕ) (x : Plan) → typed s p ≡ true → Placeable (relation_at s.catalog) p → InputsFit (relation_at s.catalog) p
+node-claimed : (s : Scope) (p : Plan) (q : Part) (order : List OrderEntry) (x : Plan) → typed s p ≡ true → Placeable (relation_at s.catalog) p → InputsFit (relation_at s.catalog) p
     → is_option (parts_at (relation_at s.catalog) p) q ≡ true → is_chosen order (places_at (relation_at s.catalog) p) ≡ true → IsClaimed (relation_at s.catalog) p q order x → (i : ℕ)
     → refused_at i (node_tests (relation_at s.catalog) x) ≡ refused_at i (fit_tests_with (first_rows_known (relation_at s.catalog) x) (relation_at s.catalog) p)
 node-claimed s p q order x t how fits o ch h i =
@@ -64,7 +65,7 @@ node-claimed s p q order x t how fits o ch h i =
     ap (refused_at i) (sym (tests-without known catalog x keys.shown)) ∙ ap (λ y. refused_at i (tests_with known catalog y)) (claimed-placed catalog p q order x h)
     ∙ placed-node s p q order t how fits o ch known i
 
-refused-claimed : (s : Scope) (p : Plan) (q : Part) (order : List ℕ) (x : Plan) → typed s p ≡ true → Placeable (relation_at s.catalog) p → is_option (parts_at (relation_at s.catalog) p) q ≡ true
+refused-claimed : (s : Scope) (p : Plan) (q : Part) (order : List OrderEntry) (x : Plan) → typed s p ≡ true → Placeable (relation_at s.catalog) p → is_option (parts_at (relation_at s.catalog) p) q ≡ true
     → is_chosen order (places_at (relation_at s.catalog) p) ≡ true → IsClaimed (relation_at s.catalog) p q order x → first_refused (relation_at s.catalog) x ≡ unfit_in (relation_at s.catalog) p x
 refused-claimed s (scan n c r m z) q order x t how o ch h =
     let catalog = relation_at s.catalog in

@@ -1,6 +1,7 @@
 -- Claims that are placed, with the keys that are found, tell the most at every node.
 use Rattle.std.proofs.Common.{◌≡◌, ◌≤◌, ℕ, Bool, ◌||◌, List, [], ◌∷◌, ◌++◌, length, refl, sym, ap, ◌∙◌, subst}
 use Rattle.std.specs.List.{list_any}
+use Rattle.vx_rows_values.specs.declared.order.OrderEntry.{OrderEntry}
 use Rattle.vx_catalog_relations.specs.Relation.{Relation}
 use Rattle.vx_catalog_relations.specs.Catalog.{relation_at, all_below}
 use Rattle.vx_plan_nodes.specs.Plan.{Part, routed, Claim, union, join, semi_join, ExchangeKind, route_to, round, broadcast, gather, concat, Plan, scan, unary, binary, exchange, claim, size, is_one}
@@ -25,7 +26,7 @@ unkeyed (binary n c op p q) = binary n (keyless c.part c.order) op (unkeyed p) (
 unkeyed (exchange n c k m p) = exchange n (keyless c.part c.order) k m (unkeyed p)
 
 -- claims with the keys that are found are what is placed, but for the keys
-unkeyed-claimed : (catalog : ℕ → Relation) (p : Plan) (q : Part) (order : List ℕ) (x : Plan) → IsClaimed catalog p q order x → unkeyed x ≡ placed catalog p q order
+unkeyed-claimed : (catalog : ℕ → Relation) (p : Plan) (q : Part) (order : List OrderEntry) (x : Plan) → IsClaimed catalog p q order x → unkeyed x ≡ placed catalog p q order
 unkeyed-claimed catalog (scan n c r m z) q order x f = ap unkeyed f.1
 unkeyed-claimed catalog (unary n c op p) q order x f = ap unkeyed f.2 ∙ ap (λ y. unary n (keyless q order) op y) (unkeyed-claimed catalog p _ _ f.1 f.3)
 unkeyed-claimed catalog (binary n c op p p2) q order x f =
@@ -63,7 +64,7 @@ own-unkeyed : (p : Plan) → own (unkeyed p) ≡ own p
 own-unkeyed p = ap (λ z. (is_one z, (claim (unkeyed p)).part)) (size-unkeyed p) ∙ ap (λ (c : Claim). (is_one (size p), c.part)) (claim-unkeyed p)
 
 -- they have as many columns as the plan
-width-claimed : (catalog : ℕ → Relation) (p : Plan) (q : Part) (order : List ℕ) (x : Plan) → IsClaimed catalog p q order x → width catalog x ≡ width catalog p
+width-claimed : (catalog : ℕ → Relation) (p : Plan) (q : Part) (order : List OrderEntry) (x : Plan) → IsClaimed catalog p q order x → width catalog x ≡ width catalog p
 width-claimed catalog p q order x f = sym (width-unkeyed catalog x) ∙ (ap (width catalog) (unkeyed-claimed catalog p q order x f) ∙ width-placed catalog p q order)
 
 -- ---- the parts and the orders that are shown
@@ -121,7 +122,7 @@ each-keyed catalog (exchange n c k m p) h = (each-keyed catalog p h.0, strongest
 -- ---- keys
 
 -- the keys that are found at each node are all that there are
-each-found : (catalog : ℕ → Relation) (p : Plan) (q : Part) (order : List ℕ) (x : Plan) → IsClaimed catalog p q order x → AtEach (HasAllKeys catalog) x
+each-found : (catalog : ℕ → Relation) (p : Plan) (q : Part) (order : List OrderEntry) (x : Plan) → IsClaimed catalog p q order x → AtEach (HasAllKeys catalog) x
 each-found catalog (scan n c r m z) q order x f = subst (λ y. AtEach (HasAllKeys catalog) y) (sym f.1) (record { apart = f.2.apart; all = f.2.all })
 each-found catalog (unary n c op p) q order x f =
     let wide : width catalog f.1 ≡ width catalog p = width-claimed catalog p _ _ f.1 f.3 in

@@ -1,6 +1,8 @@
 -- Claims with the keys that are found are typed.
 use Rattle.std.proofs.Common.{◌≡◌, ℕ, nat_lt, nat_le, Bool, true, false, not, ◌&&◌, List, [], length, refl, sym, ap, ◌∙◌}
 use Rattle.std.specs.List.{list_all}
+use Rattle.vx_rows_values.specs.Order.{order_columns}
+use Rattle.vx_rows_values.specs.declared.order.OrderEntry.{OrderEntry}
 use Rattle.vx_rows_values.specs.declared.value.ColType.{ColType}
 use Rattle.vx_catalog_relations.specs.Relation.{Relation}
 use Rattle.vx_catalog_relations.specs.Catalog.{relation_at}
@@ -59,7 +61,7 @@ closed-without p q = rw (open-without p, open-without q) refl
 -- keys of columns that are there
 output-without : (s : Scope) (ts : List ColType) (w : ℕ) (c : Claim) → length ts ≡ w → list_all (are_columns w) c.keys ≡ true → is_output s ts (keyless c.part c.order) ≡ is_output s ts c
 output-without s ts w c e h =
-    ap (λ b. nat_le (length ts) 64 && (is_part s ts c.part && (are_columns (length ts) c.order && b))) (sym (ap (λ v. list_all (are_columns v) c.keys) e ∙ h))
+    ap (λ b. nat_le (length ts) 64 && (is_part s ts c.part && (are_columns (length ts) (order_columns c.order) && b))) (sym (ap (λ v. list_all (are_columns v) c.keys) e ∙ h))
 
 -- with keys of columns that are there, a plan is typed where it is without them
 typed-without : (s : Scope) (p : Plan) → AtEach (HasShownKeys (relation_at s.catalog)) p → typed s (without_keys p) ≡ typed s p
@@ -90,14 +92,14 @@ typed-without s (exchange n c k m p) h =
     (output-without s (types_of (relation_at s.catalog) p) _ c (types_of-width (relation_at s.catalog) p) h.1.columns)
   where
     same : {a a' : Bool} {ts ts' : List ColType} → a ≡ a' → ts ≡ ts' → is_output s ts' (keyless c.part c.order) ≡ is_output s ts' c
-        → (a && (is_kind s ts k && (are_columns (length ts) m && (may_merge k m && is_output s ts (keyless c.part c.order)))))
-        ≡ (a' && (is_kind s ts' k && (are_columns (length ts') m && (may_merge k m && is_output s ts' c))))
+        → (a && (is_kind s ts k && (are_columns (length ts) (order_columns m) && (may_merge k m && is_output s ts (keyless c.part c.order)))))
+        ≡ (a' && (is_kind s ts' k && (are_columns (length ts') (order_columns m) && (may_merge k m && is_output s ts' c))))
     same d e f = rw (d, e, f) refl
 
 -- ---- the law
 
 -- the nodes are those of the plan
-claimed-bare : (catalog : ℕ → Relation) (p : Plan) (q : Part) (order : List ℕ) (x : Plan) → IsClaimed catalog p q order x → bare x ≡ bare p
+claimed-bare : (catalog : ℕ → Relation) (p : Plan) (q : Part) (order : List OrderEntry) (x : Plan) → IsClaimed catalog p q order x → bare x ≡ bare p
 claimed-bare catalog (scan n c r m z) q order x h = ap bare h.1
 claimed-bare catalog (unary n c op p) q order x h = ap bare h.2 ∙ ap (unary n (keyless any []) op) (claimed-bare catalog p _ _ h.1 h.3)
 claimed-bare catalog (binary n c op p p2) q order x h = ap bare h.3 ∙ both (claimed-bare catalog p _ _ h.1 h.4) (claimed-bare catalog p2 _ _ h.2 h.5)

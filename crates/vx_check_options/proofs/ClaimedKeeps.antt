@@ -1,11 +1,12 @@
 -- Claims that are placed, with the keys that are found, keep what an accepted plan claims.
 use Rattle.std.proofs.Common.{◌≡◌, ℕ, Bool, true, false, not, ◌&&◌, ◌||◌, inr, List, [], ◌∷◌, refl, sym, ap, ◌∙◌, subst, None}
 use Rattle.std.specs.List.{list_all}
+use Rattle.vx_rows_values.specs.declared.order.OrderEntry.{OrderEntry}
 use Rattle.vx_rows_values.proofs.Booleans.{and-left, and-right}
 use Rattle.vx_catalog_relations.specs.Relation.{Relation}
 use Rattle.vx_catalog_relations.specs.Catalog.{relation_at}
 use Rattle.vx_plan_nodes.specs.Plan.{Part, one, any, all, routed, Claim, Plan, scan, unary, binary, exchange, claim}
-use Rattle.vx_check_rules.specs.Rules.{contains, within, is_prefix, covers, sizes_match, not_replicated, inputs_match, order_given, first_rows_known, part_shown, order_shown, keys_shown, allowed_here, allowed}
+use Rattle.vx_check_rules.specs.Rules.{contains, within, is_front, covers, sizes_match, not_replicated, inputs_match, order_given, first_rows_known, part_shown, order_shown, keys_shown, allowed_here, allowed}
 use Rattle.vx_check_rules.specs.Behaviour.{Keyed, keyed_from, behaviour, shown_key}
 use Rattle.vx_check_rules.specs.Exactly.{KeysNameColumns}
 use Rattle.vx_check_rules.proofs.Bools.{all-more}
@@ -16,8 +17,8 @@ use Rattle.vx_check_options.specs.Placed.{keyless, placed}
 use Rattle.vx_check_options.specs.Laws.{keeps_part, KeepsClaim, Keeps}
 use Rattle.vx_check_options.specs.FoundKeys.{show}
 use Rattle.vx_check_options.specs.Claimed.{note, FoundAt, IsClaimed, KeepsKeysOf, KeepsKeys, ClaimedKeeps}
+use Rattle.vx_check_options.proofs.Entries.{front-same}
 use Rattle.vx_check_options.proofs.Telling.{gives-self}
-use Rattle.vx_check_options.proofs.PlacedOrders.{prefix-same}
 use Rattle.vx_check_options.proofs.OnlyOptions.{only-options}
 use Rattle.vx_check_options.proofs.PlacedKeeps.{placed-keeps}
 use Rattle.vx_check_options.proofs.KeysMonotone.{Wider, covered-passes, from-wider}
@@ -32,7 +33,7 @@ part-itself all = refl
 part-itself (routed r cols) = gives-self (routed r cols)
 
 claim-itself : (c : Claim) → KeepsClaim c c
-claim-itself c = (part-itself c.part, prefix-same c.order)
+claim-itself c = (part-itself c.part, front-same c.order)
 
 -- and each plan
 pub plan-itself : (p : Plan) → Keeps p p
@@ -42,11 +43,11 @@ plan-itself (binary n c op p q) = (c, p, q, refl, claim-itself c, plan-itself p,
 plan-itself (exchange n c k m p) = (c, p, refl, claim-itself c, plan-itself p)
 
 -- what a claim without keys keeps is kept with keys
-claim-keyed : (c d : Claim) (q : Part) (order : List ℕ) (keys : List (List ℕ)) → keyless q order ≡ d → KeepsClaim c d → KeepsClaim c (note q order keys)
-claim-keyed c d q order keys e k = (ap (λ (z : Claim). keeps_part c.part z.part) e ∙ k.0, ap (λ (z : Claim). is_prefix c.order z.order) e ∙ k.1)
+claim-keyed : (c d : Claim) (q : Part) (order : List OrderEntry) (keys : List (List ℕ)) → keyless q order ≡ d → KeepsClaim c d → KeepsClaim c (note q order keys)
+claim-keyed c d q order keys e k = (ap (λ (z : Claim). keeps_part c.part z.part) e ∙ k.0, ap (λ (z : Claim). is_front c.order z.order) e ∙ k.1)
 
 -- what is placed keeps, it keeps with keys
-keeps-keyed : (catalog : ℕ → Relation) (p : Plan) (q : Part) (order : List ℕ) (x : Plan) → Keeps p (placed catalog p q order) → IsClaimed catalog p q order x → Keeps p x
+keeps-keyed : (catalog : ℕ → Relation) (p : Plan) (q : Part) (order : List OrderEntry) (x : Plan) → Keeps p (placed catalog p q order) → IsClaimed catalog p q order x → Keeps p x
 keeps-keyed catalog (scan n c r m z) q order x k f = (note q order f.0, f.1, claim-keyed c k.0 q order f.0 (cc k.1) k.2)
 keeps-keyed catalog (unary n c op p) q order x k f =
     (note q order f.0, f.1, f.2, claim-keyed c k.0 q order f.0 (cc k.2) k.3, keeps-keyed catalog p _ _ f.1 (subst (λ y. Keeps p y) (cc k.2) k.4) f.3)
@@ -107,7 +108,7 @@ keys-at-top (binary n c op p q) x h = subst (λ y. KeepsKeysOf c (claim y)) (sym
 keys-at-top (exchange n c k m p) x h = subst (λ y. KeepsKeysOf c (claim y)) (sym h.2) h.3
 
 -- at every node: the inputs keep their keys, so that each claimed one is still shown, and a part of it is found
-keys-keep : (catalog : ℕ → Relation) (p : Plan) (q : Part) (order : List ℕ) (x : Plan) → KeysNameColumns catalog p → allowed catalog p ≡ true
+keys-keep : (catalog : ℕ → Relation) (p : Plan) (q : Part) (order : List OrderEntry) (x : Plan) → KeysNameColumns catalog p → allowed catalog p ≡ true
     → IsClaimed catalog p q order x → KeepsKeys p x
 keys-keep catalog (scan n c r m z) q order x named ok f =
     subst (λ y. KeepsKeysOf c (claim y)) (sym f.1) (keys-here catalog (scan n c r m z) [] [] f.0 f.2 named ok (λ key e. e))

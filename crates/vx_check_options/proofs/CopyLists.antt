@@ -49,15 +49,15 @@ found-later false n found more all e h = e
 found-later true n found more all e h = cc
 
 -- lists in memory of their own
-pub cloned-items : (vs ws : List (Vec ℕ Global)) → AllZip (λ (v w : Vec ℕ Global). AllZip (λ x y. y ≡ x) v.items w.items × (vec_len w ≡ vec_len v)) vs ws
-    → map (λ (w : Vec ℕ Global). w.items) ws ≡ map (λ (v : Vec ℕ Global). v.items) vs
+pub cloned-items : {X : Type 0} (vs ws : List (Vec X Global)) → AllZip (λ (v w : Vec X Global). AllZip (λ x y. y ≡ x) v.items w.items × (vec_len w ≡ vec_len v)) vs ws
+    → map (λ (w : Vec X Global). w.items) ws ≡ map (λ (v : Vec X Global). v.items) vs
 cloned-items [] [] e = refl
 cloned-items [] (w ∷ ws) e = absurd e
 cloned-items (v ∷ vs) [] e = absurd e
-cloned-items (v ∷ vs) (w ∷ ws) e = ap (λ x. x ∷ map (λ (u : Vec ℕ Global). u.items) ws) (each_same v.items w.items e.0.0) ∙ ap (λ xs. v.items ∷ xs) (cloned-items vs ws e.1)
+cloned-items (v ∷ vs) (w ∷ ws) e = ap (λ x. x ∷ map (λ u. u.items) ws) (each_same v.items w.items e.0.0) ∙ ap (λ xs. v.items ∷ xs) (cloned-items vs ws e.1)
 
-pub cloned-lists : {E : Type 0} (vs : List (Vec ℕ Global)) (r : Result (Vec (Vec ℕ Global) Global) E)
-    → IfOk r (λ ws. AllZip (λ (v w : Vec ℕ Global). AllZip (λ x y. y ≡ x) v.items w.items × (vec_len w ≡ vec_len v)) vs ws.items)
-    → IfOk r (λ ws. map (λ (w : Vec ℕ Global). w.items) ws.items ≡ map (λ (v : Vec ℕ Global). v.items) vs)
+pub cloned-lists : {X E : Type 0} (vs : List (Vec X Global)) (r : Result (Vec (Vec X Global) Global) E)
+    → IfOk r (λ ws. AllZip (λ (v w : Vec X Global). AllZip (λ x y. y ≡ x) v.items w.items × (vec_len w ≡ vec_len v)) vs ws.items)
+    → IfOk r (λ ws. map (λ (w : Vec X Global). w.items) ws.items ≡ map (λ (v : Vec X Global). v.items) vs)
 cloned-lists vs (Ok ws) e = cloned-items vs ws.items e
 cloned-lists vs (Err x) e = tt

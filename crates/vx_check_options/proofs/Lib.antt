@@ -1,3 +1,4 @@
+pub mod Entries
 pub mod CopyLists
 pub mod PartLists
 pub mod OptionFacts

@@ -1,12 +1,14 @@
 -- Lists that a loop makes, one item further.
-use Rattle.std.proofs.Common.{Vec, Global, ◌≡◌, ◌+◌, ◌<◌, ◌≤◌, ℕ, Bool, true, false, cond, List, [], ◌∷◌, ◌++◌, map, flat_map, take, drop, length, get_or, ◌==◌, sym, ap, ◌∙◌, append_assoc, arith}
+use Rattle.std.proofs.Common.{Vec, Global, ◌≡◌, ◌+◌, ◌<◌, ◌≤◌, ℕ, Bool, true, false, cond, List, [], ◌∷◌, ◌++◌, map, flat_map, take, drop, length, get_or, ◌==◌, Some, slice_get, sym, ap, ◌∙◌, append_assoc, arith}
 use Rattle.std.specs.List.{filter}
 use Rattle.std.proofs.lemmas.Bool.Decides.{nat_tests}
 use Rattle.std.proofs.lemmas.Grind.{flat_map-append}
 use Rattle.std.proofs.lemmas.List.{take_more, take_all, at_drop_more, append-nil, map_push, nil_from_length}
+use Rattle.std.proofs.lemmas.Option.{get_or_from_slice_get}
 use Rattle.std.proofs.lemmas.List.Elements.{filter-append}
+use Rattle.vx_rows_values.specs.declared.order.OrderEntry.{OrderEntry}
 use Rattle.vx_plan_nodes.specs.Describe.{Copying}
-use Rattle.vx_check_options.specs.Options.{copies, place_then, places_up}
+use Rattle.vx_check_options.specs.Options.{OrderChoices, singles, entry_copies, place_then, places_up}
 use Rattle.vx_check_options.proofs.OptionFacts.{then-some}
 
 -- what is made of all items
@@ -26,6 +28,13 @@ pub flat-next : {X Y : Type 0} (f : X → List Y) (xs : List X) (i : ℕ) (d : X
 flat-next f xs i d old new within is more =
     more ∙ ap (λ ys. ys ++ f (get_or xs i d)) is ∙ ap (λ ys. flat_map f (take i xs) ++ ys) (sym (append-nil (f (get_or xs i d))))
     ∙ sym (ap (flat_map f) (take_more xs i d within) ∙ flat_map-append f (take i xs) (get_or xs i d ∷ []))
+
+-- one entry for each item, behind those that are there
+pub map-next : {X Y : Type 0} (f : X → Y) (xs : List X) (i : ℕ) (d : X) (old new before : List Y) → i < length xs → old ≡ before ++ map f (take i xs) → new ≡ old ++ f (get_or xs i d) ∷ []
+    → new ≡ before ++ map f (take (i + 1) xs)
+map-next f xs i d old new before within is more =
+    more ∙ ap (λ ys. ys ++ f (get_or xs i d) ∷ []) is ∙ append_assoc before (map f (take i xs)) (f (get_or xs i d) ∷ [])
+    ∙ ap (λ ys. before ++ ys) (sym (ap (map f) (take_more xs i d within) ∙ map_push f (take i xs) (get_or xs i d)))
 
 -- the items that pass a test
 filtered : {X : Type 0} (test : X → Bool) (xs : List X) (i : ℕ) (d : X) (b : Bool) → i < length xs → b ≡ test (get_or xs i d)
@@ -61,25 +70,35 @@ front-next col vs i v copy made found new before within is copied put pushed lef
 pub same-eqb : (a b : ℕ) → a ≡ b → (a == b) ≡ true
 same-eqb a b e = grind (arith, nat_tests)
 
+-- one entry more, alone at its place
+pub single-next : (order : List OrderEntry) (i : ℕ) (e : OrderEntry) (old new : List (Vec OrderEntry Global)) (made : Vec OrderEntry Global) → i < length order → slice_get order i ≡ Some e → made.items ≡ e ∷ []
+    → new ≡ old ++ made ∷ [] → map (λ (u : Vec OrderEntry Global). u.items) old ≡ singles (take i order) → map (λ (u : Vec OrderEntry Global). u.items) new ≡ singles (take (i + 1) order)
+single-next order i e old new made within there alone put left =
+    let items : Vec OrderEntry Global → List OrderEntry = λ (u : Vec OrderEntry Global). u.items in
+    let one : OrderEntry → List OrderEntry = λ x. x ∷ [] in
+    ap (map items) put ∙ map_push items old made ∙ ap (λ ps. ps ++ made.items ∷ []) left
+    ∙ ap (λ s. singles (take i order) ++ s ∷ []) (alone ∙ ap one (sym (get_or_from_slice_get order i e e there)))
+    ∙ sym (ap singles (take_more order i e within) ∙ map_push one (take i order) (get_or order i e))
+
 -- the copies of what may stand at each place
-up-here : (k : Copying) (vs : List (Vec ℕ Global)) (i : ℕ) (v : Vec ℕ Global) (found : List ℕ) → i < length vs → v ≡ get_or vs i v → found ≡ flat_map (copies k) v.items
-    → places_up k (map (λ (u : Vec ℕ Global). u.items) (drop i vs)) ≡ place_then found (places_up k (map (λ (u : Vec ℕ Global). u.items) (drop (i + 1) vs)))
+up-here : (k : Copying) (vs : List (Vec OrderEntry Global)) (i : ℕ) (v : Vec OrderEntry Global) (found : List OrderEntry) → i < length vs → v ≡ get_or vs i v → found ≡ flat_map (entry_copies k) v.items
+    → places_up k (map (λ (u : Vec OrderEntry Global). u.items) (drop i vs)) ≡ place_then found (places_up k (map (λ (u : Vec OrderEntry Global). u.items) (drop (i + 1) vs)))
 up-here k vs i v found within is all =
-    at_drop_more (λ (us : List (Vec ℕ Global)). places_up k (map (λ (u : Vec ℕ Global). u.items) us)) vs i v within
-    ∙ ap (λ cs. place_then cs (places_up k (map (λ (u : Vec ℕ Global). u.items) (drop (i + 1) vs)))) (sym (all ∙ ap (λ (u : Vec ℕ Global). flat_map (copies k) u.items) is))
+    at_drop_more (λ (us : List (Vec OrderEntry Global)). places_up k (map (λ (u : Vec OrderEntry Global). u.items) us)) vs i v within
+    ∙ ap (λ cs. place_then cs (places_up k (map (λ (u : Vec OrderEntry Global). u.items) (drop (i + 1) vs)))) (sym (all ∙ ap (λ (u : Vec OrderEntry Global). flat_map (entry_copies k) u.items) is))
 
 -- up to a place that has none
-pub up-done : (k : Copying) (vs : List (Vec ℕ Global)) (i : ℕ) (v : Vec ℕ Global) (found : List ℕ) (before all : List (List ℕ)) → i < length vs → v ≡ get_or vs i v → found ≡ flat_map (copies k) v.items
-    → length found ≡ 0 → all ≡ before ++ places_up k (map (λ (u : Vec ℕ Global). u.items) (drop i vs)) → before ≡ all
+pub up-done : (k : Copying) (vs : List (Vec OrderEntry Global)) (i : ℕ) (v : Vec OrderEntry Global) (found : List OrderEntry) (before all : OrderChoices) → i < length vs → v ≡ get_or vs i v → found ≡ flat_map (entry_copies k) v.items
+    → length found ≡ 0 → all ≡ before ++ places_up k (map (λ (u : Vec OrderEntry Global). u.items) (drop i vs)) → before ≡ all
 up-done k vs i v found before all within is are none left =
-    let rest : List (List ℕ) = places_up k (map (λ (u : Vec ℕ Global). u.items) (drop (i + 1) vs)) in
+    let rest : OrderChoices = places_up k (map (λ (u : Vec OrderEntry Global). u.items) (drop (i + 1) vs)) in
     sym (left ∙ ap (λ ps. before ++ ps) (up-here k vs i v found within is are ∙ ap (λ cs. place_then cs rest) (nil_from_length found none)) ∙ append-nil before)
 
-pub up-more : (k : Copying) (vs : List (Vec ℕ Global)) (i : ℕ) (v found : Vec ℕ Global) (old : List (Vec ℕ Global)) (all : List (List ℕ)) → i < length vs → v ≡ get_or vs i v
-    → found.items ≡ flat_map (copies k) v.items → 0 < length found.items → all ≡ map (λ (u : Vec ℕ Global). u.items) old ++ places_up k (map (λ (u : Vec ℕ Global). u.items) (drop i vs))
-    → all ≡ map (λ (u : Vec ℕ Global). u.items) (old ++ found ∷ []) ++ places_up k (map (λ (u : Vec ℕ Global). u.items) (drop (i + 1) vs))
+pub up-more : (k : Copying) (vs : List (Vec OrderEntry Global)) (i : ℕ) (v found : Vec OrderEntry Global) (old : List (Vec OrderEntry Global)) (all : OrderChoices) → i < length vs → v ≡ get_or vs i v
+    → found.items ≡ flat_map (entry_copies k) v.items → 0 < length found.items → all ≡ map (λ (u : Vec OrderEntry Global). u.items) old ++ places_up k (map (λ (u : Vec OrderEntry Global). u.items) (drop i vs))
+    → all ≡ map (λ (u : Vec OrderEntry Global). u.items) (old ++ found ∷ []) ++ places_up k (map (λ (u : Vec OrderEntry Global). u.items) (drop (i + 1) vs))
 up-more k vs i v found old all within is are some left =
-    let items = map (λ (u : Vec ℕ Global). u.items) in
-    let rest : List (List ℕ) = places_up k (items (drop (i + 1) vs)) in
+    let items = map (λ (u : Vec OrderEntry Global). u.items) in
+    let rest : OrderChoices = places_up k (items (drop (i + 1) vs)) in
     left ∙ ap (λ ps. items old ++ ps) (up-here k vs i v found.items within is are ∙ then-some found.items rest some)
-    ∙ sym (ap (λ ps. ps ++ rest) (map_push (λ (u : Vec ℕ Global). u.items) old found) ∙ append_assoc (items old) (found.items ∷ []) rest)
+    ∙ sym (ap (λ ps. ps ++ rest) (map_push (λ (u : Vec OrderEntry Global). u.items) old found) ∙ append_assoc (items old) (found.items ∷ []) rest)

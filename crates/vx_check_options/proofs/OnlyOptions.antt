@@ -1,26 +1,28 @@
 -- No accepted claims are left out of the options of nodes.
-use Rattle.std.proofs.Common.{ℕ, ◌≡◌, nat_lt, nat_le, Bool, true, false, cond, ◌&&◌, ◌||◌, ◌⊎◌, inl, inr, ⊎_elim, List, [], ◌∷◌, map, length, take, Option, Some, None, is_some, refl, sym, ap, ◌∙◌, subst, arith}
+use Rattle.std.proofs.Common.{ℕ, ◌≡◌, nat_lt, nat_le, Bool, true, false, cond, ◌&&◌, ◌||◌, ◌⊎◌, inl, inr, ⊎_elim, List, [], ◌∷◌, length, take, Option, Some, None, is_some, refl, sym, ap, ◌∙◌, subst, arith}
 use Rattle.std.specs.List.{list_all, list_any}
 use Rattle.std.proofs.lemmas.Bool.Decides.{nat_tests}
+use Rattle.vx_rows_values.specs.Order.{order_columns}
+use Rattle.vx_rows_values.specs.declared.order.OrderEntry.{OrderEntry}
 use Rattle.vx_rows_values.specs.declared.value.ColType.{ColType}
 use Rattle.vx_rows_values.specs.Lists.{is_some_list}
 use Rattle.vx_rows_values.proofs.Booleans.{and-left, and-right, and-both}
 use Rattle.vx_catalog_relations.specs.Relation.{Relation}
 use Rattle.vx_catalog_relations.specs.Catalog.{relation_at, all_below, are_distinct}
-use Rattle.vx_plan_nodes.specs.Plan.{Size, one_worker, group_of, by_hash, by_range, Part, one, any, all, routed, Claim, Unary, Binary, union, join, semi_join, ExchangeKind, Plan, scan, unary, binary, exchange, claim, size, size_eq, is_one}
+use Rattle.vx_plan_nodes.specs.Plan.{Size, one_worker, group_of, by_hash, by_range, Part, one, any, all, routed, Claim, Unary, Binary, union, join, semi_join, ExchangeKind, Plan, scan, unary, binary, exchange, claim, size, size_eq, is_one, by_hashing, by_merging, left_order, right_order}
 use Rattle.vx_plan_nodes.specs.Phases.{phase_fits, both_closed}
 use Rattle.vx_plan_nodes.specs.Types.{types_of, binary_width, unary_width, width}
 use Rattle.vx_plan_nodes.specs.Describe.{described, described_both}
 use Rattle.vx_plan_nodes.specs.Typed.{Scope, bounds_at, range_type, type_eq, are_columns, is_size, is_part, is_claim, is_unary, is_binary, is_kind, may_merge, is_output, typed}
 use Rattle.vx_rows_values.specs.Types.{type_at}
-use Rattle.vx_check_rules.specs.Rules.{part_gives, is_prefix, sizes_match, not_replicated, inputs_match, order_given, first_rows_known, part_shown, order_shown, keys_shown, allowed_here, allowed}
+use Rattle.vx_check_rules.specs.Rules.{part_gives, is_front, sizes_match, not_replicated, inputs_match, order_given, first_rows_known, part_shown, order_shown, keys_shown, allowed_here, allowed}
 use Rattle.vx_check_rules.specs.Refusal.{Rule, size_mismatch, replicated_input, inputs_not_matched, order_needed, order_not_shown, or_else, refused_at}
 use Rattle.vx_check_rules.specs.Behaviour.{gives, ways_along, ways_over, behaviour, shown_part}
 use Rattle.vx_check_rules.proofs.Bools.{all-more}
 use Rattle.vx_check_rules.proofs.Exact.{parts-exactly}
 use Rattle.vx_check_rules.proofs.DerivedMore.{eight}
 use Rattle.vx_check_options.specs.Options.{gives_part, told_parts, parts_above, no_input, parts_at, is_within_here, is_within, narrowed, places_over, places_at, can_send, can_meet, can_order, can_keep, fit_tests, first_unfit}
-use Rattle.vx_check_options.specs.Laws.{keeps_part, KeepsClaim, Keeps, is_told, is_front, OnlyOptions}
+use Rattle.vx_check_options.specs.Laws.{keeps_part, KeepsClaim, Keeps, is_told, may_begin, OnlyOptions}
 use Rattle.vx_check_options.proofs.Alike.{one_or, replicated, options-alike}
 use Rattle.vx_check_options.proofs.Told.{are_few, names_few, is_whole, each_way, Whole, told-by, shown-among, node-told}
 use Rattle.vx_check_options.proofs.Fronts.{front-singles, narrowed-some, narrowed-kept, unary-front, binary-front, exchange-front}
@@ -101,7 +103,7 @@ part-few s types all l h = refl
 output-few : (s : Scope) (types : List ColType) (d : Claim) → is_output s types d ≡ true → names_few d.part ≡ true
 output-few s types d h =
     part-few s types d.part (and-left (nat_le (length types) 64) (is_claim s types d) h)
-    (and-left (is_part s types d.part) (are_columns (length types) d.order && list_all (are_columns (length types)) d.keys) (and-right (nat_le (length types) 64) (is_claim s types d) h))
+    (and-left (is_part s types d.part) (are_columns (length types) (order_columns d.order) && list_all (are_columns (length types)) d.keys) (and-right (nat_le (length types) 64) (is_claim s types d) h))
 
 -- ---- the part of a node
 
@@ -159,7 +161,7 @@ part-fits catalog p a b lefts rights d keeps few h k here shows =
 -- what accepted claims are worth
 abbrev Outcome : (ℕ → Relation) → Plan → Plan → Type 0
 Outcome catalog p q =
-    (first_unfit catalog p ≡ None) × ((is_one (size p) || is_told (parts_at catalog p) (claim q).part) ≡ true) × (is_front (claim q).order (places_at catalog p) ≡ true)
+    (first_unfit catalog p ≡ None) × ((is_one (size p) || is_told (parts_at catalog p) (claim q).part) ≡ true) × (may_begin (claim q).order (places_at catalog p) ≡ true)
 
 abbrev Only : Scope → Plan → Plan → Type 0
 Only s p q = (is_within (relation_at s.catalog) p ≡ true) ⊎ (q ≡ p) → typed s q ≡ true → allowed (relation_at s.catalog) q ≡ true → Outcome (relation_at s.catalog) p q
@@ -212,16 +214,16 @@ of-unary s n c d op p p' kc k ih whole t ok =
       narrowed-kept c.order d.order (places_over catalog top [] (places_at catalog p)) kc.1 front,
     )
 
-both-ordered : (catalog : ℕ → Relation) (n m : ℕ) (c d : Claim) (op : Binary) (p q p' q' : Plan) → order_given (binary m d op p' q') ≡ true → is_front (claim p').order (places_at catalog p) ≡ true
-    → is_front (claim q').order (places_at catalog q) ≡ true → can_order catalog (binary n c op p q) ≡ true
+both-ordered : (catalog : ℕ → Relation) (n m : ℕ) (c d : Claim) (op : Binary) (p q p' q' : Plan) → order_given (binary m d op p' q') ≡ true → may_begin (claim p').order (places_at catalog p) ≡ true
+    → may_begin (claim q').order (places_at catalog q) ≡ true → can_order catalog (binary n c op p q) ≡ true
 both-ordered catalog n m c d union p q p' q' g f h = refl
-both-ordered catalog n m c d (join true on) p q p' q' g f h =
-    let lefts : List ℕ = map (λ x. x.0) on in
-    let rights : List ℕ = map (λ x. x.1) on in
+both-ordered catalog n m c d (join (by_merging falls) on) p q p' q' g f h =
+    let lefts : List OrderEntry = left_order falls on in
+    let rights : List OrderEntry = right_order falls on in
     and-both (is_some (narrowed lefts (places_at catalog p))) (is_some (narrowed rights (places_at catalog q)))
-    (narrowed-some lefts (claim p').order (places_at catalog p) (and-left (is_prefix lefts (claim p').order) (is_prefix rights (claim q').order) g) f)
-    (narrowed-some rights (claim q').order (places_at catalog q) (and-right (is_prefix lefts (claim p').order) (is_prefix rights (claim q').order) g) h)
-both-ordered catalog n m c d (join false on) p q p' q' g f h = refl
+    (narrowed-some lefts (claim p').order (places_at catalog p) (and-left (is_front lefts (claim p').order) (is_front rights (claim q').order) g) f)
+    (narrowed-some rights (claim q').order (places_at catalog q) (and-right (is_front lefts (claim p').order) (is_front rights (claim q').order) g) h)
+both-ordered catalog n m c d (join by_hashing on) p q p' q' g f h = refl
 both-ordered catalog n m c d (semi_join matched on conditions) p q p' q' g f h = refl
 
 -- what a node over two inputs shows, by their parts alone
@@ -281,16 +283,16 @@ sent-once : (a b : Bool) (parts : List Part) (y : Part) → b ≡ a → (b || pa
 sent-once true b parts y e h k = refl
 sent-once false b parts y e h k = told-by parts y any k (or-drop b (part_gives y any) e h)
 
-of-exchange : (s : Scope) (n : ℕ) (c d : Claim) (kind : ExchangeKind) (m : List ℕ) (p p' : Plan) → KeepsClaim c d → Keeps p p' → Only s p p' → Only s (exchange n c kind m p) (exchange n d kind m p')
+of-exchange : (s : Scope) (n : ℕ) (c d : Claim) (kind : ExchangeKind) (m : List OrderEntry) (p p' : Plan) → KeepsClaim c d → Keeps p p' → Only s p p' → Only s (exchange n c kind m p) (exchange n d kind m p')
 of-exchange s n c d kind m p p' kc k ih whole t ok =
     let catalog : ℕ → Relation = relation_at s.catalog in
     let top : Plan = exchange n c kind m p in
     let q : Plan = exchange n d kind m p' in
     let types : List ColType = types_of catalog p' in
     let outputs : Bool = is_output s types d in
-    let merging : Bool = are_columns (length types) m && (may_merge kind m && outputs) in
+    let merging : Bool = are_columns (length types) (order_columns m) && (may_merge kind m && outputs) in
     let t1 = and-right (typed s p') (is_kind s types kind && merging) t in
-    let t2 = and-right (are_columns (length types) m) (may_merge kind m && outputs) (and-right (is_kind s types kind) merging t1) in
+    let t2 = and-right (are_columns (length types) (order_columns m)) (may_merge kind m && outputs) (and-right (is_kind s types kind) merging t1) in
     let few = output-few s types d (and-right (may_merge kind m) outputs t2) in
     let here : Bool = is_within_here catalog top no_input no_input in
     let low = ih (⊎_elim (λ w. inl (and-left (is_within catalog p) here w)) (λ e. inr cc) whole) (and-left (typed s p') (is_kind s types kind && merging) t)

@@ -1,39 +1,41 @@
 -- The checker refuses what is placed exactly where no claims fit.
 use Rattle.std.specs.Prelude.{⊤}
-use Rattle.std.proofs.Common.{◌≡◌, ℕ, Bool, true, false, cond, ◌==◌, ◌&&◌, ◌||◌, ◌⊎◌, inl, inr, ⊎_elim, List, [], ◌∷◌, map, take, refl, sym, ap, ◌∙◌, Option, Some, None, is_some, option_map, unwrap_or}
+use Rattle.std.proofs.Common.{◌≡◌, ℕ, Bool, true, false, cond, ◌&&◌, ◌||◌, ◌⊎◌, inl, inr, ⊎_elim, List, [], ◌∷◌, take, refl, sym, ap, ◌∙◌, Option, Some, None, is_some, option_map, unwrap_or}
 use Rattle.std.specs.List.{list_any, list_all, filter}
-use Rattle.std.proofs.lemmas.Bool.{eqb-true}
+use Rattle.vx_rows_values.specs.Order.{order_columns}
+use Rattle.vx_rows_values.specs.declared.order.OrderEntry.{OrderEntry}
 use Rattle.vx_rows_values.specs.Lists.{is_some_list}
 use Rattle.vx_rows_values.proofs.Booleans.{and-left, and-right, and-both}
 use Rattle.vx_catalog_relations.specs.Relation.{Relation}
 use Rattle.vx_catalog_relations.specs.Catalog.{relation_at}
-use Rattle.vx_plan_nodes.specs.Plan.{Size, by_hash, by_range, Part, one, any, all, routed, Claim, Unary, Binary, union, join, semi_join, ExchangeKind, route_to, round, broadcast, gather, concat, Plan, scan, unary, binary, exchange, number, claim, size, is_one, size_eq}
+use Rattle.vx_plan_nodes.specs.Plan.{Size, by_hash, by_range, Part, one, any, all, routed, Claim, Unary, Binary, union, join, semi_join, ExchangeKind, route_to, round, broadcast, gather, concat, Plan, scan, unary, binary, exchange, number, claim, size, is_one, size_eq, by_hashing, by_merging, left_order, right_order}
 use Rattle.vx_plan_nodes.specs.Types.{width, unary_width, binary_width}
 use Rattle.vx_plan_nodes.specs.Typed.{Scope, may_merge, is_kind, are_columns, typed}
 use Rattle.vx_plan_nodes.specs.Describe.{Copying, whole_rows, OrderAfter, order_kept, sorted_on, described, described_both}
-use Rattle.vx_check_rules.specs.Rules.{part_gives, contains, is_prefix, rises_by, goes_on, sizes_match, not_replicated, inputs_match, order_given, part_shown, order_shown, if_some, keys_of, keys_shown}
+use Rattle.vx_check_rules.specs.Rules.{part_gives, is_front, rises_by, goes_on, sizes_match, not_replicated, inputs_match, order_given, part_shown, order_shown, keys_of, keys_shown, if_order}
 use Rattle.vx_check_rules.specs.Refusal.{Rule, size_mismatch, part_not_shown, inputs_not_matched, replicated_input, order_not_shown, order_needed, key_not_shown, first_rows_open, first_failure, or_else, refused_at}
-use Rattle.vx_check_rules.specs.Behaviour.{own, gives, sources, order_after, ways_along, ways_over, ways_from, behaviour, fits, shown_part}
+use Rattle.vx_check_rules.specs.Behaviour.{own, gives, order_after, ways_along, ways_over, ways_from, behaviour, fits, shown_part, order_sources}
 use Rattle.vx_check_rules.proofs.Bools.{or-left, or-right, any-more}
 use Rattle.vx_check_rules.proofs.Exact.{fits-exactly, parts-exactly, orders-exactly}
 use Rattle.vx_check_rules.proofs.Refusals.{none-both, none-failed}
-use Rattle.vx_check_options.specs.Options.{told_parts, parts_at, OrderChoices, singles, narrowed, or_nowhere, places_over_both, places_sent, rising, places_at, can_send, can_meet, can_order, can_keep, fit_tests, first_unfit}
-use Rattle.vx_check_options.specs.Placed.{order_along, order_below, left_order, right_order, order_sent, is_chosen, first_part, parts_below, part_sent, keyless, placed, bare}
+use Rattle.vx_check_options.specs.Options.{told_parts, parts_at, OrderChoices, singles, narrowed, or_nowhere, places_over_both, places_sent, rising, places_at, can_send, can_meet, can_order, can_keep, fit_tests, first_unfit, has_entry}
+use Rattle.vx_check_options.specs.Placed.{order_along, order_below, order_to_left, order_to_right, order_sent, is_chosen, first_part, parts_below, part_sent, keyless, placed, bare}
 use Rattle.vx_check_options.specs.Claimed.{fit_tests_with}
 use Rattle.vx_check_options.specs.Laws.{is_option}
-use Rattle.vx_check_options.proofs.PlacedOrders.{same-tests, are_full, full-singles, full-up, full-rising, full-nowhere, first-chosen, along-chosen, chosen-along, prefix-same, begins-same, kept-chosen, goes-on-same, none-chosen, kept-prefix, singles-chosen, then-chosen, below-shown}
+use Rattle.vx_check_options.proofs.Entries.{kept-passes, front-same}
+use Rattle.vx_check_options.proofs.PlacedOrders.{same-tests, are_full, full-singles, full-up, full-rising, full-nowhere, first-chosen, along-chosen, chosen-along, begins-same, kept-chosen, goes-on-same, none-chosen, kept-front, singles-chosen, then-chosen, below-shown}
 use Rattle.vx_check_options.proofs.PlacedParts.{lefts_at, rights_at, parts-at-is, below-given, below-in, sent-in, option-in, find-some, met-some, both-several}
 use Rattle.vx_check_options.proofs.PlacedSent.{all-say, each-says}
 
 -- ---- what is placed
 
-pub size-placed : (catalog : ℕ → Relation) (p : Plan) (q : Part) (order : List ℕ) → size (placed catalog p q order) ≡ size p
+pub size-placed : (catalog : ℕ → Relation) (p : Plan) (q : Part) (order : List OrderEntry) → size (placed catalog p q order) ≡ size p
 size-placed catalog (scan n c r m z) q order = refl
 size-placed catalog (unary n c op p) q order = size-placed catalog p _ _
 size-placed catalog (binary n c op p p2) q order = size-placed catalog p _ _
 size-placed catalog (exchange n c k m p) q order = refl
 
-pub width-placed : (catalog : ℕ → Relation) (p : Plan) (q : Part) (order : List ℕ) → width catalog (placed catalog p q order) ≡ width catalog p
+pub width-placed : (catalog : ℕ → Relation) (p : Plan) (q : Part) (order : List OrderEntry) → width catalog (placed catalog p q order) ≡ width catalog p
 width-placed catalog (scan n c r m z) q order = refl
 width-placed catalog (unary n c op p) q order = ap (unary_width op) (width-placed catalog p _ _)
 width-placed catalog (binary n c op p p2) q order =
@@ -43,33 +45,33 @@ width-placed catalog (binary n c op p p2) q order =
     wide e f = cc
 width-placed catalog (exchange n c k m p) q order = width-placed catalog p _ _
 
-pub claim-placed : (catalog : ℕ → Relation) (p : Plan) (q : Part) (order : List ℕ) → claim (placed catalog p q order) ≡ keyless q order
+pub claim-placed : (catalog : ℕ → Relation) (p : Plan) (q : Part) (order : List OrderEntry) → claim (placed catalog p q order) ≡ keyless q order
 claim-placed catalog (scan n c r m z) q order = refl
 claim-placed catalog (unary n c op p) q order = refl
 claim-placed catalog (binary n c op p p2) q order = refl
 claim-placed catalog (exchange n c k m p) q order = refl
 
-pub part-placed : (catalog : ℕ → Relation) (p : Plan) (q : Part) (order : List ℕ) → (claim (placed catalog p q order)).part ≡ q
+pub part-placed : (catalog : ℕ → Relation) (p : Plan) (q : Part) (order : List OrderEntry) → (claim (placed catalog p q order)).part ≡ q
 part-placed catalog p q order = ap (λ c. c.part) (claim-placed catalog p q order)
 
-pub order-placed : (catalog : ℕ → Relation) (p : Plan) (q : Part) (order : List ℕ) → (claim (placed catalog p q order)).order ≡ order
+pub order-placed : (catalog : ℕ → Relation) (p : Plan) (q : Part) (order : List OrderEntry) → (claim (placed catalog p q order)).order ≡ order
 order-placed catalog p q order = ap (λ c. c.order) (claim-placed catalog p q order)
 
-one-placed : (catalog : ℕ → Relation) (p : Plan) (q : Part) (order : List ℕ) → is_one (size (placed catalog p q order)) ≡ is_one (size p)
+one-placed : (catalog : ℕ → Relation) (p : Plan) (q : Part) (order : List OrderEntry) → is_one (size (placed catalog p q order)) ≡ is_one (size p)
 one-placed catalog p q order = ap is_one (size-placed catalog p q order)
 
-own-placed : (catalog : ℕ → Relation) (p : Plan) (q : Part) (order : List ℕ) → is_one (size p) ≡ false → own (placed catalog p q order) ≡ (false, q)
+own-placed : (catalog : ℕ → Relation) (p : Plan) (q : Part) (order : List OrderEntry) → is_one (size p) ≡ false → own (placed catalog p q order) ≡ (false, q)
 own-placed catalog p q order s =
     ap (λ b. (b, (claim (placed catalog p q order)).part)) (one-placed catalog p q order ∙ s) ∙ ap (λ z. (false, z)) (part-placed catalog p q order)
 
 -- no place of a node is empty
 full-both : (op : Binary) (places : OrderChoices) → are_full places ≡ true → are_full (places_over_both op places) ≡ true
 full-both union places h = refl
-full-both (join true on) places h = full-nowhere (map (λ x. x.0) on) places h
-full-both (join false on) places h = h
+full-both (join (by_merging falls) on) places h = full-nowhere (left_order falls on) places h
+full-both (join by_hashing on) places h = h
 full-both (semi_join matched on conditions) places h = h
 
-full-sent : (k : ExchangeKind) (merge : List ℕ) (parts : List Part) (places : OrderChoices) (b : Bool) → are_full places ≡ true
+full-sent : (k : ExchangeKind) (merge : List OrderEntry) (parts : List Part) (places : OrderChoices) (b : Bool) → are_full places ≡ true
     → are_full (cond b (or_nowhere (narrowed merge places)) (places_sent k merge parts places)) ≡ true
 full-sent k merge parts places true h = full-nowhere merge places h
 full-sent (route_to z r cols) merge parts places false h = full-singles merge
@@ -86,7 +88,7 @@ full-at catalog (exchange n c k m p) = full-nowhere c.order _ (full-sent k m (pa
 
 -- ---- parts
 
-ways-both : (catalog : ℕ → Relation) (op : Binary) (p p2 : Plan) (x y : Part) (order order2 : List ℕ) → is_one (size p) ≡ false → is_one (size p2) ≡ false
+ways-both : (catalog : ℕ → Relation) (op : Binary) (p p2 : Plan) (x y : Part) (order order2 : List OrderEntry) → is_one (size p) ≡ false → is_one (size p2) ≡ false
     → ways_over (described_both (width catalog (placed catalog p x order)) op).meeting (described_both (width catalog (placed catalog p x order)) op) (own (placed catalog p x order)) (own (placed catalog p2 y order2))
     ≡ ways_over (described_both (width catalog p) op).meeting (described_both (width catalog p) op) (false, x) (false, y)
 ways-both catalog op p p2 x y order order2 s s2 =
@@ -102,7 +104,7 @@ abbrev pub right_part : (ℕ → Relation) → Plan → Part → Part
 right_part catalog p q = (parts_below catalog p q (lefts_at catalog p) (rights_at catalog p)).1
 
 -- the ways of a node are those over the parts that are placed below it
-pub ways-placed : (catalog : ℕ → Relation) (p : Plan) (q : Part) (order : List ℕ) → is_one (size p) ≡ false → sizes_match p ≡ true
+pub ways-placed : (catalog : ℕ → Relation) (p : Plan) (q : Part) (order : List OrderEntry) → is_one (size p) ≡ false → sizes_match p ≡ true
     → (behaviour catalog (placed catalog p q order)).ways ≡ ways_from catalog p (false, left_part catalog p q) (false, right_part catalog p q)
 ways-placed catalog (scan n c r m z) q order s e = refl
 ways-placed catalog (unary n c op p) q order s e = ap (λ h. ways_along (described op) h) (own-placed catalog p _ _ s)
@@ -110,7 +112,7 @@ ways-placed catalog (binary n c op p p2) q order s e = ways-both catalog op p p2
 ways-placed catalog (exchange n c k m p) q order s e = refl
 
 -- where the node can claim a part, there is a way
-met-placed : (catalog : ℕ → Relation) (p : Plan) (q : Part) (order : List ℕ) → sizes_match p ≡ true → is_some_list (parts_at catalog p) ≡ true → is_option (parts_at catalog p) q ≡ true
+met-placed : (catalog : ℕ → Relation) (p : Plan) (q : Part) (order : List OrderEntry) → sizes_match p ≡ true → is_some_list (parts_at catalog p) ≡ true → is_option (parts_at catalog p) q ≡ true
     → inputs_match (placed catalog p q order) ≡ true
 met-placed catalog p q order e met h = fits-exactly catalog (placed catalog p q order) ∙ by (is_one (size p)) refl
   where
@@ -123,7 +125,7 @@ met-placed catalog p q order e met h = fits-exactly catalog (placed catalog p q 
         (below-given catalog p q s (option-in q (parts_at catalog p) met h)))
 
 -- and the part is shown
-shown-placed : (catalog : ℕ → Relation) (p : Plan) (q : Part) (order : List ℕ) → sizes_match p ≡ true → is_some_list (parts_at catalog p) ≡ true → is_option (parts_at catalog p) q ≡ true
+shown-placed : (catalog : ℕ → Relation) (p : Plan) (q : Part) (order : List OrderEntry) → sizes_match p ≡ true → is_some_list (parts_at catalog p) ≡ true → is_option (parts_at catalog p) q ≡ true
     → part_shown catalog (placed catalog p q order) ≡ true
 shown-placed catalog p q order e met h =
     parts-exactly catalog (placed catalog p q order) (claim (placed catalog p q order)).part (met-placed catalog p q order e met h) ∙ by (is_one (size p)) refl
@@ -141,7 +143,7 @@ or-drop true c h k = cc
 or-drop false c h k = k
 
 -- where there is a way, a node without a claim can claim a part
-met-back : (catalog : ℕ → Relation) (p : Plan) (q : Part) (order : List ℕ) → sizes_match p ≡ true → (claim p).part ≡ any → is_some_list (lefts_at catalog p) ≡ true → is_some_list (rights_at catalog p) ≡ true
+met-back : (catalog : ℕ → Relation) (p : Plan) (q : Part) (order : List OrderEntry) → sizes_match p ≡ true → (claim p).part ≡ any → is_some_list (lefts_at catalog p) ≡ true → is_some_list (rights_at catalog p) ≡ true
     → inputs_match (placed catalog p q order) ≡ true → is_some_list (parts_at catalog p) ≡ true
 met-back catalog p q order e c hl hr h = by (is_one (size p)) refl
   where
@@ -159,10 +161,10 @@ met-back catalog p q order e c hl hr h = by (is_one (size p)) refl
 -- ---- orders
 
 -- an exchange's input is in the order that it merges by exactly where it can be
-sent-given : (k : ExchangeKind) (merge claimed : List ℕ) (parts : List Part) (places : OrderChoices) (order : List ℕ) (b : Bool) → may_merge k merge ≡ true → are_full places ≡ true
+sent-given : (k : ExchangeKind) (merge claimed : List OrderEntry) (parts : List Part) (places : OrderChoices) (order : List OrderEntry) (b : Bool) → may_merge k merge ≡ true → are_full places ≡ true
     → is_some (narrowed claimed (cond b (or_nowhere (narrowed merge places)) (places_sent k merge parts places))) ≡ true
     → is_chosen order (or_nowhere (narrowed claimed (cond b (or_nowhere (narrowed merge places)) (places_sent k merge parts places)))) ≡ true
-    → is_prefix merge (order_along whole_rows (order_sent k b merge order) places) ≡ is_some (narrowed merge places)
+    → is_front merge (order_along whole_rows (order_sent k b merge order) places) ≡ is_some (narrowed merge places)
 sent-given k merge claimed parts places order true may f keep h = goes-on-same claimed merge places order f keep h
 sent-given (route_to z r cols) merge claimed parts places order false may f keep h = begins-same merge places f
 sent-given (round z) merge claimed parts places order false may f keep h = begins-same merge places f
@@ -171,22 +173,7 @@ sent-given gather merge claimed parts places order false may f keep h = begins-s
 sent-given concat [] claimed parts places order false may f keep h = refl
 sent-given concat (c ∷ merge) claimed parts places order false may f keep h = cc
 
--- what is kept passes
-pub kept-passes : (test : ℕ → Bool) (s : List ℕ) (d : ℕ) → contains (filter test s) d ≡ true → (contains s d ≡ true) × (test d ≡ true)
-kept-passes test [] d h = cc
-kept-passes test (c ∷ s) d h = by (test c) refl (kept-passes test s d) h
-  where
-    here : test c ≡ true → (contains (filter test s) d ≡ true → (contains s d ≡ true) × (test d ≡ true)) → (b : Bool) → (d == c) ≡ b → (b || contains (filter test s) d) ≡ true
-        → (contains (c ∷ s) d ≡ true) × (test d ≡ true)
-    here t more true e l = (or-left (d == c) (contains s d) e, ap test (eqb-true d c e) ∙ t)
-    here t more false e l = let w = more l in (or-right (d == c) (contains s d) w.0, w.1)
-
-    by : (b : Bool) → test c ≡ b → (contains (filter test s) d ≡ true → (contains s d ≡ true) × (test d ≡ true)) → contains (cond b (c ∷ filter test s) (filter test s)) d ≡ true
-        → (contains (c ∷ s) d ≡ true) × (test d ≡ true)
-    by true t more l = here t more (d == c) refl l
-    by false t more l = let w = more l in (or-right (d == c) (contains s d) w.0, w.1)
-
-rises-more : (x : Part) (d : ℕ) (ds : List ℕ) → rises_by x (d ∷ []) ≡ true → rises_by x (d ∷ ds) ≡ true
+rises-more : (x : Part) (d : OrderEntry) (ds : List OrderEntry) → rises_by x (d ∷ []) ≡ true → rises_by x (d ∷ ds) ≡ true
 rises-more one d ds h = cc
 rises-more any d ds h = cc
 rises-more all d ds h = cc
@@ -196,45 +183,45 @@ rises-more (routed (by_range k) (c ∷ [])) d ds h = h
 rises-more (routed (by_range k) (c ∷ e ∷ cols)) d ds h = cc
 
 -- rows that rise with the producers are in order one producer after the other
-rising-shown : (merge : List ℕ) (parts : List Part) (places : OrderChoices) (order : List ℕ) → is_chosen order (rising parts places) ≡ true
-    → (is_prefix order merge || (rises_by (part_sent concat order parts) (order_along whole_rows order places) && is_prefix order (order_along whole_rows order places))) ≡ true
+rising-shown : (merge : List OrderEntry) (parts : List Part) (places : OrderChoices) (order : List OrderEntry) → is_chosen order (rising parts places) ≡ true
+    → (is_front order merge || (rises_by (part_sent concat order parts) (order_along whole_rows order places) && is_front order (order_along whole_rows order places))) ≡ true
 rising-shown merge parts places [] h = refl
 rising-shown merge parts [] (d ∷ ds) h = cc
 rising-shown merge parts (s ∷ places) (d ∷ ds) h =
-    let w = then-chosen d ds (filter (λ c. list_any (λ x. rises_by x (c ∷ [])) parts) s) places h in
-    let v = kept-passes (λ c. list_any (λ x. rises_by x (c ∷ [])) parts) s d w.0 in
-    let same : order_along whole_rows (d ∷ ds) (s ∷ places) ≡ d ∷ ds = chosen-along (d ∷ ds) (s ∷ places) (and-both (contains s d) (is_chosen ds places) v.0 w.1) in
+    let w = then-chosen d ds (filter (λ e. list_any (λ x. rises_by x (e ∷ [])) parts) s) places h in
+    let v = kept-passes (λ e. list_any (λ x. rises_by x (e ∷ [])) parts) s d w.0 in
+    let same : order_along whole_rows (d ∷ ds) (s ∷ places) ≡ d ∷ ds = chosen-along (d ∷ ds) (s ∷ places) (and-both (has_entry s d) (is_chosen ds places) v.0 w.1) in
     let rises : list_any (λ x. rises_by x (d ∷ ds)) parts ≡ true = any-more (λ x. rises_by x (d ∷ [])) (λ x. rises_by x (d ∷ ds)) parts (λ x r. rises-more x d ds r) v.1 in
     let found = find-some (λ x. rises_by x (d ∷ ds)) parts rises in
     let by : rises_by (part_sent concat (d ∷ ds) parts) (d ∷ ds) ≡ true = ap (λ (o : Option Part). rises_by (unwrap_or o (first_part parts)) (d ∷ ds)) found.1 ∙ found.2 in
-    or-right (is_prefix (d ∷ ds) merge) _
-    (ap (λ xs. rises_by (part_sent concat (d ∷ ds) parts) xs && is_prefix (d ∷ ds) xs) same
-    ∙ and-both (rises_by (part_sent concat (d ∷ ds) parts) (d ∷ ds)) (is_prefix (d ∷ ds) (d ∷ ds)) by (prefix-same (d ∷ ds)))
+    or-right (is_front (d ∷ ds) merge) _
+    (ap (λ xs. rises_by (part_sent concat (d ∷ ds) parts) xs && is_front (d ∷ ds) xs) same
+    ∙ and-both (rises_by (part_sent concat (d ∷ ds) parts) (d ∷ ds)) (is_front (d ∷ ds) (d ∷ ds)) by (front-same (d ∷ ds)))
 
 -- an order that is merged by is shown
-merged : (merge claimed order : List ℕ) → is_some (narrowed claimed (singles merge)) ≡ true → is_chosen order (or_nowhere (narrowed claimed (singles merge))) ≡ true → is_prefix order merge ≡ true
-merged merge claimed order keep h = ap (is_prefix order) (sym (singles-chosen order merge (kept-chosen claimed (singles merge) order keep h).0)) ∙ prefix-same order
+merged : (merge claimed order : List OrderEntry) → is_some (narrowed claimed (singles merge)) ≡ true → is_chosen order (or_nowhere (narrowed claimed (singles merge))) ≡ true → is_front order merge ≡ true
+merged merge claimed order keep h = ap (is_front order) (sym (singles-chosen order merge (kept-chosen claimed (singles merge) order keep h).0)) ∙ front-same order
 
 -- an exchange shows its order
-sent-shown : (k : ExchangeKind) (merge claimed : List ℕ) (parts : List Part) (places : OrderChoices) (order : List ℕ) (b : Bool) (c : Claim)
+sent-shown : (k : ExchangeKind) (merge claimed : List OrderEntry) (parts : List Part) (places : OrderChoices) (order : List OrderEntry) (b : Bool) (c : Claim)
     → c ≡ keyless (part_sent k order parts) (order_along whole_rows (order_sent k b merge order) places)
     → is_some (narrowed claimed (cond b (or_nowhere (narrowed merge places)) (places_sent k merge parts places))) ≡ true
     → is_chosen order (or_nowhere (narrowed claimed (cond b (or_nowhere (narrowed merge places)) (places_sent k merge parts places)))) ≡ true
-    → (is_prefix order merge || ((b || goes_on k c) && is_prefix order c.order)) ≡ true
+    → (is_front order merge || ((b || goes_on k c) && is_front order c.order)) ≡ true
 sent-shown k merge claimed parts places order true c is keep h =
-    or-right (is_prefix order merge) (is_prefix order c.order)
-    (ap (λ d. is_prefix order d.order) is ∙ kept-prefix merge places order (kept-chosen claimed (or_nowhere (narrowed merge places)) order keep h).0)
+    or-right (is_front order merge) (is_front order c.order)
+    (ap (λ d. is_front order d.order) is ∙ kept-front merge places order (kept-chosen claimed (or_nowhere (narrowed merge places)) order keep h).0)
 sent-shown (route_to z r cols) merge claimed parts places order false c is keep h =
     or-left _ _ (merged merge claimed order keep h)
 sent-shown (round z) merge claimed parts places order false c is keep h = or-left _ _ (merged merge claimed order keep h)
 sent-shown (broadcast z) merge claimed parts places order false c is keep h = or-left _ _ (merged merge claimed order keep h)
 sent-shown gather merge claimed parts places order false c is keep h = or-left _ _ (merged merge claimed order keep h)
 sent-shown concat merge claimed parts places order false c is keep h =
-    ap (λ d. is_prefix order merge || (rises_by d.part d.order && is_prefix order d.order)) is ∙ rising-shown merge parts places order (kept-chosen claimed (rising parts places) order keep h).0
+    ap (λ d. is_front order merge || (rises_by d.part d.order && is_front order d.order)) is ∙ rising-shown merge parts places order (kept-chosen claimed (rising parts places) order keep h).0
 
 -- ---- one node
 
-sizes-placed : (catalog : ℕ → Relation) (p : Plan) (q : Part) (order : List ℕ) → sizes_match (placed catalog p q order) ≡ sizes_match p
+sizes-placed : (catalog : ℕ → Relation) (p : Plan) (q : Part) (order : List OrderEntry) → sizes_match (placed catalog p q order) ≡ sizes_match p
 sizes-placed catalog (scan n c r m z) q order = refl
 sizes-placed catalog (unary n c op p) q order = refl
 sizes-placed catalog (binary n c op p p2) q order = alike (size-placed catalog p _ _) (size-placed catalog p2 _ _)
@@ -273,7 +260,7 @@ record Ready (catalog : ℕ → Relation) (p : Plan) : Type 0 where
   meets : ((claim p).part ≡ any) ⊎ (is_some_list (parts_at catalog p) ≡ true)
 
 -- at a node whose inputs can claim a part
-node-fit : (catalog : ℕ → Relation) (p : Plan) (q : Part) (order : List ℕ) (n : ℕ) → Ready catalog p → is_option (parts_at catalog p) q ≡ true
+node-fit : (catalog : ℕ → Relation) (p : Plan) (q : Part) (order : List OrderEntry) (n : ℕ) → Ready catalog p → is_option (parts_at catalog p) q ≡ true
     → is_some_list (lefts_at catalog p) ≡ true → is_some_list (rights_at catalog p) ≡ true → not_replicated (placed catalog p q order) ≡ can_send catalog p
     → order_given (placed catalog p q order) ≡ can_order catalog p → order_shown catalog (placed catalog p q order) ≡ true
     → (known : Bool) → refused_at n (tests_with known catalog (placed catalog p q order)) ≡ refused_at n (fit_tests_with known catalog p)
@@ -344,7 +331,7 @@ below-unary catalog n c op p h = ⊎_elim (λ e. inl (under e)) (λ e. inr (none
     under : unary n (keyless any []) op (bare p) ≡ unary n c op p → bare p ≡ p
     under e = cc
 
-pub below-exchange : (catalog : ℕ → Relation) (n : ℕ) (c : Claim) (k : ExchangeKind) (m : List ℕ) (p : Plan) → Placeable catalog (exchange n c k m p) → Placeable catalog p
+pub below-exchange : (catalog : ℕ → Relation) (n : ℕ) (c : Claim) (k : ExchangeKind) (m : List OrderEntry) (p : Plan) → Placeable catalog (exchange n c k m p) → Placeable catalog p
 below-exchange catalog n c k m p h = ⊎_elim (λ e. inl (under e)) (λ e. inr (none-both (first_unfit catalog p) (refused_at n (fit_tests catalog (exchange n c k m p))) e).0) h
   where
     under : exchange n (keyless any []) k m (bare p) ≡ exchange n c k m p → bare p ≡ p
@@ -368,40 +355,40 @@ below-right catalog n c op p q h =
 
 -- ---- each operator
 
-unary-shown : (catalog : ℕ → Relation) (n : ℕ) (c : Claim) (op : Unary) (p : Plan) (q : Part) (order : List ℕ) → can_keep catalog (unary n c op p) ≡ true
+unary-shown : (catalog : ℕ → Relation) (n : ℕ) (c : Claim) (op : Unary) (p : Plan) (q : Part) (order : List OrderEntry) → can_keep catalog (unary n c op p) ≡ true
     → is_chosen order (places_at catalog (unary n c op p)) ≡ true → order_shown catalog (placed catalog (unary n c op p) q order) ≡ true
 unary-shown catalog n c op p q order keep h =
     orders-exactly catalog (placed catalog (unary n c op p) q order) order
     ∙ or-left _ false
-    (ap (λ below. if_some (sources (described op).copying order) (λ cs. is_prefix cs (order_after (described op).order below))) (order-placed catalog p _ _)
+    (ap (λ below. if_order (order_sources (described op).copying order) (λ o. is_front o (order_after (described op).order below))) (order-placed catalog p _ _)
     ∙ below-shown (described op).order (described op).copying order (places_at catalog p) (kept-chosen c.order _ order keep h).0)
 
-both-given : (catalog : ℕ → Relation) (n : ℕ) (c : Claim) (op : Binary) (p q : Plan) (x : Part) (order : List ℕ) → can_keep catalog (binary n c op p q) ≡ true
+both-given : (catalog : ℕ → Relation) (n : ℕ) (c : Claim) (op : Binary) (p q : Plan) (x : Part) (order : List OrderEntry) → can_keep catalog (binary n c op p q) ≡ true
     → is_chosen order (places_at catalog (binary n c op p q)) ≡ true → order_given (placed catalog (binary n c op p q) x order) ≡ can_order catalog (binary n c op p q)
 both-given catalog n c union p q x order keep h = refl
-both-given catalog n c (join false on) p q x order keep h = refl
+both-given catalog n c (join by_hashing on) p q x order keep h = refl
 both-given catalog n c (semi_join matched on conditions) p q x order keep h = refl
-both-given catalog n c (join true on) p q x order keep h =
-    both _ _ _ _ (ap (is_prefix (map (λ x. x.0) on)) (order-placed catalog p _ _) ∙ goes-on-same c.order (map (λ x. x.0) on) (places_at catalog p) order (full-at catalog p) keep h)
-    (ap (is_prefix (map (λ x. x.1) on)) (order-placed catalog q _ _) ∙ begins-same (map (λ x. x.1) on) (places_at catalog q) (full-at catalog q))
+both-given catalog n c (join (by_merging falls) on) p q x order keep h =
+    both _ _ _ _ (ap (is_front (left_order falls on)) (order-placed catalog p _ _) ∙ goes-on-same c.order (left_order falls on) (places_at catalog p) order (full-at catalog p) keep h)
+    (ap (is_front (right_order falls on)) (order-placed catalog q _ _) ∙ begins-same (right_order falls on) (places_at catalog q) (full-at catalog q))
   where
     both : (a b c d : Bool) → a ≡ c → b ≡ d → (a && b) ≡ (c && d)
     both a b c d e f = cc
 
-both-shown : (catalog : ℕ → Relation) (n : ℕ) (c : Claim) (op : Binary) (p q : Plan) (x : Part) (order : List ℕ) → can_keep catalog (binary n c op p q) ≡ true
+both-shown : (catalog : ℕ → Relation) (n : ℕ) (c : Claim) (op : Binary) (p q : Plan) (x : Part) (order : List OrderEntry) → can_keep catalog (binary n c op p q) ≡ true
     → is_chosen order (places_at catalog (binary n c op p q)) ≡ true → order_shown catalog (placed catalog (binary n c op p q) x order) ≡ true
-both-shown catalog n c union p q x order keep h = ap (λ xs. is_prefix xs []) (none-chosen order (kept-chosen c.order [] order keep h).0)
-both-shown catalog n c (join true on) p q x order keep h =
-    ap (is_prefix order) (order-placed catalog p _ _) ∙ kept-prefix (map (λ x. x.0) on) (places_at catalog p) order (kept-chosen c.order _ order keep h).0
-both-shown catalog n c (join false on) p q x order keep h =
-    ap (is_prefix order) (order-placed catalog p _ _)
-    ∙ (ap (is_prefix order) (chosen-along order (places_at catalog p) (kept-chosen c.order (places_at catalog p) order keep h).0) ∙ prefix-same order)
+both-shown catalog n c union p q x order keep h = ap (λ xs. is_front xs []) (none-chosen order (kept-chosen c.order [] order keep h).0)
+both-shown catalog n c (join (by_merging falls) on) p q x order keep h =
+    ap (is_front order) (order-placed catalog p _ _) ∙ kept-front (left_order falls on) (places_at catalog p) order (kept-chosen c.order _ order keep h).0
+both-shown catalog n c (join by_hashing on) p q x order keep h =
+    ap (is_front order) (order-placed catalog p _ _)
+    ∙ (ap (is_front order) (chosen-along order (places_at catalog p) (kept-chosen c.order (places_at catalog p) order keep h).0) ∙ front-same order)
 both-shown catalog n c (semi_join matched on conditions) p q x order keep h =
-    ap (is_prefix order) (order-placed catalog p _ _)
-    ∙ (ap (is_prefix order) (chosen-along order (places_at catalog p) (kept-chosen c.order (places_at catalog p) order keep h).0) ∙ prefix-same order)
+    ap (is_front order) (order-placed catalog p _ _)
+    ∙ (ap (is_front order) (chosen-along order (places_at catalog p) (kept-chosen c.order (places_at catalog p) order keep h).0) ∙ front-same order)
 
 -- an exchange's input has each row once exactly where it can
-sent-once : (catalog : ℕ → Relation) (n : ℕ) (c : Claim) (k : ExchangeKind) (merge : List ℕ) (p : Plan) (q : Part) (order : List ℕ) → is_some_list (parts_at catalog p) ≡ true
+sent-once : (catalog : ℕ → Relation) (n : ℕ) (c : Claim) (k : ExchangeKind) (merge : List OrderEntry) (p : Plan) (q : Part) (order : List OrderEntry) → is_some_list (parts_at catalog p) ≡ true
     → not_replicated (placed catalog (exchange n c k merge p) q order) ≡ can_send catalog (exchange n c k merge p)
 sent-once catalog n c k merge p q order met =
     both _ _ _ _ (one-placed catalog p _ _)
@@ -412,12 +399,12 @@ sent-once catalog n c k merge p q order met =
     both : (a b c d : Bool) → a ≡ c → b ≡ d → (a || b) ≡ (c || d)
     both a b c d e f = cc
 
-exchange-shown : (catalog : ℕ → Relation) (n : ℕ) (c : Claim) (k : ExchangeKind) (merge : List ℕ) (p : Plan) (q : Part) (order : List ℕ) → can_keep catalog (exchange n c k merge p) ≡ true
+exchange-shown : (catalog : ℕ → Relation) (n : ℕ) (c : Claim) (k : ExchangeKind) (merge : List OrderEntry) (p : Plan) (q : Part) (order : List OrderEntry) → can_keep catalog (exchange n c k merge p) ≡ true
     → is_chosen order (places_at catalog (exchange n c k merge p)) ≡ true → order_shown catalog (placed catalog (exchange n c k merge p) q order) ≡ true
 exchange-shown catalog n c k merge p q order keep h =
     let x : Part = part_sent k order (parts_at catalog p) in
-    let below : List ℕ = order_along whole_rows (order_sent k (is_one (size p)) merge order) (places_at catalog p) in
-    ap (λ b. is_prefix order merge || ((b || goes_on k (claim (placed catalog p x below))) && is_prefix order (claim (placed catalog p x below)).order)) (one-placed catalog p x below)
+    let below : List OrderEntry = order_along whole_rows (order_sent k (is_one (size p)) merge order) (places_at catalog p) in
+    ap (λ b. is_front order merge || ((b || goes_on k (claim (placed catalog p x below))) && is_front order (claim (placed catalog p x below)).order)) (one-placed catalog p x below)
     ∙ sent-shown k merge c.order (parts_at catalog p) (places_at catalog p) order (is_one (size p)) (claim (placed catalog p x below)) (claim-placed catalog p x below) keep h
 
 -- ---- all nodes
@@ -426,20 +413,20 @@ pub else-same : {X : Type 0} (o o' u u' : Option X) → o ≡ o' → (o' ≡ Non
 else-same o None u u' e f = rw e (f refl)
 else-same o (Some x) u u' e f = rw e refl
 
-pub left-chosen : (op : Binary) (order : List ℕ) (places : OrderChoices) → are_full places ≡ true → is_chosen (left_order op order places) places ≡ true
+pub left-chosen : (op : Binary) (order : List OrderEntry) (places : OrderChoices) → are_full places ≡ true → is_chosen (order_to_left op order places) places ≡ true
 left-chosen union order places f = first-chosen places f
 left-chosen (join m on) order places f = along-chosen whole_rows order places f
 left-chosen (semi_join matched on conditions) order places f = along-chosen whole_rows order places f
 
-pub right-chosen : (op : Binary) (places : OrderChoices) → are_full places ≡ true → is_chosen (right_order op places) places ≡ true
+pub right-chosen : (op : Binary) (places : OrderChoices) → are_full places ≡ true → is_chosen (order_to_right op places) places ≡ true
 right-chosen union places f = first-chosen places f
-right-chosen (join true on) places f = along-chosen whole_rows (map (λ x. x.1) on) places f
-right-chosen (join false on) places f = first-chosen places f
+right-chosen (join (by_merging falls) on) places f = along-chosen whole_rows (right_order falls on) places f
+right-chosen (join by_hashing on) places f = first-chosen places f
 right-chosen (semi_join matched on conditions) places f = first-chosen places f
 
-pub below-chosen : (a : OrderAfter) (k : Copying) (order : List ℕ) (places : OrderChoices) → are_full places ≡ true → is_chosen (order_below a k order places) places ≡ true
+pub below-chosen : (a : OrderAfter) (k : Copying) (order : List OrderEntry) (places : OrderChoices) → are_full places ≡ true → is_chosen (order_below a k order places) places ≡ true
 below-chosen order_kept k order places f = along-chosen k order places f
-below-chosen (sorted_on cols) k order places f = first-chosen places f
+below-chosen (sorted_on own) k order places f = first-chosen places f
 
 -- no node below is unfit
 abbrev pub InputsFit : (ℕ → Relation) → Plan → Type 0
@@ -449,7 +436,7 @@ InputsFit catalog (binary n c op p q) = (first_unfit catalog p ≡ None) × (fir
 InputsFit catalog (exchange n c k m p) = first_unfit catalog p ≡ None
 
 -- then the first test that fails is the same, whether or not the first rows are known
-pub placed-node : (s : Scope) (p : Plan) (q : Part) (order : List ℕ) → typed s p ≡ true → Placeable (relation_at s.catalog) p → InputsFit (relation_at s.catalog) p
+pub placed-node : (s : Scope) (p : Plan) (q : Part) (order : List OrderEntry) → typed s p ≡ true → Placeable (relation_at s.catalog) p → InputsFit (relation_at s.catalog) p
     → is_option (parts_at (relation_at s.catalog) p) q ≡ true → is_chosen order (places_at (relation_at s.catalog) p) ≡ true → (known : Bool) (i : ℕ)
     → refused_at i (tests_with known (relation_at s.catalog) (placed (relation_at s.catalog) p q order)) ≡ refused_at i (fit_tests_with known (relation_at s.catalog) p)
 placed-node s (scan n c r m z) q order t how fits o h known i =
@@ -468,9 +455,9 @@ placed-node s (binary n c op p p2) q order t how fits o h known i =
 placed-node s (exchange n c k m p) q order t how fits o h known i =
     let catalog = relation_at s.catalog in
     let here = ready catalog (exchange n c k m p) how in
-    let may : may_merge k m ≡ true = and-left (may_merge k m) _ (and-right (are_columns _ m) _ (and-right (is_kind s _ k) _ (and-right (typed s p) _ t))) in
+    let may : may_merge k m ≡ true = and-left (may_merge k m) _ (and-right (are_columns _ (order_columns m)) _ (and-right (is_kind s _ k) _ (and-right (typed s p) _ t))) in
     let met = (all-fit catalog p fits).met in
     node-fit catalog (exchange n c k m p) q order i here o refl refl (sent-once catalog n c k m p q order met)
-    (ap (is_prefix m) (order-placed catalog p _ _)
+    (ap (is_front m) (order-placed catalog p _ _)
     ∙ sent-given k m c.order (parts_at catalog p) (places_at catalog p) order (is_one (size p)) may (full-at catalog p) here.keep h)
     (exchange-shown catalog n c k m p q order here.keep h) known

@@ -1,5 +1,7 @@
 -- What is placed is typed.
 use Rattle.std.proofs.Common.{◌≡◌, ℕ, nat_lt, nat_le, Bool, true, false, not, ◌&&◌, List, [], length, refl, sym, ap, ◌∙◌}
+use Rattle.vx_rows_values.specs.Order.{order_columns}
+use Rattle.vx_rows_values.specs.declared.order.OrderEntry.{OrderEntry}
 use Rattle.vx_rows_values.specs.declared.value.ColType.{ColType}
 use Rattle.vx_rows_values.proofs.Booleans.{and-left, and-right, and-both}
 use Rattle.vx_catalog_relations.specs.Relation.{Relation}
@@ -10,10 +12,10 @@ use Rattle.vx_plan_nodes.specs.Types.{unary_types, binary_types, types_of}
 use Rattle.vx_plan_nodes.specs.Typed.{Scope, are_columns, is_size, is_part, is_claim, is_unary, is_binary, is_kind, may_merge, is_output, typed}
 use Rattle.vx_plan_nodes.specs.Phases.{unary_open, is_open, unary_opens, opens, phase_fits, both_closed}
 use Rattle.vx_check_options.specs.Options.{OrderChoices, no_input, parts_at, places_over, places_at}
-use Rattle.vx_check_options.specs.Placed.{order_along, order_below, left_order, right_order, order_sent, parts_below, part_sent, is_chosen, keyless, placed}
+use Rattle.vx_check_options.specs.Placed.{order_along, order_below, order_to_left, order_to_right, order_sent, parts_below, part_sent, is_chosen, keyless, placed}
 use Rattle.vx_check_options.specs.Laws.{is_option}
 use Rattle.vx_check_options.proofs.ChosenParts.{option-passes, parts_below-options, part_sent-option}
-use Rattle.vx_check_options.proofs.ChosenOrders.{along-chosen, chosen-front, front-narrowed}
+use Rattle.vx_check_options.proofs.ChosenOrders.{along-chosen, chosen-begins, narrowed-begins}
 use Rattle.vx_check_options.proofs.PlacedKeeps.{places-filled, below-chosen, left-chosen, right-chosen}
 use Rattle.vx_check_options.proofs.TypedParts.{parts-typed}
 use Rattle.vx_check_options.proofs.TypedOrders.{singles-typed, declared-typed, unary-order-typed, binary-order-typed, sent-order-typed}
@@ -21,30 +23,30 @@ use Rattle.vx_check_options.proofs.TypedOrders.{singles-typed, declared-typed, u
 -- ---- what does not look at claims
 
 -- the types of the output
-types-placed : (catalog : ℕ → Relation) (p : Plan) (q : Part) (order : List ℕ) → types_of catalog (placed catalog p q order) ≡ types_of catalog p
+types-placed : (catalog : ℕ → Relation) (p : Plan) (q : Part) (order : List OrderEntry) → types_of catalog (placed catalog p q order) ≡ types_of catalog p
 types-placed catalog (scan n c r m z) q order = refl
 types-placed catalog (unary n c op p) q order = ap (unary_types op) (types-placed catalog p _ _)
 types-placed catalog (binary n c op p p2) q order =
-    ap (λ ts. binary_types op ts (types_of catalog (placed catalog p2 (parts_below catalog (binary n c op p p2) q (parts_at catalog p) (parts_at catalog p2)).1 (right_order op (places_at catalog p2))))) (types-placed catalog p _ _)
+    ap (λ ts. binary_types op ts (types_of catalog (placed catalog p2 (parts_below catalog (binary n c op p p2) q (parts_at catalog p) (parts_at catalog p2)).1 (order_to_right op (places_at catalog p2))))) (types-placed catalog p _ _)
     ∙ ap (binary_types op (types_of catalog p)) (types-placed catalog p2 _ _)
 types-placed catalog (exchange n c k m p) q order = types-placed catalog p _ _
 
 -- that no partial is left open
-open-placed : (catalog : ℕ → Relation) (p : Plan) (q : Part) (order : List ℕ) → is_open (placed catalog p q order) ≡ is_open p
+open-placed : (catalog : ℕ → Relation) (p : Plan) (q : Part) (order : List OrderEntry) → is_open (placed catalog p q order) ≡ is_open p
 open-placed catalog (scan n c r m z) q order = refl
 open-placed catalog (unary n c op p) q order = ap (unary_open op) (open-placed catalog p _ _)
 open-placed catalog (binary n c op p p2) q order = refl
 open-placed catalog (exchange n c k m p) q order = open-placed catalog p _ _
 
 -- that a final has its partial
-opens-placed : (keys : List ℕ) (aggregates : List Aggregate) (catalog : ℕ → Relation) (p : Plan) (q : Part) (order : List ℕ) → opens keys aggregates (placed catalog p q order) ≡ opens keys aggregates p
+opens-placed : (keys : List ℕ) (aggregates : List Aggregate) (catalog : ℕ → Relation) (p : Plan) (q : Part) (order : List OrderEntry) → opens keys aggregates (placed catalog p q order) ≡ opens keys aggregates p
 opens-placed keys aggregates catalog (scan n c r m z) q order = refl
 opens-placed keys aggregates catalog (unary n c op p) q order = ap (unary_opens keys aggregates op) (opens-placed keys aggregates catalog p _ _)
 opens-placed keys aggregates catalog (binary n c op p p2) q order = refl
 opens-placed keys aggregates catalog (exchange n c k m p) q order = opens-placed keys aggregates catalog p _ _
 
 -- that the phases fit
-fits-placed : (op : Unary) (catalog : ℕ → Relation) (p : Plan) (q : Part) (order : List ℕ) → phase_fits op (placed catalog p q order) ≡ phase_fits op p
+fits-placed : (op : Unary) (catalog : ℕ → Relation) (p : Plan) (q : Part) (order : List OrderEntry) → phase_fits op (placed catalog p q order) ≡ phase_fits op p
 fits-placed (select cs) catalog p q order = ap not (open-placed catalog p q order)
 fits-placed (project cols) catalog p q order = ap not (open-placed catalog p q order)
 fits-placed (distinct cols) catalog p q order = ap not (open-placed catalog p q order)
@@ -56,11 +58,11 @@ fits-placed (group final by aggregates) catalog p q order = opens-placed by aggr
 fits-placed (limit m) catalog p q order = ap not (open-placed catalog p q order)
 
 -- that both inputs are closed
-closed-placed : (catalog : ℕ → Relation) (p p2 : Plan) (x y : Part) (order order2 : List ℕ) → both_closed (placed catalog p x order) (placed catalog p2 y order2) ≡ both_closed p p2
+closed-placed : (catalog : ℕ → Relation) (p p2 : Plan) (x y : Part) (order order2 : List OrderEntry) → both_closed (placed catalog p x order) (placed catalog p2 y order2) ≡ both_closed p p2
 closed-placed catalog p p2 x y order order2 = rw (open-placed catalog p x order, open-placed catalog p2 y order2) refl
 
 -- the claim at the top is the one that is placed
-claim-placed : (catalog : ℕ → Relation) (p : Plan) (q : Part) (order : List ℕ) → claim (placed catalog p q order) ≡ keyless q order
+claim-placed : (catalog : ℕ → Relation) (p : Plan) (q : Part) (order : List OrderEntry) → claim (placed catalog p q order) ≡ keyless q order
 claim-placed catalog (scan n c r m z) q order = refl
 claim-placed catalog (unary n c op p) q order = refl
 claim-placed catalog (binary n c op p p2) q order = refl
@@ -85,29 +87,29 @@ output-of s (exchange n c k m p) h =
     let ts : List ColType = types_of (relation_at s.catalog) p in
     let out : Bool = is_output s ts c in
     let ok : Bool = is_kind s ts k in
-    and-right (may_merge k m) out (and-right (are_columns (length ts) m) (may_merge k m && out) (and-right ok (are_columns (length ts) m && (may_merge k m && out))
-    (and-right (typed s p) (ok && (are_columns (length ts) m && (may_merge k m && out))) h)))
+    and-right (may_merge k m) out (and-right (are_columns (length ts) (order_columns m)) (may_merge k m && out) (and-right ok (are_columns (length ts) (order_columns m) && (may_merge k m && out))
+    (and-right (typed s p) (ok && (are_columns (length ts) (order_columns m) && (may_merge k m && out))) h)))
 
 -- of a plan that is placed and typed, the order names columns
-order-of : (s : Scope) (p : Plan) (q : Part) (order : List ℕ) → typed s (placed (relation_at s.catalog) p q order) ≡ true
-    → are_columns (length (types_of (relation_at s.catalog) p)) order ≡ true
+order-of : (s : Scope) (p : Plan) (q : Part) (order : List OrderEntry) → typed s (placed (relation_at s.catalog) p q order) ≡ true
+    → are_columns (length (types_of (relation_at s.catalog) p)) (order_columns order) ≡ true
 order-of s p q order h =
     let made : Plan = placed (relation_at s.catalog) p q order in
     let ts : List ColType = types_of (relation_at s.catalog) p in
     let out : is_output s ts (keyless q order) ≡ true = sym (ap (λ us. is_output s us (keyless q order)) (types-placed (relation_at s.catalog) p q order))
     ∙ sym (ap (is_output s (types_of (relation_at s.catalog) made)) (claim-placed (relation_at s.catalog) p q order)) ∙ output-of s made h in
-    and-left (are_columns (length ts) order) true (and-right (is_part s ts q) (are_columns (length ts) order && true) (and-right (nat_le (length ts) 64) (is_claim s ts (keyless q order)) out))
+    and-left (are_columns (length ts) (order_columns order)) true (and-right (is_part s ts q) (are_columns (length ts) (order_columns order) && true) (and-right (nat_le (length ts) 64) (is_claim s ts (keyless q order)) out))
 
 -- ---- what is placed
 
 -- a part that is an option, and an order of columns, in place of a claim
-output-placed : (s : Scope) (p : Plan) (q : Part) (order : List ℕ) → typed s p ≡ true → is_option (parts_at (relation_at s.catalog) p) q ≡ true
-    → are_columns (length (types_of (relation_at s.catalog) p)) order ≡ true → is_output s (types_of (relation_at s.catalog) p) (keyless q order) ≡ true
+output-placed : (s : Scope) (p : Plan) (q : Part) (order : List OrderEntry) → typed s p ≡ true → is_option (parts_at (relation_at s.catalog) p) q ≡ true
+    → are_columns (length (types_of (relation_at s.catalog) p)) (order_columns order) ≡ true → is_output s (types_of (relation_at s.catalog) p) (keyless q order) ≡ true
 output-placed s p q order h is_opt cols =
     let ts : List ColType = types_of (relation_at s.catalog) p in
     and-both (nat_le (length ts) 64) (is_claim s ts (keyless q order)) (and-left (nat_le (length ts) 64) (is_claim s ts (claim p)) (output-of s p h))
-    (and-both (is_part s ts q) (are_columns (length ts) order && true) (option-passes (is_part s ts) q (parts_at (relation_at s.catalog) p) refl is_opt (parts-typed s p h))
-    (and-both (are_columns (length ts) order) true cols refl))
+    (and-both (is_part s ts q) (are_columns (length ts) (order_columns order) && true) (option-passes (is_part s ts) q (parts_at (relation_at s.catalog) p) refl is_opt (parts-typed s p h))
+    (and-both (are_columns (length ts) (order_columns order)) true cols refl))
 
 -- an operator over one input is typed where its input is, and has the same types
 unary-typed : (s : Scope) (n : ℕ) (op : Unary) (c : Claim) (p : Plan) (ts : List ColType) → typed s p ≡ true → phase_fits op p ≡ true → types_of (relation_at s.catalog) p ≡ ts → is_unary ts op ≡ true
@@ -132,17 +134,17 @@ binary-typed s n op c p q ts us h k f d e o out =
     ∙ and-both (is_binary ts us op) (is_output s (binary_types op ts us) c) o out)))
 
 -- and an exchange
-exchange-typed : (s : Scope) (n : ℕ) (k : ExchangeKind) (merge : List ℕ) (c : Claim) (p : Plan) (ts : List ColType) → typed s p ≡ true → types_of (relation_at s.catalog) p ≡ ts → is_kind s ts k ≡ true
-    → are_columns (length ts) merge ≡ true → may_merge k merge ≡ true → is_output s ts c ≡ true → typed s (exchange n c k merge p) ≡ true
+exchange-typed : (s : Scope) (n : ℕ) (k : ExchangeKind) (merge : List OrderEntry) (c : Claim) (p : Plan) (ts : List ColType) → typed s p ≡ true → types_of (relation_at s.catalog) p ≡ ts → is_kind s ts k ≡ true
+    → are_columns (length ts) (order_columns merge) ≡ true → may_merge k merge ≡ true → is_output s ts c ≡ true → typed s (exchange n c k merge p) ≡ true
 exchange-typed s n k merge c p ts h e o m may out =
     let us : List ColType = types_of (relation_at s.catalog) p in
-    and-both (typed s p) (is_kind s us k && (are_columns (length us) merge && (may_merge k merge && is_output s us c))) h
-    (ap (λ vs. is_kind s vs k && (are_columns (length vs) merge && (may_merge k merge && is_output s vs c))) e
-    ∙ and-both (is_kind s ts k) (are_columns (length ts) merge && (may_merge k merge && is_output s ts c)) o
-    (and-both (are_columns (length ts) merge) (may_merge k merge && is_output s ts c) m (and-both (may_merge k merge) (is_output s ts c) may out)))
+    and-both (typed s p) (is_kind s us k && (are_columns (length us) (order_columns merge) && (may_merge k merge && is_output s us c))) h
+    (ap (λ vs. is_kind s vs k && (are_columns (length vs) (order_columns merge) && (may_merge k merge && is_output s vs c))) e
+    ∙ and-both (is_kind s ts k) (are_columns (length ts) (order_columns merge) && (may_merge k merge && is_output s ts c)) o
+    (and-both (are_columns (length ts) (order_columns merge)) (may_merge k merge && is_output s ts c) m (and-both (may_merge k merge) (is_output s ts c) may out)))
 
 -- by induction from the top: the order of each input is of columns, and those of the output are copies of them
-pub placed-is-typed : (s : Scope) (p : Plan) (q : Part) (order : List ℕ) → IsCatalog s.catalog → typed s p ≡ true
+pub placed-is-typed : (s : Scope) (p : Plan) (q : Part) (order : List OrderEntry) → IsCatalog s.catalog → typed s p ≡ true
     → is_option (parts_at (relation_at s.catalog) p) q ≡ true → is_chosen order (places_at (relation_at s.catalog) p) ≡ true
     → typed s (placed (relation_at s.catalog) p q order) ≡ true
 placed-is-typed s (scan n c r m z) q order catalog h is_opt chosen =
@@ -150,7 +152,7 @@ placed-is-typed s (scan n c r m z) q order catalog h is_opt chosen =
     let ts : List ColType = types_of (relation_at s.catalog) node in
     let named = and-left (nat_lt r (length s.catalog)) (is_size s.sizes z && is_output s ts c) h in
     let sized = and-right (nat_lt r (length s.catalog)) (is_size s.sizes z && is_output s ts c) h in
-    let front = front-narrowed c.order order (places_over (relation_at s.catalog) node [] []) (chosen-front order (places_at (relation_at s.catalog) node) chosen) in
+    let front = narrowed-begins c.order order (places_over (relation_at s.catalog) node [] []) (chosen-begins order (places_at (relation_at s.catalog) node) chosen) in
     and-both (nat_lt r (length s.catalog)) (is_size s.sizes z && is_output s ts (keyless q order)) named
     (and-both (is_size s.sizes z) (is_output s ts (keyless q order)) (and-left (is_size s.sizes z) (is_output s ts c) sized)
     (output-placed s node q order h is_opt (singles-typed ts order (relation_at s.catalog r).order front (declared-typed s r catalog named))))
@@ -160,12 +162,12 @@ placed-is-typed s (unary n c op p) q order catalog h is_opt chosen =
     let us : List ColType = types_of (relation_at s.catalog) node in
     let places : OrderChoices = places_at (relation_at s.catalog) p in
     let part : Part = (parts_below (relation_at s.catalog) node q (parts_at (relation_at s.catalog) p) no_input).0 in
-    let below : List ℕ = order_below (described op).order (described op).copying order places in
+    let below : List OrderEntry = order_below (described op).order (described op).copying order places in
     let made : Plan = placed (relation_at s.catalog) p part below in
     let types : types_of (relation_at s.catalog) made ≡ ts = types-placed (relation_at s.catalog) p part below in
     let rest = and-right (typed s p) (phase_fits op p && (is_unary ts op && is_output s us c)) h in
     let ok = and-left (is_unary ts op) (is_output s us c) (and-right (phase_fits op p) (is_unary ts op && is_output s us c) rest) in
-    let front = front-narrowed c.order order (places_over (relation_at s.catalog) node [] places) (chosen-front order (places_at (relation_at s.catalog) node) chosen) in
+    let front = narrowed-begins c.order order (places_over (relation_at s.catalog) node [] places) (chosen-begins order (places_at (relation_at s.catalog) node) chosen) in
     let filled = places-filled (relation_at s.catalog) p in
     let made_typed = placed-is-typed s p part below catalog (and-left (typed s p) (phase_fits op p && (is_unary ts op && is_output s us c)) h)
     (parts_below-options (relation_at s.catalog) node q (parts_at (relation_at s.catalog) p) no_input).0
@@ -183,15 +185,15 @@ placed-is-typed s (binary n c op p p2) q order catalog h is_opt chosen =
     let rights : List Part = parts_at (relation_at s.catalog) p2 in
     let parts : Part × Part = parts_below (relation_at s.catalog) node q lefts rights in
     let options = parts_below-options (relation_at s.catalog) node q lefts rights in
-    let below : List ℕ = left_order op order places in
-    let beside : List ℕ = right_order op (places_at (relation_at s.catalog) p2) in
+    let below : List OrderEntry = order_to_left op order places in
+    let beside : List OrderEntry = order_to_right op (places_at (relation_at s.catalog) p2) in
     let left : Plan = placed (relation_at s.catalog) p parts.0 below in
     let right : Plan = placed (relation_at s.catalog) p2 parts.1 beside in
     let last : Bool = both_closed p p2 && (is_binary ts vs op && is_output s us c) in
     let rest = and-right (typed s p) (typed s p2 && last) h in
     let more = and-right (typed s p2) last rest in
     let ok = and-left (is_binary ts vs op) (is_output s us c) (and-right (both_closed p p2) (is_binary ts vs op && is_output s us c) more) in
-    let front = front-narrowed c.order order (places_over (relation_at s.catalog) node [] places) (chosen-front order (places_at (relation_at s.catalog) node) chosen) in
+    let front = narrowed-begins c.order order (places_over (relation_at s.catalog) node [] places) (chosen-begins order (places_at (relation_at s.catalog) node) chosen) in
     let filled = places-filled (relation_at s.catalog) p in
     let left_typed = placed-is-typed s p parts.0 below catalog (and-left (typed s p) (typed s p2 && last) h) options.0 (left-chosen op order places filled) in
     let right_typed = placed-is-typed s p2 parts.1 beside catalog (and-left (typed s p2) last rest) options.1
@@ -205,17 +207,17 @@ placed-is-typed s (exchange n c k merge p) q order catalog h is_opt chosen =
     let ts : List ColType = types_of (relation_at s.catalog) p in
     let parts : List Part = parts_at (relation_at s.catalog) p in
     let places : OrderChoices = places_at (relation_at s.catalog) p in
-    let below : List ℕ = order_along whole_rows (order_sent k (is_one (size p)) merge order) places in
+    let below : List OrderEntry = order_along whole_rows (order_sent k (is_one (size p)) merge order) places in
     let made : Plan = placed (relation_at s.catalog) p (part_sent k order parts) below in
     let last : Bool = may_merge k merge && is_output s ts c in
-    let rest = and-right (typed s p) (is_kind s ts k && (are_columns (length ts) merge && last)) h in
-    let more = and-right (is_kind s ts k) (are_columns (length ts) merge && last) rest in
-    let merged = and-left (are_columns (length ts) merge) last more in
-    let front = front-narrowed c.order order (places_over (relation_at s.catalog) node parts places) (chosen-front order (places_at (relation_at s.catalog) node) chosen) in
+    let rest = and-right (typed s p) (is_kind s ts k && (are_columns (length ts) (order_columns merge) && last)) h in
+    let more = and-right (is_kind s ts k) (are_columns (length ts) (order_columns merge) && last) rest in
+    let merged = and-left (are_columns (length ts) (order_columns merge)) last more in
+    let front = narrowed-begins c.order order (places_over (relation_at s.catalog) node parts places) (chosen-begins order (places_at (relation_at s.catalog) node) chosen) in
     let filled = places-filled (relation_at s.catalog) p in
-    let made_typed = placed-is-typed s p (part_sent k order parts) below catalog (and-left (typed s p) (is_kind s ts k && (are_columns (length ts) merge && last)) h)
+    let made_typed = placed-is-typed s p (part_sent k order parts) below catalog (and-left (typed s p) (is_kind s ts k && (are_columns (length ts) (order_columns merge) && last)) h)
     (part_sent-option k order parts) (along-chosen whole_rows (order_sent k (is_one (size p)) merge order) places filled) in
     let columns = sent-order-typed k (is_one (size p)) ts merge order parts places merged front (order-of s p (part_sent k order parts) below made_typed) in
     exchange-typed s n k merge (keyless q order) made ts made_typed (types-placed (relation_at s.catalog) p (part_sent k order parts) below)
-    (and-left (is_kind s ts k) (are_columns (length ts) merge && last) rest) merged (and-left (may_merge k merge) (is_output s ts c) (and-right (are_columns (length ts) merge) last more))
+    (and-left (is_kind s ts k) (are_columns (length ts) (order_columns merge) && last) rest) merged (and-left (may_merge k merge) (is_output s ts c) (and-right (are_columns (length ts) (order_columns merge)) last more))
     (output-placed s node q order h is_opt columns)

@@ -1,19 +1,20 @@
 -- What is placed keeps the claims that are there.
-use Rattle.std.proofs.Common.{◌≡◌, ℕ, Bool, true, false, cond, ◌&&◌, List, [], ◌∷◌, map, take, refl, sym, ap, ◌∙◌, true≢false, None}
+use Rattle.std.proofs.Common.{◌≡◌, ℕ, Bool, true, false, cond, ◌&&◌, List, [], ◌∷◌, take, refl, sym, ap, ◌∙◌, true≢false, None}
+use Rattle.vx_rows_values.specs.declared.order.OrderEntry.{OrderEntry}
 use Rattle.vx_rows_values.specs.Lists.{is_some_list}
 use Rattle.vx_rows_values.proofs.Booleans.{and-left, and-right}
 use Rattle.vx_catalog_relations.specs.Relation.{Relation}
-use Rattle.vx_plan_nodes.specs.Plan.{Part, one, any, all, routed, Binary, union, join, semi_join, ExchangeKind, route_to, round, broadcast, gather, concat, Plan, scan, unary, binary, exchange, claim, size, is_one}
+use Rattle.vx_plan_nodes.specs.Plan.{Part, one, any, all, routed, Binary, union, join, semi_join, ExchangeKind, route_to, round, broadcast, gather, concat, Plan, scan, unary, binary, exchange, claim, size, is_one, by_hashing, by_merging, left_order, right_order}
 use Rattle.vx_plan_nodes.specs.Describe.{Copying, whole_rows, OrderAfter, order_kept, sorted_on, described}
 use Rattle.vx_check_rules.specs.Rules.{part_gives, sizes_match}
 use Rattle.vx_check_rules.specs.Refusal.{or_else, refused_at}
 use Rattle.vx_check_rules.proofs.Bools.{or-false}
 use Rattle.vx_check_rules.proofs.Refusals.{passed, none-both, none-failed}
 use Rattle.vx_check_options.specs.Options.{OrderChoices, no_input, told_parts, parts_above, parts_at, same_part, narrowed, or_nowhere, places_after, places_over_both, places_sent, places_over, places_at, can_send, can_meet, can_order, can_keep, fit_tests, first_unfit}
-use Rattle.vx_check_options.specs.Placed.{order_below, left_order, right_order, order_sent, is_chosen, keyless, placed}
+use Rattle.vx_check_options.specs.Placed.{order_below, order_to_left, order_to_right, order_sent, is_chosen, keyless, placed}
 use Rattle.vx_check_options.specs.Laws.{keeps_part, is_option, Keeps}
 use Rattle.vx_check_options.proofs.ChosenParts.{part-is, parts_below-options, part_sent-option}
-use Rattle.vx_check_options.proofs.ChosenOrders.{are_filled, first-columns-chosen, along-chosen, prefix-chosen, nowhere-filled, singles-filled, up-filled, rising-filled}
+use Rattle.vx_check_options.proofs.ChosenOrders.{are_filled, first-entries-chosen, along-chosen, begins-chosen, nowhere-filled, singles-filled, up-filled, rising-filled}
 
 -- ---- parts
 
@@ -71,7 +72,7 @@ option-kept catalog p q lefts rights s h = by (is_one (size p)) (claim p).part s
 -- ---- orders
 
 -- no place of several producers is empty
-sent-filled : (k : ExchangeKind) (merge : List ℕ) (parts : List Part) (places : OrderChoices) → are_filled places ≡ true → are_filled (places_sent k merge parts places) ≡ true
+sent-filled : (k : ExchangeKind) (merge : List OrderEntry) (parts : List Part) (places : OrderChoices) → are_filled places ≡ true → are_filled (places_sent k merge parts places) ≡ true
 sent-filled concat merge parts places h = rising-filled parts places h
 sent-filled (route_to z r cols) merge parts places h = singles-filled merge
 sent-filled (round z) merge parts places h = singles-filled merge
@@ -81,8 +82,8 @@ sent-filled gather merge parts places h = singles-filled merge
 -- and none of an operator over two inputs
 both-filled : (op : Binary) (places : OrderChoices) → are_filled places ≡ true → are_filled (places_over_both op places) ≡ true
 both-filled union places h = refl
-both-filled (join true on) places h = nowhere-filled (map (λ x. x.0) on) places h
-both-filled (join false on) places h = h
+both-filled (join (by_merging falls) on) places h = nowhere-filled (left_order falls on) places h
+both-filled (join by_hashing on) places h = h
 both-filled (semi_join matched on conditions) places h = h
 
 -- no place of a node is empty
@@ -101,22 +102,22 @@ places-filled catalog (exchange n c k merge p) =
     by false h = sent-filled k merge (parts_at catalog p) (places_at catalog p) h
 
 -- the orders of the inputs of a node are chosen from their places
-pub below-chosen : (after : OrderAfter) (k : Copying) (order : List ℕ) (places : OrderChoices) → are_filled places ≡ true → is_chosen (order_below after k order places) places ≡ true
+pub below-chosen : (after : OrderAfter) (k : Copying) (order : List OrderEntry) (places : OrderChoices) → are_filled places ≡ true → is_chosen (order_below after k order places) places ≡ true
 below-chosen order_kept k order places f = along-chosen k order places f
-below-chosen (sorted_on cols) k order places f = first-columns-chosen places f
+below-chosen (sorted_on own) k order places f = first-entries-chosen places f
 
 -- of the left input
-pub left-chosen : (op : Binary) (order : List ℕ) (places : OrderChoices) → are_filled places ≡ true → is_chosen (left_order op order places) places ≡ true
-left-chosen union order places f = first-columns-chosen places f
+pub left-chosen : (op : Binary) (order : List OrderEntry) (places : OrderChoices) → are_filled places ≡ true → is_chosen (order_to_left op order places) places ≡ true
+left-chosen union order places f = first-entries-chosen places f
 left-chosen (join m on) order places f = along-chosen whole_rows order places f
 left-chosen (semi_join matched on conditions) order places f = along-chosen whole_rows order places f
 
 -- and of the right one
-pub right-chosen : (op : Binary) (places : OrderChoices) → are_filled places ≡ true → is_chosen (right_order op places) places ≡ true
-right-chosen union places f = first-columns-chosen places f
-right-chosen (join true on) places f = along-chosen whole_rows (map (λ x. x.1) on) places f
-right-chosen (join false on) places f = first-columns-chosen places f
-right-chosen (semi_join matched on conditions) places f = first-columns-chosen places f
+pub right-chosen : (op : Binary) (places : OrderChoices) → are_filled places ≡ true → is_chosen (order_to_right op places) places ≡ true
+right-chosen union places f = first-entries-chosen places f
+right-chosen (join (by_merging falls) on) places f = along-chosen whole_rows (right_order falls on) places f
+right-chosen (join by_hashing on) places f = first-entries-chosen places f
+right-chosen (semi_join matched on conditions) places f = first-entries-chosen places f
 
 -- ---- plans
 
@@ -131,12 +132,12 @@ fit-here catalog p h =
     )
 
 -- by induction from the top: what is placed at an input is one of its options, and is chosen from its places
-pub placed-keeps : (catalog : ℕ → Relation) (p : Plan) (q : Part) (order : List ℕ) → first_unfit catalog p ≡ None
+pub placed-keeps : (catalog : ℕ → Relation) (p : Plan) (q : Part) (order : List OrderEntry) → first_unfit catalog p ≡ None
     → is_option (parts_at catalog p) q ≡ true → is_chosen order (places_at catalog p) ≡ true → Keeps p (placed catalog p q order)
 placed-keeps catalog (scan n c r m z) q order fit is_opt chosen =
     let node : Plan = scan n c r m z in
     let here = fit-here catalog node (none-failed n (fit_tests catalog node) fit) in
-    (keyless q order, refl, (option-kept catalog node q no_input no_input here.0 is_opt, prefix-chosen c.order order (places_over catalog node [] []) here.1 chosen))
+    (keyless q order, refl, (option-kept catalog node q no_input no_input here.0 is_opt, begins-chosen c.order order (places_over catalog node [] []) here.1 chosen))
 placed-keeps catalog (unary n c op p) q order fit is_opt chosen =
     let node : Plan = unary n c op p in
     let w = none-both (first_unfit catalog p) (refused_at n (fit_tests catalog node)) fit in
@@ -145,7 +146,7 @@ placed-keeps catalog (unary n c op p) q order fit is_opt chosen =
       keyless q order,
       _,
       refl,
-      (option-kept catalog node q (parts_at catalog p) no_input here.0 is_opt, prefix-chosen c.order order places here.1 chosen),
+      (option-kept catalog node q (parts_at catalog p) no_input here.0 is_opt, begins-chosen c.order order places here.1 chosen),
       placed-keeps catalog p _ _ w.0 (parts_below-options catalog node q (parts_at catalog p) no_input).0
           (below-chosen (described op).order (described op).copying order (places_at catalog p) (places-filled catalog p)),
     )
@@ -160,7 +161,7 @@ placed-keeps catalog (binary n c op p p2) q order fit is_opt chosen =
       _,
       _,
       refl,
-      (option-kept catalog node q (parts_at catalog p) (parts_at catalog p2) here.0 is_opt, prefix-chosen c.order order places here.1 chosen),
+      (option-kept catalog node q (parts_at catalog p) (parts_at catalog p2) here.0 is_opt, begins-chosen c.order order places here.1 chosen),
       placed-keeps catalog p _ _ w.0 options.0 (left-chosen op order (places_at catalog p) (places-filled catalog p)),
       placed-keeps catalog p2 _ _ v.0 options.1 (right-chosen op (places_at catalog p2) (places-filled catalog p2)),
     )
@@ -172,7 +173,7 @@ placed-keeps catalog (exchange n c k merge p) q order fit is_opt chosen =
       keyless q order,
       _,
       refl,
-      (option-kept catalog node q no_input no_input here.0 is_opt, prefix-chosen c.order order places here.1 chosen),
+      (option-kept catalog node q no_input no_input here.0 is_opt, begins-chosen c.order order places here.1 chosen),
       placed-keeps catalog p _ _ w.0 (part_sent-option k order (parts_at catalog p))
           (along-chosen whole_rows (order_sent k (is_one (size p)) merge order) (places_at catalog p) (places-filled catalog p)),
     )

@@ -3,6 +3,7 @@ use Rattle.std.proofs.Common.{◌≡◌, ℕ, zero, suc, ◌==◌, Bool, true, f
 use Rattle.std.specs.List.{list_any, list_all, flat_map, filter, find}
 use Rattle.std.proofs.lemmas.Bool.{eqb-true}
 use Rattle.std.proofs.lemmas.List.Folds.{list_any-append, list_all-append}
+use Rattle.vx_rows_values.specs.declared.order.OrderEntry.{OrderEntry}
 use Rattle.vx_rows_values.specs.Lists.{is_some_list}
 use Rattle.vx_rows_values.proofs.Booleans.{and-left, and-right, and-both}
 use Rattle.vx_catalog_relations.specs.Relation.{Relation}
@@ -510,7 +511,7 @@ below-in catalog p q lefts rights = by (first_two (is_given catalog p q) lefts r
     by None e = (first-option lefts, first-option rights)
     by (Some w) e = let v = two-in (is_given catalog p q) lefts rights w e in (option-of w.0 lefts v.0, option-of w.1 rights v.1)
 
-pub sent-in : (k : ExchangeKind) (order : List ℕ) (parts : List Part) → is_option parts (part_sent k order parts) ≡ true
+pub sent-in : (k : ExchangeKind) (order : List OrderEntry) (parts : List Part) → is_option parts (part_sent k order parts) ≡ true
 sent-in (route_to z r cols) order parts = first-option parts
 sent-in (round z) order parts = first-option parts
 sent-in (broadcast z) order parts = first-option parts

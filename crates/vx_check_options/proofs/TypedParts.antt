@@ -4,6 +4,7 @@ use Rattle.std.specs.List.{list_any, list_all}
 use Rattle.std.proofs.lemmas.Bool.Decides.{nat_tests}
 use Rattle.std.proofs.lemmas.List.{append-nil}
 use Rattle.std.proofs.lemmas.List.Folds.{list_all-append, list_all-map}
+use Rattle.vx_rows_values.specs.Order.{order_columns}
 use Rattle.vx_rows_values.specs.declared.value.ColType.{ColType}
 use Rattle.vx_rows_values.specs.Types.{type_at}
 use Rattle.vx_rows_values.specs.Lists.{is_some_list}
@@ -344,7 +345,7 @@ above-typed catalog p test lefts rights h a k l = all-take test 64 (parts_above 
 -- a typed claim has a typed part
 output-part : (s : Scope) (types : List ColType) (c : Claim) → is_output s types c ≡ true → is_part s types c.part ≡ true
 output-part s types c h =
-    and-left (is_part s types c.part) (are_columns (length types) c.order && list_all (are_columns (length types)) c.keys) (and-right (nat_le (length types) 64) (is_claim s types c) h)
+    and-left (is_part s types c.part) (are_columns (length types) (order_columns c.order) && list_all (are_columns (length types)) c.keys) (and-right (nat_le (length types) 64) (is_claim s types c) h)
 
 -- the part that an exchange makes is typed
 kind-typed : (s : Scope) (types : List ColType) (k : ExchangeKind) → is_kind s types k ≡ true → is_part s types (kind_part k) ≡ true
@@ -400,10 +401,10 @@ parts-typed s (binary n c op p q) h =
 parts-typed s (exchange n c k m p) h =
     let node : Plan = exchange n c k m p in
     let ts : List ColType = types_of (relation_at s.catalog) p in
-    let last : Bool = are_columns (length ts) m && (may_merge k m && is_output s ts c) in
+    let last : Bool = are_columns (length ts) (order_columns m) && (may_merge k m && is_output s ts c) in
     let rest = and-right (typed s p) (is_kind s ts k && last) h in
     let more = and-right (is_kind s ts k) last rest in
-    let out = and-right (may_merge k m) (is_output s ts c) (and-right (are_columns (length ts) m) (may_merge k m && is_output s ts c) more) in
+    let out = and-right (may_merge k m) (is_output s ts c) (and-right (are_columns (length ts) (order_columns m)) (may_merge k m && is_output s ts c) more) in
     above-typed (relation_at s.catalog) node (is_part s ts) no_input no_input refl refl (output-part s ts c out)
     (ways-typed (relation_at s.catalog) node (λ x. true) (λ x. true) (is_part s ts) no_input no_input
     (λ x y i j. way-typed s whole_rows ts ts (kind_part k) true (whole-types ts) (kind-typed s ts k (and-left (is_kind s ts k) last rest))) refl refl)

@@ -1,14 +1,15 @@
 -- Plans without their keys: no test of a node but the one of its keys looks at them.
 use Rattle.std.proofs.Common.{◌≡◌, ℕ, Bool, true, false, ◌&&◌, ◌||◌, List, [], ◌∷◌, refl, sym, ap, subst, ◌∙◌, Option, Some, None}
 use Rattle.std.specs.List.{list_all}
+use Rattle.vx_rows_values.specs.declared.order.OrderEntry.{OrderEntry}
 use Rattle.vx_rows_values.proofs.Booleans.{and-left}
 use Rattle.vx_catalog_relations.specs.Relation.{Relation}
 use Rattle.vx_catalog_relations.specs.Catalog.{all_below, are_distinct}
-use Rattle.vx_plan_nodes.specs.Plan.{Size, Part, one, any, all, routed, Unary, select, project, distinct, sort, group, limit, plain, partial, final, Binary, union, join, semi_join, ExchangeKind, route_to, round, broadcast, gather, concat, Plan, scan, unary, binary, exchange, claim, size, is_one}
+use Rattle.vx_plan_nodes.specs.Plan.{Size, Part, one, any, all, routed, Unary, select, project, distinct, sort, group, limit, plain, partial, final, Binary, union, join, semi_join, ExchangeKind, route_to, round, broadcast, gather, concat, Plan, scan, unary, binary, exchange, claim, size, is_one, by_hashing, by_merging}
 use Rattle.vx_plan_nodes.specs.Types.{width, unary_width, binary_width}
 use Rattle.vx_plan_nodes.specs.Typed.{are_columns}
 use Rattle.vx_plan_nodes.specs.Describe.{described_both}
-use Rattle.vx_check_rules.specs.Rules.{if_some, has, within, is_prefix, copied, left_columns, right_columns, through, routed_alike, alike_shows, binary_inputs_match, keeps_apart, sizes_match, not_replicated, inputs_match, order_given, unary_shows, join_shows, semi_join_shows, both_have, shows, unless_one, part_shown, unary_orders, goes_on, orders, order_shown, numbers_below, keys_shown}
+use Rattle.vx_check_rules.specs.Rules.{if_some, has, within, is_front, copied, left_columns, right_columns, through, routed_alike, alike_shows, binary_inputs_match, keeps_apart, sizes_match, not_replicated, inputs_match, order_given, unary_shows, join_shows, semi_join_shows, both_have, shows, unless_one, part_shown, unary_orders, goes_on, orders, order_shown, numbers_below, keys_shown}
 use Rattle.vx_check_rules.specs.Refusal.{Rule, size_mismatch, part_not_shown, inputs_not_matched, replicated_input, order_not_shown, order_needed, key_not_shown, first_rows_open}
 use Rattle.vx_check_rules.specs.Behaviour.{Keyed, keyed_over, behaviour}
 use Rattle.vx_check_rules.proofs.Bools.{all-more}
@@ -97,10 +98,10 @@ given-without : (p : Plan) → order_given (without_keys p) ≡ order_given p
 given-without (scan n c r m z) = refl
 given-without (unary n c op p) = refl
 given-without (binary n c union p q) = refl
-given-without (binary n c (join true on) p q) = rw (order-without p, order-without q) refl
-given-without (binary n c (join false on) p q) = refl
+given-without (binary n c (join (by_merging falls) on) p q) = rw (order-without p, order-without q) refl
+given-without (binary n c (join by_hashing on) p q) = refl
 given-without (binary n c (semi_join matched on conditions) p q) = refl
-given-without (exchange n c k m p) = ap (is_prefix m) (order-without p)
+given-without (exchange n c k m p) = ap (is_front m) (order-without p)
 
 -- ---- parts
 
@@ -171,16 +172,16 @@ goes-without (broadcast z) p = refl
 goes-without gather p = refl
 goes-without concat p = rw (part-without p, order-without p) refl
 
-orders-without : (catalog : ℕ → Relation) (p : Plan) (order : List ℕ) → orders catalog (without_keys p) order ≡ orders catalog p order
+orders-without : (catalog : ℕ → Relation) (p : Plan) (order : List OrderEntry) → orders catalog (without_keys p) order ≡ orders catalog p order
 orders-without catalog (scan n c r m z) order = refl
 orders-without catalog (unary n c op p) order = ap (λ below. unary_orders op below order) (order-without p)
 orders-without catalog (binary n c union p q) order = refl
-orders-without catalog (binary n c (join m on) p q) order = ap (is_prefix order) (order-without p)
-orders-without catalog (binary n c (semi_join matched on conditions) p q) order = ap (is_prefix order) (order-without p)
+orders-without catalog (binary n c (join m on) p q) order = ap (is_front order) (order-without p)
+orders-without catalog (binary n c (semi_join matched on conditions) p q) order = ap (is_front order) (order-without p)
 orders-without catalog (exchange n c k m p) order = same (size-without p) (goes-without k p) (order-without p)
   where
-    same : {z z' : Size} {a a' : Bool} {below below' : List ℕ} → z ≡ z' → a ≡ a' → below ≡ below'
-        → (is_prefix order m || ((is_one z || a) && is_prefix order below)) ≡ (is_prefix order m || ((is_one z' || a') && is_prefix order below'))
+    same : {z z' : Size} {a a' : Bool} {below below' : List OrderEntry} → z ≡ z' → a ≡ a' → below ≡ below'
+        → (is_front order m || ((is_one z || a) && is_front order below)) ≡ (is_front order m || ((is_one z' || a') && is_front order below'))
     same d e f = cc
 
 ordered-without : (catalog : ℕ → Relation) (p : Plan) → order_shown catalog (without_keys p) ≡ order_shown catalog p
@@ -221,7 +222,7 @@ at-top P (exchange n c k m p) h = h.1
 -- ---- claims with the keys that are found
 
 -- without its keys, the plan is the placed one
-pub claimed-placed : (catalog : ℕ → Relation) (p : Plan) (q : Part) (order : List ℕ) (x : Plan) → IsClaimed catalog p q order x → without_keys x ≡ placed catalog p q order
+pub claimed-placed : (catalog : ℕ → Relation) (p : Plan) (q : Part) (order : List OrderEntry) (x : Plan) → IsClaimed catalog p q order x → without_keys x ≡ placed catalog p q order
 claimed-placed catalog (scan n c r m z) q order x h = ap without_keys h.1
 claimed-placed catalog (unary n c op p) q order x h = ap without_keys h.2 ∙ ap (unary n (keyless q order) op) (claimed-placed catalog p _ _ h.1 h.3)
 claimed-placed catalog (binary n c op p p2) q order x h =
@@ -232,7 +233,7 @@ claimed-placed catalog (binary n c op p p2) q order x h =
 claimed-placed catalog (exchange n c k m p) q order x h = ap without_keys h.2 ∙ ap (exchange n (keyless q order) k m) (claimed-placed catalog p _ _ h.1 h.3)
 
 -- it is as wide
-pub claimed-width : (catalog : ℕ → Relation) (p : Plan) (q : Part) (order : List ℕ) (x : Plan) → IsClaimed catalog p q order x → width catalog x ≡ width catalog p
+pub claimed-width : (catalog : ℕ → Relation) (p : Plan) (q : Part) (order : List OrderEntry) (x : Plan) → IsClaimed catalog p q order x → width catalog x ≡ width catalog p
 claimed-width catalog p q order x h = sym (width-without catalog x) ∙ ap (width catalog) (claimed-placed catalog p q order x h) ∙ width-placed catalog p q order
 
 -- keys that are found are shown
@@ -249,7 +250,7 @@ keys-here catalog x keyed w claimed wide same found =
     }
 
 -- so at each node
-pub claimed-keys : (catalog : ℕ → Relation) (p : Plan) (q : Part) (order : List ℕ) (x : Plan) → IsClaimed catalog p q order x → AtEach (HasShownKeys catalog) x
+pub claimed-keys : (catalog : ℕ → Relation) (p : Plan) (q : Part) (order : List OrderEntry) (x : Plan) → IsClaimed catalog p q order x → AtEach (HasShownKeys catalog) x
 claimed-keys catalog (scan n c r m z) q order x h =
     subst (AtEach (HasShownKeys catalog)) (sym h.1) (keys-here catalog (scan n (note q order h.0) r m z) _ _ _ refl refl h.2)
 claimed-keys catalog (unary n c op p) q order x h =

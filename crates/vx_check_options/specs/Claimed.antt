@@ -1,6 +1,7 @@
 -- Plans with claims that are placed from the top down and keys that are found from the inputs upwards, and what such claims are good for.
 use Rattle.std.specs.Prelude.{ℕ, ◌≡◌, ◌<◌, ◌⊎◌, Bool, true, ◌&&◌, List, [], ◌∷◌, ◌++◌, length, Option, Some, None, slice_get}
 use Rattle.std.specs.List.{list_all}
+use Rattle.vx_rows_values.specs.declared.order.OrderEntry.{OrderEntry}
 use Rattle.vx_catalog_relations.specs.Relation.{Relation}
 use Rattle.vx_catalog_relations.specs.Catalog.{relation_at, all_below, IsCatalog}
 use Rattle.vx_plan_nodes.specs.Plan.{Part, Claim, Plan, scan, unary, binary, exchange, claim, size, is_one}
@@ -11,12 +12,12 @@ use Rattle.vx_check_rules.specs.Rules.{sizes_match, first_rows_known, covers, al
 use Rattle.vx_check_rules.specs.Refusal.{Rule, size_mismatch, inputs_not_matched, replicated_input, order_not_shown, order_needed, first_rows_open, or_else, refused_at, first_refused}
 use Rattle.vx_check_rules.specs.Behaviour.{behaviour, shown_key, keyed_from}
 use Rattle.vx_check_options.specs.Options.{no_input, parts_at, places_at, can_send, can_meet, can_order, can_keep, first_unfit}
-use Rattle.vx_check_options.specs.Placed.{is_chosen, order_along, order_below, left_order, right_order, order_sent, parts_below, part_sent, bare}
+use Rattle.vx_check_options.specs.Placed.{is_chosen, order_along, order_below, order_to_left, order_to_right, order_sent, parts_below, part_sent, bare}
 use Rattle.vx_check_options.specs.Laws.{Keeps, is_option, IsStrongest, AtEach}
 use Rattle.vx_check_options.specs.FoundKeys.{are_apart, show, FoundKeys}
 
 -- a claim
-abbrev pub note : Part → List ℕ → List (List ℕ) → Claim
+abbrev pub note : Part → List OrderEntry → List (List ℕ) → Claim
 note q order keys = record { part = q; order = order; keys = keys }
 
 -- the keys of a node with these nodes, over inputs that claim these
@@ -24,7 +25,7 @@ abbrev pub FoundAt : (ℕ → Relation) → Plan → (lefts rights found : List 
 FoundAt catalog p lefts rights found = FoundKeys (show (keyed_from catalog p lefts rights)) (width catalog p) (claim p).keys found
 
 -- the second plan is the first one with claims as they are placed under this part and this order, and with the keys that are found at each node
-abbrev pub IsClaimed : (ℕ → Relation) → Plan → Part → List ℕ → Plan → Type 0
+abbrev pub IsClaimed : (ℕ → Relation) → Plan → Part → List OrderEntry → Plan → Type 0
 IsClaimed catalog (scan n c r m z) q order x = (keys : List (List ℕ)) × (x ≡ scan n (note q order keys) r m z) × FoundAt catalog (scan n c r m z) [] [] keys
 IsClaimed catalog (unary n c op p) q order x =
     (keys : List (List ℕ)) × (y : Plan) × (x ≡ unary n (note q order keys) op y)
@@ -32,8 +33,8 @@ IsClaimed catalog (unary n c op p) q order x =
     × FoundAt catalog (unary n c op p) (claim y).keys [] keys
 IsClaimed catalog (binary n c op p p2) q order x =
     (keys : List (List ℕ)) × (y : Plan) × (y2 : Plan) × (x ≡ binary n (note q order keys) op y y2)
-    × IsClaimed catalog p (parts_below catalog (binary n c op p p2) q (parts_at catalog p) (parts_at catalog p2)).0 (left_order op order (places_at catalog p)) y
-    × IsClaimed catalog p2 (parts_below catalog (binary n c op p p2) q (parts_at catalog p) (parts_at catalog p2)).1 (right_order op (places_at catalog p2)) y2
+    × IsClaimed catalog p (parts_below catalog (binary n c op p p2) q (parts_at catalog p) (parts_at catalog p2)).0 (order_to_left op order (places_at catalog p)) y
+    × IsClaimed catalog p2 (parts_below catalog (binary n c op p p2) q (parts_at catalog p) (parts_at catalog p2)).1 (order_to_right op (places_at catalog p2)) y2
     × FoundAt catalog (binary n c op p p2) (claim y).keys (claim y2).keys keys
 IsClaimed catalog (exchange n c k merge p) q order x =
     (keys : List (List ℕ)) × (y : Plan) × (x ≡ exchange n (note q order keys) k merge y)
@@ -43,7 +44,7 @@ IsClaimed catalog (exchange n c k merge p) q order x =
 -- ---- the laws
 
 -- what comes before them: a typed plan, and a part and an order that its top can claim
-abbrev pub IsReady : Scope → Plan → Part → List ℕ → Type 0
+abbrev pub IsReady : Scope → Plan → Part → List OrderEntry → Type 0
 IsReady s p q order =
     IsCatalog s.catalog × (typed s p ≡ true) × (is_option (parts_at (relation_at s.catalog) p) q ≡ true) × (is_chosen order (places_at (relation_at s.catalog) p) ≡ true)
 
@@ -75,12 +76,12 @@ unfit_in catalog (exchange n c k m p) x = or_else (unfit_in catalog p (first_inp
 
 -- the checker refuses such claims exactly where no claims fit, or where they do not make the first rows of a limit's input known
 abbrev pub ClaimedIsFit : Type 0
-ClaimedIsFit = (s : Scope) (p : Plan) (q : Part) (order : List ℕ) (x : Plan) → IsReady s p q order → (bare p ≡ p) ⊎ (first_unfit (relation_at s.catalog) p ≡ None)
+ClaimedIsFit = (s : Scope) (p : Plan) (q : Part) (order : List OrderEntry) (x : Plan) → IsReady s p q order → (bare p ≡ p) ⊎ (first_unfit (relation_at s.catalog) p ≡ None)
     → IsClaimed (relation_at s.catalog) p q order x → first_refused (relation_at s.catalog) x ≡ unfit_in (relation_at s.catalog) p x
 
 -- they are typed, at the same nodes
 abbrev pub ClaimedIsTyped : Type 0
-ClaimedIsTyped = (s : Scope) (p : Plan) (q : Part) (order : List ℕ) (x : Plan) → IsReady s p q order → IsClaimed (relation_at s.catalog) p q order x
+ClaimedIsTyped = (s : Scope) (p : Plan) (q : Part) (order : List OrderEntry) (x : Plan) → IsReady s p q order → IsClaimed (relation_at s.catalog) p q order x
     → (typed s x ≡ true) × (bare x ≡ bare p)
 
 -- of each key of the first claim a part is a key of the second
@@ -96,7 +97,7 @@ KeepsKeys (exchange n c k m p) x = (d : Claim) × (y : Plan) × (x ≡ exchange 
 
 -- where a plan is accepted, they keep what it claims
 abbrev pub ClaimedKeeps : Type 0
-ClaimedKeeps = (s : Scope) (p : Plan) (q : Part) (order : List ℕ) (x : Plan) → IsReady s p q order → allowed (relation_at s.catalog) p ≡ true
+ClaimedKeeps = (s : Scope) (p : Plan) (q : Part) (order : List OrderEntry) (x : Plan) → IsReady s p q order → allowed (relation_at s.catalog) p ≡ true
     → IsClaimed (relation_at s.catalog) p q order x → Keeps p x × KeepsKeys p x
 
 -- at a node, over the keys that its inputs claim: no claimed key contains another one, and where fewer than 16 are claimed, each list of columns that is shown as a key
@@ -107,7 +108,7 @@ pub record HasAllKeys (catalog : ℕ → Relation) (p : Plan) : Type 0 where
 
 -- they tell the most at every node
 abbrev pub ClaimedIsStrongest : Type 0
-ClaimedIsStrongest = (s : Scope) (p : Plan) (q : Part) (order : List ℕ) (x : Plan) → IsReady s p q order → first_unfit (relation_at s.catalog) p ≡ None
+ClaimedIsStrongest = (s : Scope) (p : Plan) (q : Part) (order : List OrderEntry) (x : Plan) → IsReady s p q order → first_unfit (relation_at s.catalog) p ≡ None
     → IsClaimed (relation_at s.catalog) p q order x → AtEach (IsStrongest (relation_at s.catalog)) x × AtEach (HasAllKeys (relation_at s.catalog)) x
 
 -- ---- claims as the program finds them

@@ -1,13 +1,14 @@
 -- What the options of nodes are good for: no accepted claims are left out, and those that are placed by them are accepted and tell the most.
 use Rattle.std.specs.Prelude.{ℕ, ◌≡◌, ◌≤◌, ◌⊎◌, nat_lt, Bool, true, false, ◌&&◌, ◌||◌, List, [], ◌∷◌, length, None}
 use Rattle.std.specs.List.{list_all, list_any}
+use Rattle.vx_rows_values.specs.declared.order.OrderEntry.{OrderEntry}
 use Rattle.vx_catalog_relations.specs.Relation.{Relation}
 use Rattle.vx_catalog_relations.specs.Catalog.{relation_at}
 use Rattle.vx_plan_nodes.specs.Plan.{Route, Part, one, any, all, routed, Claim, Plan, scan, unary, binary, exchange, claim, size, is_one}
 use Rattle.vx_plan_nodes.specs.Typed.{Scope, typed}
-use Rattle.vx_check_rules.specs.Rules.{part_gives, contains, is_prefix, allowed}
+use Rattle.vx_check_rules.specs.Rules.{part_gives, is_front, allowed}
 use Rattle.vx_check_rules.specs.Behaviour.{behaviour, shown_part, shown_order}
-use Rattle.vx_check_options.specs.Options.{OrderChoices, parts_at, is_within, places_at, same_part, first_unfit}
+use Rattle.vx_check_options.specs.Options.{OrderChoices, has_entry, parts_at, is_within, places_at, same_part, first_unfit}
 use Rattle.vx_rows_values.specs.Limits.{max_columns}
 
 -- ---- claims beside others
@@ -22,7 +23,7 @@ keeps_part (routed r cols) q = part_gives q (routed r cols)
 
 -- the second claim keeps the part and the order of the first
 abbrev pub KeepsClaim : Claim → Claim → Type 0
-KeepsClaim c d = (keeps_part c.part d.part ≡ true) × (is_prefix c.order d.order ≡ true)
+KeepsClaim c d = (keeps_part c.part d.part ≡ true) × (is_front c.order d.order ≡ true)
 
 -- the second plan has the nodes of the first, and each of its claims keeps the one there
 abbrev pub Keeps : Plan → Plan → Type 0
@@ -35,11 +36,11 @@ Keeps (exchange n c k m p) q = (d : Claim) × (p' : Plan) × (q ≡ exchange n d
 abbrev pub is_told : List Part → Part → Bool
 is_told parts q = list_any (λ x. part_gives x q) parts
 
--- each column is one of those that may stand at its place
-abbrev pub is_front : List ℕ → OrderChoices → Bool
-is_front [] places = true
-is_front (c ∷ cs) [] = false
-is_front (c ∷ cs) (s ∷ places) = contains s c && is_front cs places
+-- each entry is one of those that may stand at its place
+abbrev pub may_begin : List OrderEntry → OrderChoices → Bool
+may_begin [] places = true
+may_begin (e ∷ es) [] = false
+may_begin (e ∷ es) (s ∷ places) = has_entry s e && may_begin es places
 
 -- one of these parts, or any where there is none
 abbrev pub is_option : List Part → Part → Bool
@@ -52,7 +53,7 @@ is_option (x ∷ xs) q = list_any (same_part q) (x ∷ xs)
 abbrev pub OnlyOptions : Type 0
 OnlyOptions = (s : Scope) (p q : Plan) → Keeps p q → (is_within (relation_at s.catalog) p ≡ true) ⊎ (q ≡ p) → typed s q ≡ true → allowed (relation_at s.catalog) q ≡ true
     → (first_unfit (relation_at s.catalog) p ≡ None) × ((is_one (size p) || is_told (parts_at (relation_at s.catalog) p) (claim q).part) ≡ true)
-    × (is_front (claim q).order (places_at (relation_at s.catalog) p) ≡ true)
+    × (may_begin (claim q).order (places_at (relation_at s.catalog) p) ≡ true)
 
 -- at a node, over the claims of its inputs: one worker claims all rows; any part is claimed only where no routed one is shown, of columns that an output can have;
 -- and no longer order is shown
@@ -60,7 +61,7 @@ pub record IsStrongest (catalog : ℕ → Relation) (p : Plan) : Type 0 where
   pub alone : is_one (size p) ≡ true → (claim p).part ≡ one
   pub routed_first : is_one (size p) ≡ false → (claim p).part ≡ any → (r : Route) (cols : List ℕ) → list_all (λ c. nat_lt c max_columns) cols ≡ true
       → shown_part (behaviour catalog p) (routed r cols) ≡ false
-  pub longest : (order : List ℕ) → shown_order (behaviour catalog p) order ≡ true → length order ≤ length (claim p).order
+  pub longest : (order : List OrderEntry) → shown_order (behaviour catalog p) order ≡ true → length order ≤ length (claim p).order
 
 -- at every node
 abbrev pub AtEach : (Plan → Type 0) → Plan → Type 0

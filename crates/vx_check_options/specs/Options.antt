@@ -1,11 +1,13 @@
--- What nodes can claim: the parts, and the columns that may stand at each place of an order, each by what the inputs can claim. A claim that a node has already narrows them.
+-- What nodes can claim: the parts, and the entries that may stand at each place of an order, each by what the inputs can claim. A claim that a node has already narrows them.
 use Rattle.std.specs.Prelude.{ℕ, suc, ◌+◌, ◌==◌, nat_lt, nat_le, Bool, true, false, cond, ◌&&◌, ◌||◌, List, [], ◌∷◌, ◌++◌, map, flat_map, filter, length, take, Option, Some, None, is_some, option_map, unwrap_or}
 use Rattle.std.specs.List.{list_all, list_any}
+use Rattle.vx_rows_values.specs.declared.order.OrderEntry.{OrderEntry}
+use Rattle.vx_rows_values.specs.Order.{entry_eq}
 use Rattle.vx_rows_values.specs.Lists.{is_some_list}
 use Rattle.vx_catalog_relations.specs.Relation.{Relation}
-use Rattle.vx_plan_nodes.specs.Plan.{Route, Part, one, any, all, routed, Binary, union, join, semi_join, ExchangeKind, concat, Plan, scan, unary, binary, exchange, claim, size, is_one}
+use Rattle.vx_plan_nodes.specs.Plan.{Route, Part, one, any, all, routed, by_hashing, by_merging, left_order, right_order, Binary, union, join, semi_join, ExchangeKind, concat, Plan, scan, unary, binary, exchange, claim, size, is_one}
 use Rattle.vx_plan_nodes.specs.Describe.{Copying, whole_rows, columns_kept, left_of, right_of, no_columns, OrderAfter, order_kept, sorted_on, described}
-use Rattle.vx_check_rules.specs.Rules.{part_gives, contains, rises_by, sizes_match}
+use Rattle.vx_check_rules.specs.Rules.{part_gives, entry_at, rises_by, sizes_match}
 use Rattle.vx_check_rules.specs.Behaviour.{Way, gives, common_part, ways_from}
 use Rattle.vx_check_rules.specs.Refusal.{Rule, size_mismatch, replicated_input, inputs_not_matched, order_needed, order_not_shown, or_else, refused_at}
 use Rattle.vx_rows_values.specs.Limits.{max_columns}
@@ -135,28 +137,36 @@ is_within catalog (exchange n c k m p) = is_within catalog p && is_within_here c
 
 -- ---- orders
 
--- the columns that may stand at each place
+-- the entries that may stand at each place
 abbrev pub OrderChoices : Type 0
-OrderChoices = List (List ℕ)
+OrderChoices = List (List OrderEntry)
 
-abbrev pub singles : List ℕ → OrderChoices
-singles cols = map (λ c. c ∷ []) cols
+abbrev pub singles : List OrderEntry → OrderChoices
+singles order = map (λ e. e ∷ []) order
 
--- these columns in front, if there are any
-abbrev pub place_then : List ℕ → OrderChoices → OrderChoices
+-- the entry is one of these
+abbrev pub has_entry : List OrderEntry → OrderEntry → Bool
+has_entry es e = list_any (entry_eq e) es
+
+-- the copies of an entry's column, in its direction
+abbrev pub entry_copies : Copying → OrderEntry → List OrderEntry
+entry_copies k e = map (λ c. entry_at c e) (copies k e.column)
+
+-- these entries in front, if there are any
+abbrev pub place_then : List OrderEntry → OrderChoices → OrderChoices
 place_then [] places = []
-place_then (c ∷ cs) places = (c ∷ cs) ∷ places
+place_then (e ∷ es) places = (e ∷ es) ∷ places
 
 -- the copies of what may stand at each place, up to the first that has none
 abbrev pub places_up : Copying → OrderChoices → OrderChoices
 places_up k [] = []
-places_up k (s ∷ places) = place_then (flat_map (copies k) s) (places_up k places)
+places_up k (s ∷ places) = place_then (flat_map (entry_copies k) s) (places_up k places)
 
--- each of these columns alone at its place, if it may stand there
-abbrev pub narrowed : List ℕ → OrderChoices → Option OrderChoices
+-- each of these entries alone at its place, if it may stand there
+abbrev pub narrowed : List OrderEntry → OrderChoices → Option OrderChoices
 narrowed [] places = Some places
-narrowed (c ∷ cs) [] = None
-narrowed (c ∷ cs) (s ∷ places) = cond (contains s c) (option_map (λ more. (c ∷ []) ∷ more) (narrowed cs places)) None
+narrowed (e ∷ es) [] = None
+narrowed (e ∷ es) (s ∷ places) = cond (has_entry s e) (option_map (λ more. (e ∷ []) ∷ more) (narrowed es places)) None
 
 abbrev pub or_nowhere : Option OrderChoices → OrderChoices
 or_nowhere o = unwrap_or o []
@@ -164,22 +174,22 @@ or_nowhere o = unwrap_or o []
 -- what becomes of the places of an order
 abbrev pub places_after : OrderAfter → OrderChoices → OrderChoices
 places_after order_kept places = places
-places_after (sorted_on cols) places = singles cols
+places_after (sorted_on order) places = singles order
 
 -- of an operator over two inputs, by the left one's
 abbrev pub places_over_both : Binary → OrderChoices → OrderChoices
 places_over_both union places = []
-places_over_both (join true on) places = or_nowhere (narrowed (map (λ x. x.0) on) places)
-places_over_both (join false on) places = places
+places_over_both (join (by_merging falls) on) places = or_nowhere (narrowed (left_order falls on) places)
+places_over_both (join by_hashing on) places = places
 places_over_both (semi_join matched on conditions) places = places
 
--- the order begins with a column by whose ranges the rows can be routed
+-- the order begins with a rising column by whose ranges the rows can be routed
 abbrev pub rising : List Part → OrderChoices → OrderChoices
 rising parts [] = []
-rising parts (s ∷ places) = place_then (filter (λ c. list_any (λ x. rises_by x (c ∷ [])) parts) s) places
+rising parts (s ∷ places) = place_then (filter (λ e. list_any (λ x. rises_by x (e ∷ [])) parts) s) places
 
 -- of an exchange of several producers, which can have these parts: what it merges by, or for a concat the producers' order where rows rise with them
-abbrev pub places_sent : ExchangeKind → List ℕ → List Part → OrderChoices → OrderChoices
+abbrev pub places_sent : ExchangeKind → List OrderEntry → List Part → OrderChoices → OrderChoices
 places_sent concat merge parts places = rising parts places
 places_sent k merge parts places = singles merge
 
@@ -217,8 +227,8 @@ can_meet catalog p = is_some_list (parts_at catalog p)
 
 -- the inputs can be in the order that the node needs
 abbrev pub can_order : (ℕ → Relation) → Plan → Bool
-can_order catalog (binary n c (join true on) p q) =
-    is_some (narrowed (map (λ x. x.0) on) (places_at catalog p)) && is_some (narrowed (map (λ x. x.1) on) (places_at catalog q))
+can_order catalog (binary n c (join (by_merging falls) on) p q) =
+    is_some (narrowed (left_order falls on) (places_at catalog p)) && is_some (narrowed (right_order falls on) (places_at catalog q))
 can_order catalog (exchange n c k merge p) = is_some (narrowed merge (places_at catalog p))
 can_order catalog p = true
 

@@ -8,7 +8,7 @@ ghost use Rattle.vx_plan_nodes.specs.Outline.{part_of, claim_of, unary_of, binar
 ghost use Rattle.vx_plan_nodes.specs.Outputs.{HasOutputs};
 ghost use Rattle.vx_check_rules.specs.Rules.{is_total_order};
 ghost use Rattle.vx_check_options.specs.Options.{no_input, parts_at, places_at};
-ghost use Rattle.vx_check_options.specs.Placed.{first_columns, first_part, order_along, order_below, left_order, right_order, order_sent, parts_below, part_sent};
+ghost use Rattle.vx_check_options.specs.Placed.{first_entries, first_part, order_along, order_below, order_to_left, order_to_right, order_sent, parts_below, part_sent};
 ghost use Rattle.vx_check_options.specs.OptionsView.{IsAbsent};
 ghost use Rattle.vx_check_options.specs.Claimed.{note, keys_at, FoundAt, IsClaimed, reversed_claims, names_keys, names_keys_at};
 
@@ -19,7 +19,7 @@ use crate::placing::{
 };
 use std::alloc::{AllocError, Global};
 use vx_catalog_relations::Catalog;
-use vx_check_rules::{ColumnsSeen, has_one_worker, is_total};
+use vx_check_rules::{OrderSeen, has_one_worker, is_total};
 use vx_plan_nodes::{Binary, Claim, Copying, Exchange, TypedNode, Unary, output_types};
 
 // What the input of an operator over one input is to claim.
@@ -52,7 +52,7 @@ fn place_below(
         alloc,
         part,
         described.copying,
-        ColumnsSeen::Listed(wanted),
+        OrderSeen::Listed(wanted),
         below.choices.as_slice(),
     )
 }
@@ -74,8 +74,8 @@ fn places_below(
     requires right { HasOutputs (relation_at catalog.now) (outline_of right.now) }
     ensures parts { IfOk result (λ r. (part_of r.0.part, part_of r.1.part) ≡ parts_below (relation_at catalog.now) (plan_of node.now) (part_of place.now.part)
         (parts_at (relation_at catalog.now) (plan_of left.now)) (parts_at (relation_at catalog.now) (plan_of right.now))) }
-    ensures left { IfOk result (λ r. r.0.order.items ≡ left_order (binary_of operator.now) place.now.order.items (places_at (relation_at catalog.now) (plan_of left.now))) }
-    ensures right { IfOk result (λ r. r.1.order.items ≡ right_order (binary_of operator.now) (places_at (relation_at catalog.now) (plan_of right.now))) }
+    ensures left { IfOk result (λ r. r.0.order.items ≡ order_to_left (binary_of operator.now) place.now.order.items (places_at (relation_at catalog.now) (plan_of left.now))) }
+    ensures right { IfOk result (λ r. r.1.order.items ≡ order_to_right (binary_of operator.now) (places_at (relation_at catalog.now) (plan_of right.now))) }
 {
     let lefts = options_at(alloc, catalog, none, left)?;
     let rights = options_at(alloc, catalog, none, right)?;
@@ -119,7 +119,7 @@ fn place_sent(
         alloc,
         part,
         Copying::WholeRows,
-        ColumnsSeen::Listed(wanted),
+        OrderSeen::Listed(wanted),
         choices,
     )
 }
@@ -201,7 +201,7 @@ fn put_claims(
     }
 }
 
-// What the root is to claim: the first of its parts, and the first column at each place of its order.
+// What the root is to claim: the first of its parts, and the first entry at each place of its order.
 fn first_place(
     alloc: Global,
     catalog: &Catalog,
@@ -211,7 +211,7 @@ fn first_place(
     requires none { IsAbsent none.now }
     requires outputs { HasOutputs (relation_at catalog.now) (outline_of root.now) }
     ensures part { IfOk result (λ r. part_of r.part ≡ first_part (parts_at (relation_at catalog.now) (plan_of root.now))) }
-    ensures order { IfOk result (λ r. r.order.items ≡ first_columns (places_at (relation_at catalog.now) (plan_of root.now))) }
+    ensures order { IfOk result (λ r. r.order.items ≡ first_entries (places_at (relation_at catalog.now) (plan_of root.now))) }
 {
     let options = options_at(alloc, catalog, none, root)?;
     let choices = options.choices.as_slice();
@@ -219,7 +219,7 @@ fn first_place(
         alloc,
         options.parts.first(),
         Copying::WholeRows,
-        ColumnsSeen::Listed(&[]),
+        OrderSeen::Listed(&[]),
         choices,
     )
 }
@@ -233,7 +233,7 @@ pub fn found_claims(
 ) -> Result<(Vec<Claim>, bool), AllocError>
     requires outputs { HasOutputs (relation_at catalog.now) (outline_of root.now) }
     requires keys { names_keys (relation_at catalog.now) (plan_of root.now) ≡ true }
-    ensures { IfOk result (λ r. (x : Plan) × IsClaimed (relation_at catalog.now) (plan_of root.now) (first_part (parts_at (relation_at catalog.now) (plan_of root.now))) (first_columns (places_at (relation_at catalog.now) (plan_of root.now))) x
+    ensures { IfOk result (λ r. (x : Plan) × IsClaimed (relation_at catalog.now) (plan_of root.now) (first_part (parts_at (relation_at catalog.now) (plan_of root.now))) (first_entries (places_at (relation_at catalog.now) (plan_of root.now))) x
         × (map claim_of r.0.items ≡ reversed_claims x) × (r.1 ≡ is_total_order (relation_at catalog.now) x)) }
 {
     let none = absent(alloc)?;

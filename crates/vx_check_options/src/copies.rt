@@ -10,7 +10,7 @@ use vx_plan_nodes::{Copying, KeptColumns};
 // So many lists of copies of the same columns are kept at most.
 const MAX_LISTS: usize = 64;
 
-/// Lists of columns, each a key, or the copies of one column, or what may stand at one place.
+/// Lists of columns, each a key, or the copies of one column.
 pub type Lists = Vec<Vec<usize>>;
 
 // Puts the places of a column among those that are kept behind the others.
@@ -40,13 +40,6 @@ pub fn add_copies(
         found.push(place)?;
     }
     Ok(())
-}
-
-/// The same lists in memory of their own.
-pub fn copied(alloc: Global, lists: &[Vec<usize>]) -> Result<Lists, AllocError>
-    ensures { IfOk result (λ v. map (λ k. k.items) v.items ≡ map (λ k. k.items) lists.now) }
-{
-    Vec::from_clones(alloc, lists)
 }
 
 // Puts the lists with this column in front behind those that are there.

@@ -17,8 +17,9 @@ use crate::order_choices::{OrderChoices, choices_over, may_begin, narrowed};
 use crate::parts::{only_part, parts_over};
 use std::alloc::{AllocError, Global};
 use vx_catalog_relations::Catalog;
-use vx_check_rules::{ColumnsSeen, Rule, do_sizes_match, gives, has_one_worker};
+use vx_check_rules::{OrderSeen, Rule, do_sizes_match, gives, has_one_worker};
 use vx_plan_nodes::{Binary, Part, TypedNode};
+use vx_rows_values::OrderEntry;
 
 /// What a node can claim, and the first node, from it downwards, that no claims can save.
 pub struct Options {
@@ -82,21 +83,22 @@ fn can_order(catalog: &Catalog, node: &TypedNode, left: &Options, right: &Option
     ensures { result ≡ can_order (relation_at catalog.now) (plan_of node.now) }
 {
     match node {
-        TypedNode::Binary(_, Binary::MergeJoin(on), _, _) => {
-            may_begin(left.choices.as_slice(), ColumnsSeen::Lefts(on.as_slice()))
-                && may_begin(right.choices.as_slice(), ColumnsSeen::Rights(on.as_slice()))
+        TypedNode::Binary(_, Binary::MergeJoin(on, falls), _, _) => {
+            let (on, falls) = (on.as_slice(), falls.as_slice());
+            may_begin(left.choices.as_slice(), OrderSeen::Lefts(on, falls))
+                && may_begin(right.choices.as_slice(), OrderSeen::Rights(on, falls))
         }
         TypedNode::Exchange(_, exchange, _) => {
             may_begin(
                 left.choices.as_slice(),
-                ColumnsSeen::Listed(exchange.merge.as_slice()),
+                OrderSeen::Listed(exchange.merge.as_slice()),
             )
         }
         _ => true,
     }
 }
 
-// The first test of the node that no claims can pass, where it can have these parts, and these columns at the places of
+// The first test of the node that no claims can pass, where it can have these parts, and these entries at the places of
 // its order.
 fn unfit_at(
     catalog: &Catalog,
@@ -104,7 +106,7 @@ fn unfit_at(
     left: &Options,
     right: &Options,
     parts: &[Part],
-    choices: &[Vec<usize>],
+    choices: &[Vec<OrderEntry>],
 ) -> Option<Rule>
     requires inputs { AreInputs (relation_at catalog.now) (plan_of node.now) left.now right.now }
     requires parts { map part_of parts.now ≡ parts_at (relation_at catalog.now) (plan_of node.now) }
@@ -125,7 +127,7 @@ fn unfit_at(
     }
     if !may_begin(
         choices,
-        ColumnsSeen::Listed(node.head().claim.order.as_slice()),
+        OrderSeen::Listed(node.head().claim.order.as_slice()),
     ) {
         return Some(Rule::OrderNotShown);
     }
@@ -139,7 +141,7 @@ fn unfit_from(
     left: &Options,
     right: &Options,
     parts: &[Part],
-    choices: &[Vec<usize>],
+    choices: &[Vec<OrderEntry>],
 ) -> Option<(u32, Rule)>
     requires inputs { AreInputs (relation_at catalog.now) (plan_of node.now) left.now right.now }
     requires parts { map part_of parts.now ≡ parts_at (relation_at catalog.now) (plan_of node.now) }
@@ -184,7 +186,7 @@ fn options_over(
         left.parts.as_slice(),
         left.choices.as_slice(),
     )?;
-    let order = ColumnsSeen::Listed(node.head().claim.order.as_slice());
+    let order = OrderSeen::Listed(node.head().claim.order.as_slice());
     let choices = narrowed(alloc, order, here.as_slice())?;
     let lefts = parts_seen(node, left, right);
     let parts = parts_over(alloc, catalog, node, lefts, right.parts.as_slice())?;

@@ -9,22 +9,24 @@ ghost use Rattle.vx_plan_nodes.specs.Outline.{part_of, claim_of, kind_of, binary
 ghost use Rattle.vx_plan_nodes.specs.Outputs.{HasOutputs};
 ghost use Rattle.vx_check_rules.specs.Rules.{rises_by};
 ghost use Rattle.vx_check_options.specs.Options.{OrderChoices};
-ghost use Rattle.vx_check_rules.specs.Seen.{columns_seen};
-ghost use Rattle.vx_check_options.specs.Placed.{next_column, order_along, order_below, left_order, right_order, order_sent, parts_below, part_sent};
+ghost use Rattle.vx_check_rules.specs.Seen.{order_seen};
+ghost use Rattle.vx_check_options.specs.Placed.{source_entry, next_entry, order_along, order_below, order_to_left, order_to_right, order_sent, parts_below, part_sent};
 ghost use Rattle.vx_check_options.specs.Claimed.{note};
 
+use crate::order_choices::has_entry;
 use crate::parts::first_two;
 use std::alloc::{AllocError, Global};
 use vx_catalog_relations::Catalog;
-use vx_check_rules::{ColumnsSeen, rises_with_workers};
+use vx_check_rules::{OrderSeen, rises_with_workers};
 use vx_plan_nodes::{
     Binary, Claim, Copying, ExchangeKind, OrderAfter, Part, TypedNode, copied_part,
 };
+use vx_rows_values::OrderEntry;
 
 /// The part and the order that a node is to claim.
 pub struct Placement {
     pub part: Part,
-    pub order: Vec<usize>,
+    pub order: Vec<OrderEntry>,
 }
 
 impl Drop for Placement {
@@ -33,22 +35,32 @@ impl Drop for Placement {
     }
 }
 
-// The column of an input's order at this place, under an order of the output: the one of which the column there is a copy,
-// if it may stand there, and else the first that may.
-fn next_column(
+// The entry of the input's column of which an entry's column is a copy, in its direction.
+fn source_entry(copying: Copying<'_>, entry: OrderEntry) -> OrderEntry
+    ensures { result ≡ source_entry (copying_of copying.entry) entry }
+{
+    OrderEntry {
+        column: copying.source(entry.column).unwrap_or(0),
+        falling: entry.falling,
+    }
+}
+
+// The entry of an input's order at this place, under an order of the output: that of the column of which the column there is a
+// copy, if it may stand there, and else the first that may.
+fn next_entry(
     copying: Copying<'_>,
-    order: ColumnsSeen<'_>,
+    order: OrderSeen<'_>,
     at: usize,
-    place: &[usize],
-) -> Option<usize>
-    ensures { result ≡ next_column (copying_of copying.entry) (slice_get (columns_seen order.entry) at) place.now }
+    place: &[OrderEntry],
+) -> Option<OrderEntry>
+    ensures { result ≡ next_entry (copying_of copying.entry) (slice_get (order_seen order.entry) at) place.now }
 {
     if at >= order.len() {
         return place.first().copied();
     }
-    let source = copying.source(order.at(at)).unwrap_or(0);
+    let source = source_entry(copying, order.at(at));
     match place {
-        [first, ..] if !place.contains(&source) => Some(*first),
+        [first, ..] if !has_entry(place, source) => Some(*first),
         _ => Some(source),
     }
 }
@@ -57,19 +69,19 @@ fn next_column(
 fn order_along(
     alloc: Global,
     copying: Copying<'_>,
-    order: ColumnsSeen<'_>,
-    choices: &[Vec<usize>],
-) -> Result<Vec<usize>, AllocError>
-    ensures { IfOk result (λ v. v.items ≡ order_along (copying_of copying.entry) (columns_seen order.entry) (map (λ v. v.items) choices.now)) }
+    order: OrderSeen<'_>,
+    choices: &[Vec<OrderEntry>],
+) -> Result<Vec<OrderEntry>, AllocError>
+    ensures { IfOk result (λ v. v.items ≡ order_along (copying_of copying.entry) (order_seen order.entry) (map (λ v. v.items) choices.now)) }
 {
-    let mut columns = Vec::new(alloc);
+    let mut entries = Vec::new(alloc);
     for i in 0..choices.len() {
-        let Some(column) = next_column(copying, order, i, choices[i].as_slice()) else {
-            return Ok(columns);
+        let Some(entry) = next_entry(copying, order, i, choices[i].as_slice()) else {
+            return Ok(entries);
         };
-        columns.push(column)?;
+        entries.push(entry)?;
     }
-    Ok(columns)
+    Ok(entries)
 }
 
 impl Placement {
@@ -86,11 +98,11 @@ impl Placement {
         alloc: Global,
         part: Option<&Part>,
         copying: Copying<'_>,
-        order: ColumnsSeen<'_>,
-        choices: &[Vec<usize>],
+        order: OrderSeen<'_>,
+        choices: &[Vec<OrderEntry>],
     ) -> Result<Placement, AllocError>
         ensures part { IfOk result (λ r. part_of r.part ≡ unwrap_or (option_map (λ p. part_of p.now) part.entry) any) }
-        ensures order { IfOk result (λ r. r.order.items ≡ order_along (copying_of copying.entry) (columns_seen order.entry) (map (λ v. v.items) choices.now)) }
+        ensures order { IfOk result (λ r. r.order.items ≡ order_along (copying_of copying.entry) (order_seen order.entry) (map (λ v. v.items) choices.now)) }
     {
         let order = order_along(alloc, copying, order, choices)?;
         match part {
@@ -125,7 +137,7 @@ pub fn parts_below<'p>(
 }
 
 /// The first of the parts by which rows in this order rise with the number of their worker.
-pub fn first_rising<'p>(parts: &'p [Part], order: &[usize]) -> Option<&'p Part>
+pub fn first_rising<'p>(parts: &'p [Part], order: &[OrderEntry]) -> Option<&'p Part>
     ensures { option_map (λ p. part_of p.now) result ≡ find (λ x. rises_by x order.now) (map part_of parts.now) }
 {
     for part in parts {
@@ -137,7 +149,11 @@ pub fn first_rising<'p>(parts: &'p [Part], order: &[usize]) -> Option<&'p Part>
 }
 
 /// The part of an exchange's input, under a concat one by which the order rises.
-pub fn part_sent<'p>(kind: &ExchangeKind, order: &[usize], parts: &'p [Part]) -> Option<&'p Part>
+pub fn part_sent<'p>(
+    kind: &ExchangeKind,
+    order: &[OrderEntry],
+    parts: &'p [Part],
+) -> Option<&'p Part>
     ensures { unwrap_or (option_map (λ p. part_of p.now) result) any ≡ part_sent (kind_of kind.now) order.now (map part_of parts.now) }
 {
     match kind {
@@ -154,7 +170,7 @@ pub fn part_sent<'p>(kind: &ExchangeKind, order: &[usize], parts: &'p [Part]) ->
 
 /// What the order of the input of an operator over one input has to begin with, where it can; the order of a sort is its
 /// own.
-pub fn wanted_below<'p>(after: OrderAfter<'_>, order: &'p [usize]) -> &'p [usize]
+pub fn wanted_below<'p>(after: OrderAfter<'_>, order: &'p [OrderEntry]) -> &'p [OrderEntry]
     ensures { (k : Copies) (places : OrderChoices) → order_along k result.now places ≡ order_below (order_after_of after.entry) k order.now places }
 {
     match after {
@@ -167,9 +183,9 @@ pub fn wanted_below<'p>(after: OrderAfter<'_>, order: &'p [usize]) -> &'p [usize
 pub fn wanted_sent<'p>(
     kind: &ExchangeKind,
     alone: bool,
-    merge: &'p [usize],
-    order: &'p [usize],
-) -> &'p [usize]
+    merge: &'p [OrderEntry],
+    order: &'p [OrderEntry],
+) -> &'p [OrderEntry]
     ensures { result.now ≡ order_sent (kind_of kind.now) alone merge.now order.now }
 {
     if alone || matches!(kind, ExchangeKind::Concat) {
@@ -180,23 +196,23 @@ pub fn wanted_sent<'p>(
 }
 
 /// What the order of the left input of an operator over two inputs has to begin with, where it can.
-pub fn wanted_left<'p>(operator: &Binary, order: &'p [usize]) -> ColumnsSeen<'p>
-    ensures { (places : OrderChoices) → order_along whole_rows (columns_seen result) places ≡ left_order (binary_of operator.now) order.now places }
+pub fn wanted_left<'p>(operator: &Binary, order: &'p [OrderEntry]) -> OrderSeen<'p>
+    ensures { (places : OrderChoices) → order_along whole_rows (order_seen result) places ≡ order_to_left (binary_of operator.now) order.now places }
 {
     match operator {
-        Binary::Union => ColumnsSeen::Listed(&[]),
-        Binary::HashJoin(_) | Binary::MergeJoin(_) => ColumnsSeen::Listed(order),
-        Binary::SemiJoin(_, _) | Binary::AntiJoin(_, _) => ColumnsSeen::Listed(order),
+        Binary::Union => OrderSeen::Listed(&[]),
+        Binary::HashJoin(_) | Binary::MergeJoin(_, _) => OrderSeen::Listed(order),
+        Binary::SemiJoin(_, _) | Binary::AntiJoin(_, _) => OrderSeen::Listed(order),
     }
 }
 
 /// What the right one's has to begin with.
-pub fn wanted_right(operator: &Binary) -> ColumnsSeen<'_>
-    ensures { (places : OrderChoices) → order_along whole_rows (columns_seen result) places ≡ right_order (binary_of operator.now) places }
+pub fn wanted_right(operator: &Binary) -> OrderSeen<'_>
+    ensures { (places : OrderChoices) → order_along whole_rows (order_seen result) places ≡ order_to_right (binary_of operator.now) places }
 {
     match operator {
-        Binary::MergeJoin(on) => ColumnsSeen::Rights(on.as_slice()),
-        Binary::Union | Binary::HashJoin(_) => ColumnsSeen::Listed(&[]),
-        Binary::SemiJoin(_, _) | Binary::AntiJoin(_, _) => ColumnsSeen::Listed(&[]),
+        Binary::MergeJoin(on, falls) => OrderSeen::Rights(on.as_slice(), falls.as_slice()),
+        Binary::Union | Binary::HashJoin(_) => OrderSeen::Listed(&[]),
+        Binary::SemiJoin(_, _) | Binary::AntiJoin(_, _) => OrderSeen::Listed(&[]),
     }
 }

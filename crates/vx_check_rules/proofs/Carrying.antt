@@ -1,20 +1,22 @@
 -- What is carried up is shown.
-use Rattle.std.proofs.Common.{ℕ, ◌≡◌, ◌+◌, ◌-◌, ◌==◌, nat_lt, nat_le, Bool, true, false, cond, ◌&&◌, ◌||◌, List, [], ◌∷◌, ◌++◌, map, flat_map, length, get_or, position, refl, sym, ap, ◌∙◌, arith, Option, Some, None, slice_get}
+use Rattle.std.proofs.Common.{ℕ, ◌≡◌, ◌+◌, ◌-◌, ◌==◌, nat_lt, nat_le, Bool, true, false, cond, not, ◌&&◌, ◌||◌, List, [], ◌∷◌, ◌++◌, map, flat_map, length, get_or, position, refl, sym, ap, ◌∙◌, arith, Option, Some, None, slice_get}
 use Rattle.std.specs.List.{list_any, list_all, cons_option}
 use Rattle.std.proofs.lemmas.Bool.{eqb-true}
 use Rattle.std.proofs.lemmas.Bool.Decides.{nat_tests}
 use Rattle.std.proofs.lemmas.List.Folds.{list_any-append, list_all-append}
 use Rattle.std.proofs.lemmas.List.Quantifiers.{position-Some}
 use Rattle.vx_rows_values.proofs.Booleans.{and-left, and-right, and-both}
+use Rattle.vx_rows_values.specs.declared.order.OrderEntry.{OrderEntry}
+use Rattle.vx_rows_values.specs.Order.{entry_eq}
 use Rattle.vx_catalog_relations.specs.Relation.{Relation}
-use Rattle.vx_plan_nodes.specs.Plan.{Route, by_hash, by_range, Part, one, any, all, routed, Claim, Unary, select, project, distinct, sort, group, limit, plain, partial, final, union, join, semi_join, Plan, scan, unary, binary, exchange, claim, size, is_one, Size, one_worker, group_of, size_eq}
+use Rattle.vx_plan_nodes.specs.Plan.{Route, by_hash, by_range, Part, one, any, all, routed, Claim, Unary, select, project, distinct, sort, group, limit, plain, partial, final, by_hashing, by_merging, union, join, semi_join, Plan, scan, unary, binary, exchange, claim, size, is_one, Size, one_worker, group_of, size_eq}
 use Rattle.vx_plan_nodes.specs.Parts.{kind_part}
 use Rattle.vx_plan_nodes.specs.Phases.{first_columns}
 use Rattle.vx_plan_nodes.specs.Types.{width}
 use Rattle.vx_plan_nodes.specs.Describe.{Copying, whole_rows, columns_kept, left_of, right_of, no_columns, source, place, described, described_both}
-use Rattle.vx_check_rules.specs.Rules.{numbers_eq, route_eq, part_gives, has, contains, within, is_prefix, cons_both, copied, if_some, unless_one, sizes_match, not_replicated, inputs_match, order_given, first_rows_known, shows, orders, covers, numbers_below, keys_of, routed_alike, goes_on}
+use Rattle.vx_check_rules.specs.Rules.{numbers_eq, route_eq, part_gives, has, contains, within, is_front, cons_both, entry_at, entry_both, copied, if_some, if_order, unless_one, sizes_match, not_replicated, inputs_match, order_given, first_rows_known, shows, orders, covers, numbers_below, keys_of, routed_alike, goes_on}
 use Rattle.vx_check_rules.specs.Refusal.{size_mismatch, replicated_input, inputs_not_matched, order_needed, part_not_shown, order_not_shown, key_not_shown, first_rows_open, first_failure, node_tests}
-use Rattle.vx_check_rules.specs.Behaviour.{sources, places, place_then, front_places, Way, Sorted, Keyed, way, sorted_by, order_after, order_over, if_so, own, bare, meet, behaviour, each_has, gives, sorts, is_column, has_copy, has_key, keys_give, shown_part, shown_order, shown_key, routed_at, part_up, first_part, first_order, kept_keys, first_pair, together, keys_up, node_part, node_order, node_keys}
+use Rattle.vx_check_rules.specs.Behaviour.{sources, places, order_sources, entry_then, front_order, Way, Sorted, Keyed, way, sorted_by, order_after, order_over, if_so, own, bare, meet, behaviour, each_has, gives, sorts, is_column, has_copy, has_key, keys_give, shown_part, shown_order, shown_key, routed_at, part_up, first_part, first_order, kept_keys, first_pair, together, keys_up, node_part, node_order, node_keys}
 use Rattle.vx_check_rules.specs.Carried.{CopiesBack, OrdersCarried, KeysCarried, PartsCarried, with_claim, carried, CarriedIsShown}
 use Rattle.vx_check_rules.proofs.Bools.{or-left, or-right, all-more, any-more}
 use Rattle.vx_check_rules.proofs.ColumnFacts.{list_all-ext}
@@ -70,21 +72,29 @@ places-back k (c ∷ cs) ds e = by (place k c) (places k cs) refl (λ es f. plac
 
 -- ---- orders
 
-front-back : (k : Copying) (order : List ℕ) → (cs : List ℕ) × (sources k (front_places k order) ≡ Some cs) × (is_prefix cs order ≡ true)
+falls-same : (b : Bool) → cond b b (not b) ≡ true
+falls-same true = refl
+falls-same false = refl
+
+-- an entry is its own
+entry-same : (e : OrderEntry) → entry_eq e e ≡ true
+entry-same e = and-both (e.column == e.column) (cond e.falling e.falling (not e.falling)) (same e.column) (falls-same e.falling)
+
+front-back : (k : Copying) (order : List OrderEntry) → (given : List OrderEntry) × (order_sources k (front_order k order) ≡ Some given) × (is_front given order ≡ true)
 front-back k [] = ([], refl, refl)
-front-back k (c ∷ order) = by (place k c) refl (front-back k order)
+front-back k (e ∷ order) = by (place k e.column) refl (front-back k order)
   where
-    by : (o : Option ℕ) → place k c ≡ o → ((cs : List ℕ) × (sources k (front_places k order) ≡ Some cs) × (is_prefix cs order ≡ true))
-        → (cs : List ℕ) × (sources k (place_then o (front_places k order)) ≡ Some cs) × (is_prefix cs (c ∷ order) ≡ true)
-    by None e more = ([], refl, refl)
-    by (Some d) e more = (
-      c ∷ more.0,
-      ap (λ o. cons_both o (sources k (front_places k order))) (copies-back k c d e) ∙ ap (cons_both (Some c)) more.1,
-      and-both (c == c) (is_prefix more.0 order) (same c) more.2,
+    by : (o : Option ℕ) → place k e.column ≡ o → ((given : List OrderEntry) × (order_sources k (front_order k order) ≡ Some given) × (is_front given order ≡ true))
+        → (given : List OrderEntry) × (order_sources k (entry_then o e (front_order k order)) ≡ Some given) × (is_front given (e ∷ order) ≡ true)
+    by None at more = ([], refl, refl)
+    by (Some d) at more = (
+      entry_at e.column e ∷ more.0,
+      ap (λ o. entry_both o (entry_at d e) (order_sources k (front_order k order))) (copies-back k e.column d at) ∙ ap (entry_both (Some e.column) (entry_at d e)) more.1,
+      and-both (entry_eq e e) (is_front more.0 order) (entry-same e) more.2,
     )
 
 pub orders-carried : OrdersCarried
-orders-carried s = let w = front-back s.copying s.order in ap (λ o. if_some o (λ cs. is_prefix cs s.order)) w.1 ∙ w.2
+orders-carried s = let w = front-back s.copying s.order in ap (λ o. if_order o (λ given. is_front given s.order)) w.1 ∙ w.2
 
 first-order : (s : Sorted) (ss : List Sorted) → list_any (λ t. sorts t (first_order (s ∷ ss))) (s ∷ ss) ≡ true
 first-order s ss = or-left (sorts s (first_order (s ∷ ss))) (list_any (λ t. sorts t (first_order (s ∷ ss))) ss) (orders-carried s)
@@ -376,8 +386,8 @@ claim-passes catalog (unary n d (sort of_parts cols) p) c s o i g f h k l = test
 claim-passes catalog (unary n d (group phase by aggregates) p) c s o i g f h k l = tests-pass _ _ _ _ _ _ _ _ s o i g f h k l
 claim-passes catalog (unary n d (limit m) p) c s o i g f h k l = tests-pass _ _ _ _ _ _ _ _ s o i g f h k l
 claim-passes catalog (binary n d union p q) c s o i g f h k l = tests-pass _ _ _ _ _ _ _ _ s o i g f h k l
-claim-passes catalog (binary n d (join true on) p q) c s o i g f h k l = tests-pass _ _ _ _ _ _ _ _ s o i g f h k l
-claim-passes catalog (binary n d (join false on) p q) c s o i g f h k l = tests-pass _ _ _ _ _ _ _ _ s o i g f h k l
+claim-passes catalog (binary n d (join (by_merging falls) on) p q) c s o i g f h k l = tests-pass _ _ _ _ _ _ _ _ s o i g f h k l
+claim-passes catalog (binary n d (join by_hashing on) p q) c s o i g f h k l = tests-pass _ _ _ _ _ _ _ _ s o i g f h k l
 claim-passes catalog (binary n d (semi_join matched on conditions) p q) c s o i g f h k l = tests-pass _ _ _ _ _ _ _ _ s o i g f h k l
 claim-passes catalog (exchange n d kind m p) c s o i g f h k l = tests-pass _ _ _ _ _ _ _ _ s o i g f h k l
 

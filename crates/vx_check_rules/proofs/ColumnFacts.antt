@@ -1,11 +1,10 @@
 -- Lists of columns, in the words of the program's tests.
-use Rattle.std.proofs.Common.{Vec, Global, map, ◌≡◌, ℕ, zero, suc, ◌+◌, ◌<◌, Bool, false, List, [], ◌∷◌, ◌++◌, length, drop, get_or, drop-cons, nat_lt, ◌==◌, ◌&&◌, ◌||◌, refl, sym, ap, ◌∙◌, arith, add-one, eqb}
+use Rattle.std.proofs.Common.{Vec, Global, map, ◌≡◌, ℕ, zero, suc, ◌+◌, ◌<◌, Bool, List, [], ◌∷◌, ◌++◌, length, drop, get_or, drop-cons, nat_lt, ◌==◌, ◌&&◌, ◌||◌, refl, sym, ap, ◌∙◌, arith, add-one, eqb}
 use Rattle.std.specs.List.{list_all, list_any}
 use Rattle.std.specs.Cmp.Lexicographic.{pointwise}
 use Rattle.std.proofs.lemmas.Bool.Decides.{nat_tests}
-use Rattle.std.proofs.Math.Bool.{and-false}
 use Rattle.vx_plan_nodes.specs.Phases.{columns_from, first_columns}
-use Rattle.vx_check_rules.specs.Rules.{numbers_eq, contains, within, is_prefix, numbers_below}
+use Rattle.vx_check_rules.specs.Rules.{numbers_eq, contains, within, numbers_below}
 
 pub list_all-ext : {X : Type 0} (p q : X → Bool) (xs : List X) → ((x : X) → p x ≡ q x) → list_all p xs ≡ list_all q xs
 list_all-ext p q [] h = refl
@@ -20,12 +19,6 @@ pub lists-here : (test : List ℕ → Bool) (vs : List (Vec ℕ Global)) (i : �
     → list_all test (map (λ (w : Vec ℕ Global). w.items) (drop i vs)) ≡ (test v.items && list_all test (map (λ (w : Vec ℕ Global). w.items) (drop (i + 1) vs)))
 lists-here test vs i v h e =
     rw (drop-cons vs i v h, add-one) (ap (λ (w : Vec ℕ Global). test w.items && list_all test (map (λ (w : Vec ℕ Global). w.items) (drop (suc i) vs))) (sym e))
-
--- no list begins a shorter one
-pub prefix-short : (xs ys : List ℕ) → length ys < length xs → is_prefix xs ys ≡ false
-prefix-short [] ys h = absurd (omega arith)
-prefix-short (x ∷ xs) [] h = refl
-prefix-short (x ∷ xs) (y ∷ ys) h = rw (prefix-short xs ys (omega arith)) (and-false (x == y))
 
 below_suc : (c n : ℕ) → ((c == n) || nat_lt c n) ≡ nat_lt c (suc n)
 below_suc c n = grind (arith, nat_tests)

@@ -1,12 +1,12 @@
 -- Copies of columns, one by one.
-use Rattle.std.proofs.Common.{◌≡◌, ℕ, suc, ◌+◌, ◌<◌, ◌≤◌, Bool, true, false, List, [], ◌∷◌, length, take, drop, get_or, ◌==◌, ◌&&◌, Option, Some, None, is_some, refl, sym, ap, ◌∙◌, arith, add-one, drop-cons, not, eqb}
+use Rattle.std.proofs.Common.{◌≡◌, ℕ, suc, ◌+◌, ◌<◌, ◌≤◌, Bool, true, false, List, [], ◌∷◌, length, drop, get_or, ◌==◌, ◌&&◌, Option, Some, None, is_some, refl, sym, ap, ◌∙◌, arith, add-one, drop-cons, not, eqb}
 use Rattle.std.specs.List.{list_all}
 use Rattle.std.specs.Option.{option_eq}
 use Rattle.std.proofs.lemmas.List.{drop_all}
 use Rattle.std.proofs.lemmas.Bool.Decides.{nat_tests}
 use Rattle.std.proofs.Math.Bool.{and-false}
 use Rattle.vx_plan_nodes.specs.Describe.{Copying, source}
-use Rattle.vx_check_rules.specs.Rules.{numbers_eq, is_prefix, cons_both, if_some}
+use Rattle.vx_check_rules.specs.Rules.{numbers_eq, cons_both, if_some}
 use Rattle.vx_check_rules.specs.Behaviour.{sources}
 
 all_cons : (o : Option ℕ) (os : Option (List ℕ)) → if_some (cons_both o os) (λ cs. true) ≡ (is_some o && if_some os (λ cs. true))
@@ -62,30 +62,3 @@ stands-length k (c ∷ cs) (x ∷ xs) other = longer (source k c) (sources k cs)
     longer None os h = refl
     longer (Some c) None h = refl
     longer (Some c) (Some cs) h = rw h (and-false (x == c))
-
-front_cons : (o : Option ℕ) (os : Option (List ℕ)) (x : ℕ) (ys xs : List ℕ) → if_some os (numbers_eq ys) ≡ if_some os (λ cs. is_prefix cs xs)
-    → if_some (cons_both o os) (numbers_eq (x ∷ ys)) ≡ if_some (cons_both o os) (λ cs. is_prefix cs (x ∷ xs))
-front_cons None os x ys xs h = refl
-front_cons (Some d) None x ys xs h = refl
-front_cons (Some d) (Some ds) x ys xs h = rw (h, eq_swap x d) refl
-
--- the copied columns begin these
-pub stands-front : (k : Copying) (cols inputs : List ℕ) → length cols ≤ length inputs → stands k cols (take (length cols) inputs) ≡ if_some (sources k cols) (λ cs. is_prefix cs inputs)
-stands-front k [] inputs h = refl
-stands-front k (c ∷ cs) [] h = absurd (omega arith)
-stands-front k (c ∷ cs) (x ∷ xs) h = front_cons (source k c) (sources k cs) x (take (length cs) xs) xs (stands-front k cs xs (omega arith))
-
-short_cons : (o : Option ℕ) (os : Option (List ℕ)) (x : ℕ) (xs : List ℕ) → if_some os (λ cs. is_prefix cs xs) ≡ false → if_some (cons_both o os) (λ cs. is_prefix cs (x ∷ xs)) ≡ false
-short_cons None os x xs h = refl
-short_cons (Some d) None x xs h = refl
-short_cons (Some d) (Some ds) x xs h = rw h (and-false (d == x))
-
-short_end : (o : Option ℕ) (os : Option (List ℕ)) → if_some (cons_both o os) (λ cs. is_prefix cs []) ≡ false
-short_end None os = refl
-short_end (Some d) None = refl
-short_end (Some d) (Some ds) = refl
-
-pub stands-short : (k : Copying) (cols inputs : List ℕ) → length inputs < length cols → if_some (sources k cols) (λ cs. is_prefix cs inputs) ≡ false
-stands-short k [] inputs h = absurd (omega arith)
-stands-short k (c ∷ cs) [] h = short_end (source k c) (sources k cs)
-stands-short k (c ∷ cs) (x ∷ xs) h = short_cons (source k c) (sources k cs) x xs (stands-short k cs xs (omega arith))

@@ -1,8 +1,10 @@
 -- The copies of the columns of an order, as the program finds them.
-use Rattle.std.proofs.Common.{◌≡◌, ℕ, zero, suc, ◌+◌, ◌<◌, ◌≤◌, nat_lt, Bool, true, false, cond, List, [], ◌∷◌, ◌++◌, append_assoc, length, drop, get_or, drop-cons, Option, Some, None, refl, sym, ap, ◌∙◌, arith}
+use Rattle.std.proofs.Common.{◌≡◌, ℕ, zero, suc, ◌+◌, ◌<◌, ◌≤◌, nat_lt, Bool, true, false, cond, List, [], ◌∷◌, ◌++◌, append_assoc, length, drop, drop-cons, Option, Some, None, slice_get, refl, sym, ap, ◌∙◌, arith}
 use Rattle.std.proofs.lemmas.List.{drop_all, append-nil}
 use Rattle.std.proofs.lemmas.Bool.Decides.{nat_tests}
 use Rattle.std.specs.List.{filter}
+use Rattle.vx_rows_values.specs.declared.order.OrderEntry.{OrderEntry}
+use Rattle.vx_rows_values.specs.Order.{order_columns}
 use Rattle.vx_rows_values.proofs.Booleans.{and-left, and-right, and-both}
 use Rattle.vx_catalog_relations.specs.Catalog.{all_below}
 use Rattle.vx_plan_nodes.specs.Describe.{Copying, source}
@@ -11,6 +13,7 @@ use Rattle.vx_plan_facts.specs.Determined.{column_in}
 use Rattle.vx_plan_facts.specs.Equal.{Equality}
 use Rattle.vx_check_rules.specs.Derived.{first_of, copy_of, copies_then, front_copies}
 use Rattle.vx_check_rules.proofs.ColumnFacts.{first_at, first_length}
+use Rattle.vx_check_rules.proofs.Shortening.{drop-at}
 
 -- whether an output column is such a copy
 abbrev pub copies : Copying → Equality → ℕ → ℕ → Bool
@@ -43,30 +46,31 @@ copy-none i w k e x h =
 
 -- ---- lists of copies
 
--- so many columns were passed, and what is left stands behind what was put
-pub record Copied (w : ℕ) (k : Copying) (e : Equality) (order put : List ℕ) (i : ℕ) : Type 0 where
+-- so many entries were passed, and what is left stands behind what was put
+pub record Copied (w : ℕ) (k : Copying) (e : Equality) (order put : List OrderEntry) (i : ℕ) : Type 0 where
   pub puts : front_copies w k e order ≡ put ++ front_copies w k e (drop i order)
 
-pub copied-starts : (w : ℕ) (k : Copying) (e : Equality) (order put : List ℕ) → put ≡ [] → Copied w k e order put 0
+pub copied-starts : (w : ℕ) (k : Copying) (e : Equality) (order put : List OrderEntry) → put ≡ [] → Copied w k e order put 0
 copied-starts w k e order put none = record { puts = ap (λ xs. xs ++ front_copies w k e order) (sym none) }
 
-pub copied-goes : (w : ℕ) (k : Copying) (e : Equality) (order put new : List ℕ) (i c : ℕ) → Copied w k e order put i → i < length order
-    → copy_of w k e (get_or order i 0) ≡ Some c → new ≡ put ++ c ∷ [] → Copied w k e order new (i + 1)
-copied-goes w k e order put new i c at h is same =
-    let rest : List ℕ = front_copies w k e (drop (suc i) order) in
+pub copied-goes : (w : ℕ) (k : Copying) (e : Equality) (order put new : List OrderEntry) (i c : ℕ) → Copied w k e order put i → (x : OrderEntry) → slice_get order i ≡ Some x
+    → copy_of w k e x.column ≡ Some c → new ≡ put ++ record { column = c; falling = x.falling } ∷ [] → Copied w k e order new (i + 1)
+copied-goes w k e order put new i c at x h is same =
+    let rest : List OrderEntry = front_copies w k e (drop (suc i) order) in
+    let copy : OrderEntry = record { column = c; falling = x.falling } in
     let next : suc i ≡ i + 1 = omega arith in
     record {
-      puts = at.puts ∙ ap (λ xs. put ++ front_copies w k e xs) (drop-cons order i 0 h) ∙ ap (λ o. put ++ copies_then o rest) is ∙ sym (append_assoc put (c ∷ []) rest)
-          ∙ ap (λ n. (put ++ c ∷ []) ++ front_copies w k e (drop n order)) next ∙ ap (λ xs. xs ++ front_copies w k e (drop (i + 1) order)) (sym same);
+      puts = at.puts ∙ ap (λ xs. put ++ front_copies w k e xs) (drop-at order i x h) ∙ ap (λ o. put ++ copies_then o x.falling rest) is ∙ sym (append_assoc put (copy ∷ []) rest)
+          ∙ ap (λ n. (put ++ copy ∷ []) ++ front_copies w k e (drop n order)) next ∙ ap (λ xs. xs ++ front_copies w k e (drop (i + 1) order)) (sym same);
     }
 
-pub copied-stops : (w : ℕ) (k : Copying) (e : Equality) (order put : List ℕ) (i : ℕ) → Copied w k e order put i → i < length order
-    → copy_of w k e (get_or order i 0) ≡ None → put ≡ front_copies w k e order
-copied-stops w k e order put i at h is =
-    let rest : List ℕ = front_copies w k e (drop (suc i) order) in
-    sym (at.puts ∙ ap (λ xs. put ++ front_copies w k e xs) (drop-cons order i 0 h) ∙ ap (λ o. put ++ copies_then o rest) is ∙ append-nil put)
+pub copied-stops : (w : ℕ) (k : Copying) (e : Equality) (order put : List OrderEntry) (i : ℕ) → Copied w k e order put i → (x : OrderEntry) → slice_get order i ≡ Some x
+    → copy_of w k e x.column ≡ None → put ≡ front_copies w k e order
+copied-stops w k e order put i at x h is =
+    let rest : List OrderEntry = front_copies w k e (drop (suc i) order) in
+    sym (at.puts ∙ ap (λ xs. put ++ front_copies w k e xs) (drop-at order i x h) ∙ ap (λ o. put ++ copies_then o x.falling rest) is ∙ append-nil put)
 
-pub copied-ends : (w : ℕ) (k : Copying) (e : Equality) (order put : List ℕ) (i : ℕ) → Copied w k e order put i → length order ≤ i → put ≡ front_copies w k e order
+pub copied-ends : (w : ℕ) (k : Copying) (e : Equality) (order put : List OrderEntry) (i : ℕ) → Copied w k e order put i → length order ≤ i → put ≡ front_copies w k e order
 copied-ends w k e order put i at h = sym (at.puts ∙ ap (λ xs. put ++ front_copies w k e xs) (drop_all i order h) ∙ append-nil put)
 
 -- ---- they are columns of the output
@@ -90,11 +94,12 @@ first-of-below w test (x ∷ xs) h = go (test x) (and-left (nat_lt x w) (all_bel
     go true l r = l
     go false l r = r
 
-pub copies-below : (w : ℕ) (k : Copying) (e : Equality) (xs : List ℕ) → all_below w (front_copies w k e xs) ≡ true
+pub copies-below : (w : ℕ) (k : Copying) (e : Equality) (order : List OrderEntry) → all_below w (order_columns (front_copies w k e order)) ≡ true
 copies-below w k e [] = refl
-copies-below w k e (x ∷ xs) =
-    go (copy_of w k e x) (first-of-below w (copies k e x) (first_columns w) (first-below w 0 w (omega arith))) (copies-below w k e xs)
+copies-below w k e (x ∷ order) =
+    go (copy_of w k e x.column) (first-of-below w (copies k e x.column) (first_columns w) (first-below w 0 w (omega arith))) (copies-below w k e order)
   where
-    go : (o : Option ℕ) → one-below w o ≡ true → all_below w (front_copies w k e xs) ≡ true → all_below w (copies_then o (front_copies w k e xs)) ≡ true
+    go : (o : Option ℕ) → one-below w o ≡ true → all_below w (order_columns (front_copies w k e order)) ≡ true
+        → all_below w (order_columns (copies_then o x.falling (front_copies w k e order))) ≡ true
     go None l r = refl
-    go (Some c) l r = and-both (nat_lt c w) (all_below w (front_copies w k e xs)) l r
+    go (Some c) l r = and-both (nat_lt c w) (all_below w (order_columns (front_copies w k e order))) l r

@@ -1,6 +1,7 @@
 -- What the first rule table allows, the one with what is known of columns allows too.
 use Rattle.std.proofs.Common.{◌≡◌, ℕ, Bool, true, false, not, ◌&&◌, ◌||◌, refl}
 use Rattle.vx_catalog_relations.specs.Relation.{Relation}
+use Rattle.vx_rows_values.specs.Order.{order_columns}
 use Rattle.vx_rows_values.proofs.Booleans.{and-left, and-right, and-both}
 use Rattle.vx_plan_nodes.specs.Plan.{select, project, distinct, sort, group, limit, Plan, scan, unary, binary, exchange, claim, size, is_one}
 use Rattle.vx_plan_nodes.specs.Types.{width}
@@ -38,7 +39,7 @@ first-more catalog (unary n c (sort of_parts cols) p) h = h
 first-more catalog (unary n c (group phase by aggregates) p) h = h
 first-more catalog (unary n c (limit m) p) h =
     let total : Bool = is_total_order catalog p in
-    let follows : Bool = total_follows (width catalog p) (determined catalog p) (claim p).keys (claim p).order in
+    let follows : Bool = total_follows (width catalog p) (determined catalog p) (claim p).keys (order_columns (claim p).order) in
     and-both (is_one (size p)) (total || follows) (and-left (is_one (size p)) total h) (or-left total follows (and-right (is_one (size p)) total h))
 first-more catalog (binary n c op p q) h = h
 first-more catalog (exchange n c k m p) h = h
@@ -80,11 +81,11 @@ nodes-more catalog (exchange n c k m p) h =
 
 pub root-more : (catalog : ℕ → Relation) (p : Plan) (is_total : Bool) → root_allowed catalog is_total p ≡ true → root_allowed_derived catalog is_total p ≡ true
 root-more catalog p is_total h =
-    let follows : Bool = total_follows (width catalog p) (determined catalog p) (claim p).keys (claim p).order in
+    let follows : Bool = total_follows (width catalog p) (determined catalog p) (claim p).keys (order_columns (claim p).order) in
     and-both (is_one (size p)) (not is_total || (is_total_order catalog p || follows)) (and-left (is_one (size p)) (not is_total || is_total_order catalog p) h)
     (by is_total (and-right (is_one (size p)) (not is_total || is_total_order catalog p) h))
   where
     by : (t : Bool) → (not t || is_total_order catalog p) ≡ true
-        → (not t || (is_total_order catalog p || total_follows (width catalog p) (determined catalog p) (claim p).keys (claim p).order)) ≡ true
-    by true h = or-left (is_total_order catalog p) (total_follows (width catalog p) (determined catalog p) (claim p).keys (claim p).order) h
+        → (not t || (is_total_order catalog p || total_follows (width catalog p) (determined catalog p) (claim p).keys (order_columns (claim p).order))) ≡ true
+    by true h = or-left (is_total_order catalog p) (total_follows (width catalog p) (determined catalog p) (claim p).keys (order_columns (claim p).order)) h
     by false h = refl

@@ -4,6 +4,7 @@ use Rattle.std.specs.List.{list_any, list_all}
 use Rattle.std.proofs.lemmas.Bool.Decides.{nat_tests}
 use Rattle.std.proofs.lemmas.List.Folds.{list_any-append, list_all-append, list_all-map}
 use Rattle.vx_rows_values.proofs.Booleans.{and-left, and-right}
+use Rattle.vx_rows_values.specs.declared.order.OrderEntry.{OrderEntry}
 use Rattle.vx_catalog_relations.specs.Relation.{Relation}
 use Rattle.vx_catalog_relations.proofs.NameFacts.{list_any-map}
 use Rattle.vx_plan_nodes.specs.Plan.{Route, Part, one, any, all, routed, Claim, Unary, select, project, distinct, sort, group, limit, plain, partial, final, union, join, semi_join, ExchangeKind, route_to, round, broadcast, gather, concat, Plan, scan, unary, binary, exchange, claim, size, is_one, target}
@@ -11,9 +12,9 @@ use Rattle.vx_plan_nodes.specs.Parts.{kind_part}
 use Rattle.vx_plan_nodes.specs.Phases.{first_columns}
 use Rattle.vx_plan_nodes.specs.Types.{width}
 use Rattle.vx_plan_nodes.specs.Describe.{Copying, whole_rows, columns_kept, left_of, right_of, no_columns, source, keys_kept, key_of_first, paired_on, matched_on, described}
-use Rattle.vx_check_rules.specs.Rules.{part_gives, has, contains, within, is_prefix, cons_both, if_some, unless_one, through, copied, left_columns, right_columns, routed_within, routed_alike, alike_shows, join_shows, semi_join_shows, both_have, kind_shows, unary_shows, keeps_apart, shows, sizes_match, not_replicated, inputs_match, order_given, first_rows_known, part_shown, order_shown, covers, numbers_below, shifted, goes_on, orders, keys_of, keys_shown, join_keys}
+use Rattle.vx_check_rules.specs.Rules.{part_gives, has, contains, within, is_front, cons_both, if_some, entry_both, if_order, unless_one, through, copied, copied_order, left_columns, right_columns, routed_within, routed_alike, alike_shows, join_shows, semi_join_shows, both_have, kind_shows, unary_shows, keeps_apart, shows, sizes_match, not_replicated, inputs_match, order_given, first_rows_known, part_shown, order_shown, covers, numbers_below, shifted, goes_on, orders, keys_of, keys_shown, join_keys}
 use Rattle.vx_check_rules.specs.Refusal.{size_mismatch, part_not_shown, inputs_not_matched, replicated_input, order_not_shown, order_needed, key_not_shown, first_rows_open, first_failure}
-use Rattle.vx_check_rules.specs.Behaviour.{sources, Way, way, sorted_by, keyed_by, if_so, own, bare, over, ways_over, ways_if_fit, keyed_after, keyed_held, behaviour, fits, each_has, gives, sorts, is_column, has_copy, has_key, keys_give, shown_part, shown_order, shown_key}
+use Rattle.vx_check_rules.specs.Behaviour.{sources, order_sources, Way, way, sorted_by, keyed_by, if_so, own, bare, over, ways_over, ways_if_fit, keyed_after, keyed_held, behaviour, fits, each_has, gives, sorts, is_column, has_copy, has_key, keys_give, shown_part, shown_order, shown_key}
 use Rattle.vx_check_rules.specs.Exactly.{FitsExactly, PartsExactly, OrdersExactly, KeysExactly, VerdictsExactly}
 use Rattle.vx_check_rules.proofs.Bools.{or-false, or-true, and-true, or-assoc, or-swap, or-again, any-if}
 use Rattle.vx_check_rules.proofs.ColumnFacts.{list_all-ext, list_any-ext, contains-below, first-suc}
@@ -44,20 +45,29 @@ sources-right w (c ∷ cs) =
 
 -- ---- orders
 
-sorts-whole : (below order : List ℕ) → sorts (sorted_by whole_rows below) order ≡ is_prefix order below
-sorts-whole below order = ap (λ o. if_some o (λ cs. is_prefix cs below)) (sources-whole order)
+pub order-whole_rows : (order : List OrderEntry) → order_sources whole_rows order ≡ Some order
+order-whole_rows [] = refl
+order-whole_rows (e ∷ order) = ap (entry_both (Some e.column) e) (order-whole_rows order)
 
-order-whole : (below order : List ℕ) → is_prefix order below ≡ list_any (λ s. sorts s order) (sorted_by whole_rows below ∷ [])
+pub order-copied : (cols : List ℕ) (order : List OrderEntry) → order_sources (columns_kept cols) order ≡ copied_order cols order
+order-copied cols [] = refl
+order-copied cols (e ∷ order) = ap (entry_both (slice_get cols e.column) e) (order-copied cols order)
+
+sorts-whole : (below order : List OrderEntry) → sorts (sorted_by whole_rows below) order ≡ is_front order below
+sorts-whole below order = ap (λ o. if_order o (λ given. is_front given below)) (order-whole_rows order)
+
+order-whole : (below order : List OrderEntry) → is_front order below ≡ list_any (λ s. sorts s order) (sorted_by whole_rows below ∷ [])
 order-whole below order = sym (or-false (sorts (sorted_by whole_rows below) order) ∙ sorts-whole below order)
 
-order-kept : (cols below order : List ℕ) → if_some (copied cols order) (λ cs. is_prefix cs below) ≡ list_any (λ s. sorts s order) (sorted_by (columns_kept cols) below ∷ [])
+order-kept : (cols : List ℕ) (below order : List OrderEntry)
+    → if_order (copied_order cols order) (λ o. is_front o below) ≡ list_any (λ s. sorts s order) (sorted_by (columns_kept cols) below ∷ [])
 order-kept cols below order =
-    sym (or-false (sorts (sorted_by (columns_kept cols) below) order) ∙ ap (λ o. if_some o (λ cs. is_prefix cs below)) (sources-kept cols order))
+    sym (or-false (sorts (sorted_by (columns_kept cols) below) order) ∙ ap (λ o. if_order o (λ given. is_front given below)) (order-copied cols order))
 
-unary-orders : (op : Unary) (catalog : ℕ → Relation) (n : ℕ) (c : Claim) (p : Plan) (order : List ℕ)
+unary-orders : (op : Unary) (catalog : ℕ → Relation) (n : ℕ) (c : Claim) (p : Plan) (order : List OrderEntry)
     → orders catalog (unary n c op p) order ≡ shown_order (behaviour catalog (unary n c op p)) order
 unary-orders (select cs) catalog n c p order = order-whole (claim p).order order
-unary-orders (sort of_parts cols) catalog n c p order = order-whole cols order
+unary-orders (sort of_parts given) catalog n c p order = order-whole given order
 unary-orders (project cols) catalog n c p order = order-kept cols (claim p).order order
 unary-orders (distinct cols) catalog n c p order = order-kept cols (claim p).order order
 unary-orders (group plain by aggregates) catalog n c p order = order-kept by (claim p).order order
@@ -65,12 +75,12 @@ unary-orders (group partial by aggregates) catalog n c p order = order-kept by (
 unary-orders (group final by aggregates) catalog n c p order = order-kept by (claim p).order order
 unary-orders (limit m) catalog n c p order = order-whole (claim p).order order
 
-moved-orders : (b : Bool) (below merge order : List ℕ)
-    → (is_prefix order merge || (b && is_prefix order below)) ≡ list_any (λ s. sorts s order) (if_so b (sorted_by whole_rows below ∷ []) ++ sorted_by whole_rows merge ∷ [])
+moved-orders : (b : Bool) (below merge order : List OrderEntry)
+    → (is_front order merge || (b && is_front order below)) ≡ list_any (λ s. sorts s order) (if_so b (sorted_by whole_rows below ∷ []) ++ sorted_by whole_rows merge ∷ [])
 moved-orders true below merge order =
-    or-swap (is_prefix order merge) (is_prefix order below)
-    ∙ sym (ap (λ x. x || (sorts (sorted_by whole_rows merge) order || false)) (sorts-whole below order) ∙ ap (λ x. is_prefix order below || x) (sym (order-whole merge order)))
-moved-orders false below merge order = or-false (is_prefix order merge) ∙ order-whole merge order
+    or-swap (is_front order merge) (is_front order below)
+    ∙ sym (ap (λ x. x || (sorts (sorted_by whole_rows merge) order || false)) (sorts-whole below order) ∙ ap (λ x. is_front order below || x) (sym (order-whole merge order)))
+moved-orders false below merge order = or-false (is_front order merge) ∙ order-whole merge order
 
 pub orders-exactly : OrdersExactly
 orders-exactly catalog (scan n c r m z) order = order-whole (catalog r).order order

@@ -2,6 +2,7 @@
 use Rattle.std.proofs.Common.{◌≡◌, ◌∙◌, ℕ, ◌<◌, nat_lt, Bool, true, ◌&&◌, ◌||◌, List, [], ◌∷◌, length, refl, ap, ap₂, sym, subst, arith}
 use Rattle.std.proofs.lemmas.Bool.{eqb-true}
 use Rattle.std.proofs.lemmas.Bool.Decides.{nat_tests}
+use Rattle.vx_rows_values.specs.declared.order.OrderEntry.{OrderEntry}
 use Rattle.vx_rows_values.specs.declared.value.ColType.{ColType}
 use Rattle.vx_rows_values.specs.Lists.{is_some_list}
 use Rattle.vx_rows_values.proofs.Booleans.{and-left, and-right}
@@ -71,7 +72,7 @@ kind-named s types (broadcast z) h = refl
 kind-named s types gather h = refl
 kind-named s types concat h = refl
 
-sent-named : (catalog : List Relation) (n : ℕ) (c : Claim) (k : ExchangeKind) (m : List ℕ) (p : Plan) → IsTypedOver catalog (exchange n c k m p)
+sent-named : (catalog : List Relation) (n : ℕ) (c : Claim) (k : ExchangeKind) (m : List OrderEntry) (p : Plan) → IsTypedOver catalog (exchange n c k m p)
     → all_below (width (relation_at catalog) p) (part_columns (kind_part k)) ≡ true
 sent-named catalog n c k m p (s, same, typed_x) =
     let types : List ColType = types_of (relation_at s.catalog) p in
@@ -156,7 +157,7 @@ both-part catalog known n c (semi_join matched on conditions) p q k l o h lefts 
     (equality_of k) (equal_at at p) (equality_of l) (equal_at at q) (equality_of o) (equal_at at top) (equal-same at p k (lefts below.0)) (equal-same at q l (rights below.1)) (equal-same at top o out)
     on (typed-both catalog top n c op p q refl h.typed).2 (own p) (own q) c.part (part-below at known p below.0) (part-below at known q below.1) (part-below at known top h.known)
 
-pub sent-part : (catalog : List Relation) (known : KnownColumns) (n : ℕ) (c : Claim) (x : ExchangeKind) (m : List ℕ) (p : Plan) (k : ColumnFacts) → IsKnownTyped catalog known (exchange n c x m p)
+pub sent-part : (catalog : List Relation) (known : KnownColumns) (n : ℕ) (c : Claim) (x : ExchangeKind) (m : List OrderEntry) (p : Plan) (k : ColumnFacts) → IsKnownTyped catalog known (exchange n c x m p)
     → (IsKnownOf (relation_at catalog) known p → AreFactsOf (relation_at catalog) p (facts_of k))
     → part_matches (equality_of k) (kind_part x) c.part ≡ part_derived (relation_at catalog) (exchange n c x m p) c.part
 sent-part catalog known n c x m p k h facts =

@@ -1,6 +1,7 @@
 pub mod BitFacts
 pub mod ColumnFacts
 pub mod CopyFacts
+pub mod FrontFacts
 pub mod PairFacts
 pub mod EqualFacts
 pub mod EqualBelow

@@ -1,6 +1,7 @@
 -- In a typed plan the claimed keys of every node name its columns.
 use Rattle.std.proofs.Common.{◌≡◌, Bool, true, ◌&&◌, ℕ, List, length, nat_le, nat_lt, sym, ap, ◌∙◌}
 use Rattle.std.specs.List.{list_all}
+use Rattle.vx_rows_values.specs.Order.{order_columns}
 use Rattle.vx_rows_values.specs.declared.value.ColType.{ColType}
 use Rattle.vx_rows_values.proofs.Booleans.{and-left, and-right}
 use Rattle.vx_catalog_relations.specs.Relation.{Relation}
@@ -29,7 +30,7 @@ output-keys s p h =
     let w : ℕ = width (relation_at s.catalog) p in
     let claimed : is_claim s types (claim p) ≡ true = and-right (nat_le (length types) 64) (is_claim s types (claim p)) h in
     let keys : list_all (are_columns (length types)) (claim p).keys ≡ true =
-    and-right (are_columns (length types) (claim p).order) _ (and-right (is_part s types (claim p).part) _ claimed) in
+    and-right (are_columns (length types) (order_columns (claim p).order)) _ (and-right (is_part s types (claim p).part) _ claimed) in
     let wide : list_all (are_columns w) (claim p).keys ≡ true = sym (ap (λ n. list_all (are_columns n) (claim p).keys) (types_of-width (relation_at s.catalog) p)) ∙ keys in
     all-more (are_columns w) (λ k. within k (numbers_below w)) (claim p).keys (λ k e. sym (within-below w k) ∙ and-left (all_below w k) (are_distinct k) e) wide
 
@@ -53,4 +54,4 @@ typed-keys s (binary n c op p q) h =
 typed-keys s (exchange n c k m p) h =
     let ts : List ColType = types_of (relation_at s.catalog) p in
     let rest = and-right (typed s p) _ h in
-    (output-keys s (exchange n c k m p) (fourth (is_kind s ts k) (are_columns (length ts) m) (may_merge k m) _ rest), typed-keys s p (and-left (typed s p) _ h))
+    (output-keys s (exchange n c k m p) (fourth (is_kind s ts k) (are_columns (length ts) (order_columns m)) (may_merge k m) _ rest), typed-keys s p (and-left (typed s p) _ h))

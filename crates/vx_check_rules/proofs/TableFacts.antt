@@ -1,5 +1,6 @@
 -- Judging by a table: tests in their order, and a node's inputs.
 use Rattle.std.proofs.Common.{◌≡◌, ◌∙◌, ℕ, Bool, true, false, List, [], ◌∷◌, Some, None, refl}
+use Rattle.vx_rows_values.specs.declared.order.OrderEntry.{OrderEntry}
 use Rattle.vx_catalog_relations.specs.Relation.{Relation}
 use Rattle.vx_catalog_relations.specs.Catalog.{relation_at}
 use Rattle.vx_plan_nodes.specs.Plan.{Claim, Unary, Binary, ExchangeKind, Plan, unary, binary, exchange}
@@ -91,7 +92,7 @@ judges-under catalog (Second k) n c op p h = record {
   typed = (typed-unary catalog (unary n c op p) n c op p refl h.typed).0;
 }
 
-pub judges-sent : (catalog : List Relation) (t : Table) (n : ℕ) (c : Claim) (x : ExchangeKind) (m : List ℕ) (p : Plan) → Judges catalog t (exchange n c x m p) → Judges catalog t p
+pub judges-sent : (catalog : List Relation) (t : Table) (n : ℕ) (c : Claim) (x : ExchangeKind) (m : List OrderEntry) (p : Plan) → Judges catalog t (exchange n c x m p) → Judges catalog t p
 judges-sent catalog First n c x m p h = tt
 judges-sent catalog (Second k) n c x m p h = record {
   known = known-passed (relation_at catalog) k n c x m p h.known;
@@ -109,7 +110,7 @@ judges-both catalog (Second k) n c op p q h =
 pub stays-under : (t u : Table) (n : ℕ) (c : Claim) (op : Unary) (p : Plan) → StaysTable t u p → StaysTable t u (unary n c op p)
 stays-under t u n c op p stays = stays-above t u p (unary n c op p) (λ catalog h. judges-under catalog t n c op p h) stays
 
-pub stays-sent : (t u : Table) (n : ℕ) (c : Claim) (x : ExchangeKind) (m : List ℕ) (p : Plan) → StaysTable t u p → StaysTable t u (exchange n c x m p)
+pub stays-sent : (t u : Table) (n : ℕ) (c : Claim) (x : ExchangeKind) (m : List OrderEntry) (p : Plan) → StaysTable t u p → StaysTable t u (exchange n c x m p)
 stays-sent t u n c x m p stays = stays-above t u p (exchange n c x m p) (λ catalog h. judges-sent catalog t n c x m p h) stays
 
 pub stays-left : (t u : Table) (n : ℕ) (c : Claim) (op : Binary) (p q : Plan) → StaysTable t u p → StaysTable t u (binary n c op p q)

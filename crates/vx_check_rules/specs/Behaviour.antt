@@ -1,13 +1,14 @@
 -- What a node has of its inputs' claims, by the description of its operator: the ways to a part, the orders and the keys that are there. Read downwards it tests a claim; read upwards it makes one.
 use Rattle.std.specs.Prelude.{ℕ, ◌==◌, Bool, true, false, cond, not, ◌&&◌, ◌||◌, List, [], ◌∷◌, ◌++◌, map, flat_map, filter_map, Option, Some, None}
 use Rattle.std.specs.List.{list_all, list_any}
+use Rattle.vx_rows_values.specs.declared.order.OrderEntry.{OrderEntry}
 use Rattle.vx_catalog_relations.specs.Relation.{Relation}
 use Rattle.vx_plan_nodes.specs.Plan.{Route, Part, one, any, all, routed, ExchangeKind, Plan, scan, unary, binary, exchange, claim, size, is_one}
 use Rattle.vx_plan_nodes.specs.Parts.{kind_part}
 use Rattle.vx_plan_nodes.specs.Phases.{first_columns}
 use Rattle.vx_plan_nodes.specs.Types.{width}
 use Rattle.vx_plan_nodes.specs.Describe.{Copying, whole_rows, source, place, OrderAfter, order_kept, sorted_on, KeysAfter, keys_kept, key_of_first, no_key, Described, described, Meeting, side_by_side, paired_on, matched_on, DescribedBoth, described_both}
-use Rattle.vx_check_rules.specs.Rules.{part_gives, is_prefix, cons_both, if_some, routed_within, routed_alike, covers, goes_on}
+use Rattle.vx_check_rules.specs.Rules.{part_gives, is_front, cons_both, if_some, entry_at, entry_both, if_order, routed_within, routed_alike, covers, goes_on}
 
 -- ---- columns, all of them or up to the first
 
@@ -30,6 +31,22 @@ abbrev pub front_places : Copying → List ℕ → List ℕ
 front_places k [] = []
 front_places k (c ∷ cs) = place_then (place k c) (front_places k cs)
 
+-- ---- orders, likewise; each column keeps its direction
+
+-- the order of the input columns that these are copies of, if each is one
+abbrev pub order_sources : Copying → List OrderEntry → Option (List OrderEntry)
+order_sources k [] = Some []
+order_sources k (e ∷ order) = entry_both (source k e.column) e (order_sources k order)
+
+-- where the columns of this order stand up to the first that has no place
+abbrev pub entry_then : Option ℕ → OrderEntry → List OrderEntry → List OrderEntry
+entry_then None e order = []
+entry_then (Some c) e order = entry_at c e ∷ order
+
+abbrev pub front_order : Copying → List OrderEntry → List OrderEntry
+front_order k [] = []
+front_order k (e ∷ order) = entry_then (place k e.column) e (front_order k order)
+
 -- ---- what is there
 
 -- a way to a part: each of these inputs has it, on the columns that are copied; of each input whether it has one worker, and its part
@@ -40,7 +57,7 @@ pub record Way : Type 0 where
 -- an order, on the columns that are copied
 pub record Sorted : Type 0 where
   pub copying : Copying
-  pub order : List ℕ
+  pub order : List OrderEntry
 
 -- keys: one of each of these lists, together, on the columns that are copied
 pub record Keyed : Type 0 where
@@ -55,7 +72,7 @@ pub record Behaviour : Type 0 where
 abbrev pub way : Copying → List (Bool × Part) → Way
 way k from = record { copying = k; from = from }
 
-abbrev pub sorted_by : Copying → List ℕ → Sorted
+abbrev pub sorted_by : Copying → List OrderEntry → Sorted
 sorted_by k order = record { copying = k; order = order }
 
 abbrev pub keyed_by : List (Copying × List (List ℕ)) → Keyed
@@ -83,9 +100,9 @@ abbrev pub meet : Option (List ℕ) → Bool × Part → Bool
 meet None h = true
 meet (Some cols) h = h.0 || (input_has h all || routed_within h.1 cols)
 
-abbrev pub order_after : OrderAfter → List ℕ → List ℕ
+abbrev pub order_after : OrderAfter → List OrderEntry → List OrderEntry
 order_after order_kept below = below
-order_after (sorted_on cols) below = cols
+order_after (sorted_on order) below = order
 
 abbrev pub keyed_after : KeysAfter → Copying → List (List ℕ) → List Keyed
 keyed_after keys_kept k below = keyed_by ((k, below) ∷ []) ∷ []
@@ -116,7 +133,7 @@ ways_over (paired_on on) d h g =
     ++ (if_so (input_has g all) (way d.left (h ∷ []) ∷ []) ++ if_so (input_has h all) (way d.right (g ∷ []) ∷ []))
 
 -- the left input's order goes on where rows meet, and is lost where they stand side by side
-abbrev pub order_over : Meeting → List ℕ → List ℕ
+abbrev pub order_over : Meeting → List OrderEntry → List OrderEntry
 order_over side_by_side left = []
 order_over (paired_on on) left = left
 order_over (matched_on on) left = left
@@ -152,7 +169,7 @@ of_relation shared r = record {
 }
 
 -- of an exchange: the part that it makes; the input's order where that goes on, and the one that it merges by; and the input's keys
-abbrev pub moved : ExchangeKind → List ℕ → Plan → Behaviour
+abbrev pub moved : ExchangeKind → List OrderEntry → Plan → Behaviour
 moved kind merge p = record {
   ways = ways_made (kind_part kind);
   sortings = if_so (is_one (size p) || goes_on kind (claim p)) (sorted_by whole_rows (claim p).order ∷ []) ++ sorted_by whole_rows merge ∷ [];
@@ -209,8 +226,8 @@ gives w all = each_has w.from all
 gives w (routed r cols) = if_some (sources w.copying cols) (λ cs. each_has w.from (routed r cs))
 
 -- the rows are sorted so, as they are sorted on the columns that these are copies of
-abbrev pub sorts : Sorted → List ℕ → Bool
-sorts s order = if_some (sources s.copying order) (λ cs. is_prefix cs s.order)
+abbrev pub sorts : Sorted → List OrderEntry → Bool
+sorts s order = if_order (order_sources s.copying order) (λ o. is_front o s.order)
 
 -- the column is this one
 abbrev pub is_column : Option ℕ → ℕ → Bool
@@ -232,7 +249,7 @@ keys_give k cols = list_all (λ f. has_key f.0 f.1 cols) k.from
 abbrev pub shown_part : Behaviour → Part → Bool
 shown_part b q = list_any (λ w. gives w q) b.ways
 
-abbrev pub shown_order : Behaviour → List ℕ → Bool
+abbrev pub shown_order : Behaviour → List OrderEntry → Bool
 shown_order b order = list_any (λ s. sorts s order) b.sortings
 
 abbrev pub shown_key : Behaviour → List ℕ → Bool
@@ -263,9 +280,9 @@ first_part [] = None
 first_part (w ∷ ws) = part_up w.copying (common_part w.from)
 
 -- the order that the first sorting carries up
-abbrev pub first_order : List Sorted → List ℕ
+abbrev pub first_order : List Sorted → List OrderEntry
 first_order [] = []
-first_order (s ∷ ss) = front_places s.copying s.order
+first_order (s ∷ ss) = front_order s.copying s.order
 
 -- the keys of which each column has a place
 abbrev pub kept_keys : Copying → List (List ℕ) → List (List ℕ)
@@ -288,7 +305,7 @@ keys_up k = together (map (λ f. kept_keys f.0 f.1) k.from)
 abbrev pub node_part : (ℕ → Relation) → Plan → Option Part
 node_part catalog p = cond (is_one (size p)) (Some one) (first_part (behaviour catalog p).ways)
 
-abbrev pub node_order : (ℕ → Relation) → Plan → List ℕ
+abbrev pub node_order : (ℕ → Relation) → Plan → List OrderEntry
 node_order catalog p = first_order (behaviour catalog p).sortings
 
 abbrev pub node_keys : (ℕ → Relation) → Plan → List (List ℕ)

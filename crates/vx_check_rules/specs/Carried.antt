@@ -6,7 +6,7 @@ use Rattle.vx_plan_nodes.specs.Plan.{Part, Claim, Plan, scan, unary, binary, exc
 use Rattle.vx_plan_nodes.specs.Describe.{Copying, source, place}
 use Rattle.vx_check_rules.specs.Rules.{sizes_match, not_replicated, inputs_match, order_given, first_rows_known}
 use Rattle.vx_check_rules.specs.Refusal.{first_failure, node_tests}
-use Rattle.vx_check_rules.specs.Behaviour.{Sorted, Keyed, way, gives, sorts, keys_give, front_places, keys_up, part_up, node_part, node_order, node_keys}
+use Rattle.vx_check_rules.specs.Behaviour.{Sorted, Keyed, way, gives, sorts, keys_give, front_order, keys_up, part_up, node_part, node_order, node_keys}
 
 -- at the place of a column stands its copy
 abbrev pub CopiesBack : Type 0
@@ -14,7 +14,7 @@ CopiesBack = (k : Copying) (c d : ℕ) → place k c ≡ Some d → source k d �
 
 -- the order that is carried up is shown
 abbrev pub OrdersCarried : Type 0
-OrdersCarried = (s : Sorted) → sorts s (front_places s.copying s.order) ≡ true
+OrdersCarried = (s : Sorted) → sorts s (front_order s.copying s.order) ≡ true
 
 -- the keys that are carried up are shown
 abbrev pub KeysCarried : Type 0

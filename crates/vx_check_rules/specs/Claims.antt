@@ -1,6 +1,7 @@
 -- What a claim means: of the streams of a node's workers and of the serial rows of the plan below it.
 use Rattle.std.specs.Prelude.{◌≡◌, ℕ, ◌<◌, ◌==◌, Bool, true, List, ◌≤◌}
 use Rattle.std.specs.List.{list_all}
+use Rattle.vx_rows_values.specs.declared.order.OrderEntry.{OrderEntry}
 use Rattle.vx_rows_values.specs.Values.{Row, pick, val_cmp, value_at}
 use Rattle.vx_rows_values.specs.Order.{sorted}
 use Rattle.vx_rows_values.specs.Bags.{SameRows}
@@ -29,8 +30,8 @@ abbrev pub PartHolds : Routing → Part → ℕ → Streams → List Row → Typ
 PartHolds goes q n s base = PartOf goes q n s (λ xs. SameRows xs base)
 
 -- the streams and the serial rows are sorted
-abbrev pub OrderHolds : List ℕ → ℕ → Streams → List Row → Type 0
-OrderHolds cols n s base = ((w : ℕ) → w < n → sorted cols (s w) ≡ true) × (sorted cols base ≡ true)
+abbrev pub OrderHolds : List OrderEntry → ℕ → Streams → List Row → Type 0
+OrderHolds order n s base = ((w : ℕ) → w < n → sorted order (s w) ≡ true) × (sorted order base ≡ true)
 
 -- a claim holds of the streams of n workers, by what a list must be that stands for the serial rows, and the list of which order and keys are claimed
 pub record ClaimOf (goes : Routing) (c : Claim) (n : ℕ) (s : Streams) (stands : List Row → Type 0) (list : List Row) : Type 0 where

@@ -1,9 +1,11 @@
 -- The rule table of a plan that asks for what is known of its columns: a claim is shown too if it follows from one that the table shows, by equal and fixed
 -- columns and by what the claimed keys determine.
-use Rattle.std.specs.Prelude.{ℕ, Bool, true, false, not, ◌&&◌, ◌||◌, List, [], ◌∷◌, map, filter, Option, Some, None}
+use Rattle.std.specs.Prelude.{ℕ, Bool, true, false, not, ◌&&◌, ◌||◌, List, [], ◌∷◌, filter, Option, Some, None}
 use Rattle.std.specs.List.{list_all, list_any}
+use Rattle.vx_rows_values.specs.declared.order.OrderEntry.{OrderEntry}
+use Rattle.vx_rows_values.specs.Order.{order_columns}
 use Rattle.vx_catalog_relations.specs.Relation.{Relation}
-use Rattle.vx_plan_nodes.specs.Plan.{by_range, Part, any, all, routed, Unary, select, project, distinct, sort, group, limit, plain, final, Binary, union, join, semi_join, ExchangeKind, concat, Plan, scan, unary, binary, exchange, claim, size, is_one}
+use Rattle.vx_plan_nodes.specs.Plan.{by_range, Part, any, all, routed, Unary, select, project, distinct, sort, group, limit, plain, final, by_merging, Binary, union, join, semi_join, ExchangeKind, concat, Plan, scan, unary, binary, exchange, claim, size, is_one, left_order, right_order}
 use Rattle.vx_plan_nodes.specs.Parts.{kind_part}
 use Rattle.vx_plan_nodes.specs.Phases.{first_columns}
 use Rattle.vx_plan_nodes.specs.Types.{width}
@@ -113,9 +115,9 @@ part_shown_derived catalog p = part_shown catalog p || part_derived catalog p (c
 
 -- K7: what is asked of the inputs' orders follows from them
 abbrev pub needed_follows : (ℕ → Relation) → Plan → Bool
-needed_follows catalog (binary n c (join true on) p q) =
-    order_follows (equal_at catalog p) (determined catalog p) (claim p).order (map (λ x. x.0) on)
-    && order_follows (equal_at catalog q) (determined catalog q) (claim q).order (map (λ x. x.1) on)
+needed_follows catalog (binary n c (join (by_merging falls) on) p q) =
+    order_follows (equal_at catalog p) (determined catalog p) (claim p).order (left_order falls on)
+    && order_follows (equal_at catalog q) (determined catalog q) (claim q).order (right_order falls on)
 needed_follows catalog (exchange n c k merge p) = order_follows (equal_at catalog p) (determined catalog p) (claim p).order merge
 needed_follows catalog p = false
 
@@ -124,7 +126,7 @@ order_given_derived catalog p = order_given p || needed_follows catalog p
 
 -- K9 and K11: the order is total by the table, or it determines a claimed key or all columns
 abbrev pub is_total_derived : (ℕ → Relation) → Plan → Bool
-is_total_derived catalog p = is_total_order catalog p || total_follows (width catalog p) (determined catalog p) (claim p).keys (claim p).order
+is_total_derived catalog p = is_total_order catalog p || total_follows (width catalog p) (determined catalog p) (claim p).keys (order_columns (claim p).order)
 
 -- K11: the first rows of a limit's input are known
 abbrev pub first_rows_known_derived : (ℕ → Relation) → Plan → Bool
@@ -139,22 +141,22 @@ first_of (c ∷ cs) = Some c
 abbrev pub copy_of : ℕ → Copying → Equality → ℕ → Option ℕ
 copy_of w k e x = first_of (filter (λ c. column_in (λ y. e y x) (source k c)) (first_columns w))
 
--- the columns of an input's order where such copies stand, up to the first that has none
-abbrev pub copies_then : Option ℕ → List ℕ → List ℕ
-copies_then None cs = []
-copies_then (Some c) cs = c ∷ cs
+-- the entries of an input's order where such copies stand, up to the first that has none; each keeps its direction
+abbrev pub copies_then : Option ℕ → (falling : Bool) → List OrderEntry → List OrderEntry
+copies_then None falling order = []
+copies_then (Some c) falling order = record { column = c; falling = falling } ∷ order
 
-abbrev pub front_copies : ℕ → Copying → Equality → List ℕ → List ℕ
+abbrev pub front_copies : ℕ → Copying → Equality → List OrderEntry → List OrderEntry
 front_copies w k e [] = []
-front_copies w k e (x ∷ xs) = copies_then (copy_of w k e x) (front_copies w k e xs)
+front_copies w k e (x ∷ xs) = copies_then (copy_of w k e x.column) x.falling (front_copies w k e xs)
 
--- rows that a range routed on a column rise from one worker to the next if their order begins with it, but for what is fixed
-abbrev pub rises_equally : Equality → (Columns → Columns) → Part → List ℕ → Bool
-rises_equally e det (routed (by_range k) (c ∷ [])) order = order_follows e det order (c ∷ [])
+-- rows that a range routed on a column rise from one worker to the next if their order begins with it, rising, but for what is fixed
+abbrev pub rises_equally : Equality → (Columns → Columns) → Part → List OrderEntry → Bool
+rises_equally e det (routed (by_range k) (c ∷ [])) order = order_follows e det order (record { column = c; falling = false } ∷ [])
 rises_equally e det q order = false
 
 -- the order of an exchange's input goes on, where the input has this part and this order; and where it has those that it claims
-abbrev pub goes_on_with : (ℕ → Relation) → ExchangeKind → Plan → Part → List ℕ → Bool
+abbrev pub goes_on_with : (ℕ → Relation) → ExchangeKind → Plan → Part → List OrderEntry → Bool
 goes_on_with catalog concat p q order = rises_equally (equal_at catalog p) (determined catalog p) q order
 goes_on_with catalog k p q order = false
 
@@ -162,25 +164,25 @@ abbrev pub goes_on_derived : (ℕ → Relation) → ExchangeKind → Plan → Bo
 goes_on_derived catalog k p = goes_on_with catalog k p (claim p).part (claim p).order
 
 -- the orders that a node has by the table
-abbrev pub unary_order : ℕ → Unary → Equality → (Columns → Columns) → List ℕ → List ℕ
+abbrev pub unary_order : ℕ → Unary → Equality → (Columns → Columns) → List OrderEntry → List OrderEntry
 unary_order w (select cs) e det below = below
-unary_order w (sort of_parts cols) e det below = cols
+unary_order w (sort of_parts order) e det below = order
 unary_order w (project cols) e det below = front_copies w (described (project cols)).copying e (short det below)
 unary_order w (distinct cols) e det below = front_copies w (described (distinct cols)).copying e (short det below)
 unary_order w (group phase by aggregates) e det below = front_copies w (described (group phase by aggregates)).copying e (short det below)
 unary_order w (limit m) e det below = below
 
-abbrev pub binary_order : Binary → List ℕ → List ℕ
+abbrev pub binary_order : Binary → List OrderEntry → List OrderEntry
 binary_order union left = []
 binary_order (join m on) left = left
 binary_order (semi_join matched on conditions) left = left
 
 -- an order follows from one that a node has
-abbrev pub follows_at : (ℕ → Relation) → Plan → (given order : List ℕ) → Bool
+abbrev pub follows_at : (ℕ → Relation) → Plan → (given order : List OrderEntry) → Bool
 follows_at catalog p given order = order_follows (equal_at catalog p) (determined catalog p) given order
 
 -- K6: the order follows from one that the table shows at the node
-abbrev pub order_derived : (ℕ → Relation) → Plan → List ℕ → Bool
+abbrev pub order_derived : (ℕ → Relation) → Plan → List OrderEntry → Bool
 order_derived catalog (scan n c r m z) order = follows_at catalog (scan n c r m z) (catalog r).order order
 order_derived catalog (unary n c op p) order =
     follows_at catalog (unary n c op p) (unary_order (width catalog (unary n c op p)) op (equal_at catalog p) (determined catalog p) (claim p).order) order

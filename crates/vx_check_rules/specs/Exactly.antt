@@ -1,6 +1,7 @@
 -- That behaviours say what the rule table says.
 use Rattle.std.specs.Prelude.{ℕ, ◌≡◌, Bool, true, ◌||◌, List, [], ◌∷◌}
 use Rattle.std.specs.List.{list_all}
+use Rattle.vx_rows_values.specs.declared.order.OrderEntry.{OrderEntry}
 use Rattle.vx_catalog_relations.specs.Relation.{Relation}
 use Rattle.vx_plan_nodes.specs.Plan.{Part, Plan, scan, unary, binary, exchange, claim, size, is_one}
 use Rattle.vx_plan_nodes.specs.Types.{width}
@@ -19,7 +20,7 @@ PartsExactly = (catalog : ℕ → Relation) (p : Plan) (q : Part) → inputs_mat
 
 -- an order is shown by one that is there
 abbrev pub OrdersExactly : Type 0
-OrdersExactly = (catalog : ℕ → Relation) (p : Plan) (order : List ℕ) → orders catalog p order ≡ shown_order (behaviour catalog p) order
+OrdersExactly = (catalog : ℕ → Relation) (p : Plan) (order : List OrderEntry) → orders catalog p order ≡ shown_order (behaviour catalog p) order
 
 -- a key of columns of the node is shown by keys that are there
 abbrev pub KeysExactly : Type 0

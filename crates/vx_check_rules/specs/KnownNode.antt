@@ -1,9 +1,11 @@
 -- What the second table's tests ask for at a node of whose columns is known, and what is still known after them.
-use Rattle.std.specs.Prelude.{◌≡◌, ◌&&◌, ℕ, Bool, true, false, List, map, length}
+use Rattle.std.specs.Prelude.{◌≡◌, ◌&&◌, ℕ, Bool, true, false, List, length}
 use Rattle.std.specs.List.{list_all, list_any}
+use Rattle.vx_rows_values.specs.declared.order.OrderEntry.{OrderEntry}
+use Rattle.vx_rows_values.specs.Order.{order_columns}
 use Rattle.vx_catalog_relations.specs.Relation.{Relation}
 use Rattle.vx_catalog_relations.specs.Catalog.{relation_at, all_below}
-use Rattle.vx_plan_nodes.specs.Plan.{Part, Unary, project, limit, Binary, join, Plan, claim, size, is_one}
+use Rattle.vx_plan_nodes.specs.Plan.{Part, Unary, project, limit, by_merging, Binary, join, Plan, claim, size, is_one, left_order, right_order}
 use Rattle.vx_plan_nodes.specs.Types.{width, unary_width, part_columns}
 use Rattle.vx_plan_facts.specs.declared.known.KnownColumns as rust_known
 use Rattle.vx_plan_facts.specs.KnownView.{IsKnownOf}
@@ -22,16 +24,16 @@ pub record IsKnownTyped (catalog : List Relation) (k : rust_known.KnownColumns) 
   pub typed : IsTypedOver catalog p
 
 -- both orders are of columns of the node
-pub record AreOrdersOf (catalog : ℕ → Relation) (k : rust_known.KnownColumns) (p : Plan) (given order : List ℕ) : Type 0 where
+pub record AreOrdersOf (catalog : ℕ → Relation) (k : rust_known.KnownColumns) (p : Plan) (given order : List OrderEntry) : Type 0 where
   pub known : IsKnownOf catalog k p
-  pub given_below : all_below (width catalog p) given ≡ true
-  pub order_below : all_below (width catalog p) order ≡ true
+  pub given_below : all_below (width catalog p) (order_columns given) ≡ true
+  pub order_below : all_below (width catalog p) (order_columns order) ≡ true
 
 -- a part and an order of columns of the node
-pub record AreGivenOf (catalog : ℕ → Relation) (k : rust_known.KnownColumns) (p : Plan) (q : Part) (order : List ℕ) : Type 0 where
+pub record AreGivenOf (catalog : ℕ → Relation) (k : rust_known.KnownColumns) (p : Plan) (q : Part) (order : List OrderEntry) : Type 0 where
   pub known : IsKnownOf catalog k p
   pub part_below : all_below (width catalog p) (part_columns q) ≡ true
-  pub order_below : all_below (width catalog p) order ≡ true
+  pub order_below : all_below (width catalog p) (order_columns order) ≡ true
 
 -- where this node is known, whatever is known of others stays so
 abbrev pub StaysKnown : (old new : rust_known.KnownColumns) → Plan → Type 0
@@ -43,7 +45,7 @@ pub record AreCopiesOf (catalog : ℕ → Relation) (k : rust_known.KnownColumns
   pub reaches : Reaches w copying (width catalog p)
 
 -- the order of an output over one input, by how columns are copied and what becomes of the order
-abbrev pub order_by : ℕ → Copying → OrderAfter → Equality → (Columns → Columns) → List ℕ → List ℕ
+abbrev pub order_by : ℕ → Copying → OrderAfter → Equality → (Columns → Columns) → List OrderEntry → List OrderEntry
 order_by w whole_rows after e det below = order_after after below
 order_by w copying after e det below = front_copies w copying e (short det below)
 
@@ -60,7 +62,7 @@ pub record HasCopies (catalog : ℕ → Relation) (k : rust_known.KnownColumns) 
 -- and the order of its output is of its columns, where rows stay whole
 pub record HasInput (catalog : ℕ → Relation) (k : rust_known.KnownColumns) (p q : Plan) (copying : Copying) (after : OrderAfter) : Type 0 where
   pub input : HasCopies catalog k p q copying
-  pub sorted_below : is_whole copying ≡ true → all_below (width catalog p) (order_after after (claim q).order) ≡ true
+  pub sorted_below : is_whole copying ≡ true → all_below (width catalog p) (order_columns (order_after after (claim q).order)) ≡ true
 
 -- a key of columns of the node
 pub record IsKeyOf (catalog : ℕ → Relation) (k : rust_known.KnownColumns) (p : Plan) (key : List ℕ) : Type 0 where
@@ -77,9 +79,9 @@ pub record IsPassed (catalog : ℕ → Relation) (k : rust_known.KnownColumns) (
 
 -- what a merge join asks of its inputs' orders follows from them
 abbrev pub pairs_follow : (ℕ → Relation) → Binary → Plan → Plan → Bool
-pairs_follow catalog (join true on) p q =
-    order_follows (equal_at catalog p) (determined catalog p) (claim p).order (map (λ x. x.0) on)
-    && order_follows (equal_at catalog q) (determined catalog q) (claim q).order (map (λ x. x.1) on)
+pairs_follow catalog (join (by_merging falls) on) p q =
+    order_follows (equal_at catalog p) (determined catalog p) (claim p).order (left_order falls on)
+    && order_follows (equal_at catalog q) (determined catalog q) (claim q).order (right_order falls on)
 pairs_follow catalog op p q = false
 
 -- both inputs are known, and the operator names columns of them

@@ -1,13 +1,14 @@
--- Lists of columns from where some of them are passed.
-use Rattle.std.specs.Prelude.{ℕ, Bool, false, cond, List, [], ◌∷◌}
+-- Orders from where some of their entries are passed.
+use Rattle.std.specs.Prelude.{Bool, false, cond, List, [], ◌∷◌}
+use Rattle.vx_rows_values.specs.declared.order.OrderEntry.{OrderEntry}
 use Rattle.vx_plan_facts.specs.Determined.{Columns}
 
--- without the first ones that are in the set, up to one that is not
-abbrev pub past : Columns → List ℕ → List ℕ
+-- without the first entries whose columns are in the set, up to one whose column is not
+abbrev pub past : Columns → List OrderEntry → List OrderEntry
 past s [] = []
-past s (c ∷ cols) = cond (s c) (past s cols) (c ∷ cols)
+past s (e ∷ order) = cond (s e.column) (past s order) (e ∷ order)
 
--- the first of the columns is there and passes the test
-abbrev pub first_passes : (ℕ → Bool) → List ℕ → Bool
+-- the first of the entries is there and passes the test
+abbrev pub first_passes : (OrderEntry → Bool) → List OrderEntry → Bool
 first_passes test [] = false
-first_passes test (c ∷ cols) = test c
+first_passes test (e ∷ order) = test e

@@ -1,7 +1,9 @@
 -- The rule table (our own): what a node may claim, from size names, claims and columns alone, and at a scan from what the catalog declares. Every rule is a test that computes.
 use Rattle.std.specs.Prelude.{ℕ, zero, suc, ◌+◌, ◌-◌, ◌==◌, nat_lt, nat_le, Bool, true, false, cond, not, ◌&&◌, ◌||◌, List, [], ◌∷◌, map, length, Option, Some, None, slice_get}
 use Rattle.std.specs.List.{list_all, list_any}
-use Rattle.vx_plan_nodes.specs.Plan.{Route, by_hash, by_range, Part, one, any, all, routed, Unary, select, project, distinct, sort, group, limit, Binary, union, join, semi_join, ExchangeKind, route_to, round, broadcast, gather, Plan, scan, unary, binary, exchange, claim, size, size_eq, is_one, Claim, plain, partial, final, concat}
+use Rattle.vx_rows_values.specs.declared.order.OrderEntry.{OrderEntry}
+use Rattle.vx_rows_values.specs.Order.{order_columns, entry_eq}
+use Rattle.vx_plan_nodes.specs.Plan.{Route, by_hash, by_range, Part, one, any, all, routed, Unary, select, project, distinct, sort, group, limit, by_merging, Binary, union, join, semi_join, ExchangeKind, route_to, round, broadcast, gather, Plan, scan, unary, binary, exchange, claim, size, size_eq, is_one, Claim, plain, partial, final, concat, left_order, right_order}
 use Rattle.vx_catalog_relations.specs.Relation.{Relation}
 use Rattle.vx_plan_nodes.specs.Types.{width}
 
@@ -46,6 +48,12 @@ is_prefix [] ys = true
 is_prefix (x ∷ xs) [] = false
 is_prefix (x ∷ xs) (y ∷ ys) = (x == y) && is_prefix xs ys
 
+-- the first order begins the second, each entry in its direction
+abbrev pub is_front : List OrderEntry → List OrderEntry → Bool
+is_front [] order = true
+is_front (x ∷ xs) [] = false
+is_front (x ∷ xs) (y ∷ ys) = entry_eq x y && is_front xs ys
+
 -- a column in front of the others, where all are there
 abbrev pub cons_both : Option ℕ → Option (List ℕ) → Option (List ℕ)
 cons_both (Some c) (Some cs) = Some (c ∷ cs)
@@ -60,6 +68,25 @@ copied kept (c ∷ cs) = cons_both (slice_get kept c) (copied kept cs)
 abbrev pub if_some : Option (List ℕ) → (List ℕ → Bool) → Bool
 if_some None test = false
 if_some (Some cs) test = test cs
+
+-- the entry with this column in place of its own, in its direction
+abbrev pub entry_at : ℕ → OrderEntry → OrderEntry
+entry_at c e = record { column = c; falling = e.falling }
+
+-- the entry with this column in front of the others, where all are there
+abbrev pub entry_both : Option ℕ → OrderEntry → Option (List OrderEntry) → Option (List OrderEntry)
+entry_both (Some c) e (Some order) = Some (entry_at c e ∷ order)
+entry_both _ _ _ = None
+
+-- the order of the input columns that the columns of this order copy, in the same directions, where the node keeps these input columns
+abbrev pub copied_order : List ℕ → List OrderEntry → Option (List OrderEntry)
+copied_order kept [] = Some []
+copied_order kept (e ∷ order) = entry_both (slice_get kept e.column) e (copied_order kept order)
+
+-- the test of the order, if there is one to test
+abbrev pub if_order : Option (List OrderEntry) → (List OrderEntry → Bool) → Bool
+if_order None test = false
+if_order (Some order) test = test order
 
 -- a part that is routed on columns that are all among these
 abbrev pub routed_within : Part → List ℕ → Bool
@@ -126,11 +153,11 @@ inputs_match (unary n c op p) = is_one (size p) || keeps_apart op p
 inputs_match (binary n c op p q) = is_one (size p) || binary_inputs_match op p q
 inputs_match _ = true
 
--- K7: a merge join's inputs begin with the columns that it joins on, a merging exchange's with those that it merges on
+-- K7: the orders of a merge join's inputs begin with the columns that it joins on, in its directions, a merging exchange's with the order that it merges on
 abbrev pub order_given : Plan → Bool
-order_given (binary n c (join true on) p q) =
-    is_prefix (map (λ x. x.0) on) (claim p).order && is_prefix (map (λ x. x.1) on) (claim q).order
-order_given (exchange n c k merge p) = is_prefix merge (claim p).order
+order_given (binary n c (join (by_merging falls) on) p q) =
+    is_front (left_order falls on) (claim p).order && is_front (right_order falls on) (claim q).order
+order_given (exchange n c k merge p) = is_front merge (claim p).order
 order_given _ = true
 
 -- the numbers below n
@@ -138,10 +165,10 @@ abbrev pub numbers_below : ℕ → List ℕ
 numbers_below zero = []
 numbers_below (suc n) = n ∷ numbers_below n
 
--- K9 and K11: the order contains all columns of a claimed key, or all output columns
+-- K9 and K11: the order contains all columns of a claimed key, or all output columns, in whatever directions
 abbrev pub is_total_order : (ℕ → Relation) → Plan → Bool
 is_total_order catalog p =
-    list_any (λ k. within k (claim p).order) (claim p).keys || within (numbers_below (width catalog p)) (claim p).order
+    list_any (λ k. within k (order_columns (claim p).order)) (claim p).keys || within (numbers_below (width catalog p)) (order_columns (claim p).order)
 
 -- K11: the rows of which a limit takes the first ones are at one worker, in a total order
 abbrev pub first_rows_known : (ℕ → Relation) → Plan → Bool
@@ -209,17 +236,17 @@ abbrev pub part_shown : (ℕ → Relation) → Plan → Bool
 part_shown catalog p = is_one (size p) || unless_one (shows catalog p) (claim p).part
 
 -- the orders that an operator shows
-abbrev pub unary_orders : Unary → List ℕ → List ℕ → Bool
-unary_orders (select cs) below order = is_prefix order below
-unary_orders (sort of_parts cols) below order = is_prefix order cols
-unary_orders (project cols) below order = if_some (copied cols order) (λ cs. is_prefix cs below)
-unary_orders (distinct cols) below order = if_some (copied cols order) (λ cs. is_prefix cs below)
-unary_orders (group phase by aggregates) below order = if_some (copied by order) (λ cs. is_prefix cs below)
-unary_orders (limit m) below order = is_prefix order below
+abbrev pub unary_orders : Unary → List OrderEntry → List OrderEntry → Bool
+unary_orders (select cs) below order = is_front order below
+unary_orders (sort of_parts given) below order = is_front order given
+unary_orders (project cols) below order = if_order (copied_order cols order) (λ o. is_front o below)
+unary_orders (distinct cols) below order = if_order (copied_order cols order) (λ o. is_front o below)
+unary_orders (group phase by aggregates) below order = if_order (copied_order by order) (λ o. is_front o below)
+unary_orders (limit m) below order = is_front order below
 
--- the rows are routed by a range on a column, and the order begins with it
-abbrev pub rises_by : Part → List ℕ → Bool
-rises_by (routed (by_range k) (c ∷ [])) (d ∷ order) = c == d
+-- the rows are routed by a range on a column, and the order begins with it, rising
+abbrev pub rises_by : Part → List OrderEntry → Bool
+rises_by (routed (by_range k) (c ∷ [])) (e ∷ order) = (c == e.column) && not e.falling
 rises_by q order = false
 
 -- the producers' lists one after the other are sorted where each of them is
@@ -228,14 +255,14 @@ goes_on concat c = rises_by c.part c.order
 goes_on k c = false
 
 -- the orders shown at a node, an empty one always
-abbrev pub orders : (ℕ → Relation) → Plan → List ℕ → Bool
-orders catalog (scan n c r m z) order = is_prefix order (catalog r).order
+abbrev pub orders : (ℕ → Relation) → Plan → List OrderEntry → Bool
+orders catalog (scan n c r m z) order = is_front order (catalog r).order
 orders catalog (unary n c op p) order = unary_orders op (claim p).order order
-orders catalog (binary n c union p q) order = is_prefix order []
-orders catalog (binary n c (join m on) p q) order = is_prefix order (claim p).order
-orders catalog (binary n c (semi_join matched on conditions) p q) order = is_prefix order (claim p).order
+orders catalog (binary n c union p q) order = is_front order []
+orders catalog (binary n c (join m on) p q) order = is_front order (claim p).order
+orders catalog (binary n c (semi_join matched on conditions) p q) order = is_front order (claim p).order
 orders catalog (exchange n c k merge p) order =
-    is_prefix order merge || ((is_one (size p) || goes_on k (claim p)) && is_prefix order (claim p).order)
+    is_front order merge || ((is_one (size p) || goes_on k (claim p)) && is_front order (claim p).order)
 
 -- K6: the claimed order is shown
 abbrev pub order_shown : (ℕ → Relation) → Plan → Bool

@@ -14,12 +14,13 @@ ghost use Rattle.vx_check_rules.specs.SortedView.{sortings_in};
 use crate::columns::ColumnsSeen;
 use crate::nodes::has_one_worker;
 use crate::parts::PartSeen;
-use crate::places::{have_places, put_places};
+use crate::places::{have_places, put_order, put_places};
 use crate::sortings::{Sorted, node_sortings};
 use crate::ways::{Way, node_ways};
 use std::alloc::{AllocError, Global};
 use vx_catalog_relations::Catalog;
 use vx_plan_nodes::{Copying, Part, Route, TypedNode, routed_part};
+use vx_rows_values::OrderEntry;
 
 // A part that is routed on the places of these columns, if each has one; else each row is somewhere.
 fn routed_at(
@@ -81,17 +82,16 @@ pub fn node_part(alloc: Global, node: &TypedNode) -> Result<Option<Part>, AllocE
 }
 
 // The order that the first of these that is there carries up.
-fn first_order(alloc: Global, sortings: &[Option<Sorted<'_>>]) -> Result<Vec<usize>, AllocError>
+fn first_order(
+    alloc: Global,
+    sortings: &[Option<Sorted<'_>>],
+) -> Result<Vec<OrderEntry>, AllocError>
     ensures { IfOk result (λ v. v.items ≡ first_order (sortings_in sortings.now)) }
 {
     for sorting in sortings {
         if let Some(sorted) = *sorting {
             let mut found = Vec::new(alloc);
-            put_places(
-                &mut found,
-                sorted.copying,
-                ColumnsSeen::Listed(sorted.order),
-            )?;
+            put_order(&mut found, sorted.copying, sorted.order)?;
             return Ok(found);
         }
     }
@@ -103,7 +103,7 @@ pub fn node_order(
     alloc: Global,
     catalog: &Catalog,
     node: &TypedNode,
-) -> Result<Vec<usize>, AllocError>
+) -> Result<Vec<OrderEntry>, AllocError>
     ensures { IfOk result (λ v. v.items ≡ node_order (relation_at catalog.now) (plan_of node.now)) }
 {
     first_order(alloc, &node_sortings(catalog, node))

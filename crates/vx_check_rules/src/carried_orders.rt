@@ -2,6 +2,7 @@
 
 ghost use Rattle.std.specs.Prelude.{◌≡◌, ℕ, ◌<◌, ◌≤◌, true, length, Some};
 ghost use Rattle.vx_rows_values.specs.Limits.{max_columns};
+ghost use Rattle.vx_rows_values.specs.Order.{order_columns};
 ghost use Rattle.vx_catalog_relations.specs.Relation.{Relation};
 ghost use Rattle.vx_catalog_relations.specs.Catalog.{relation_at, all_below};
 ghost use Rattle.vx_plan_nodes.specs.DescribeView.{copying_of, order_after_of};
@@ -19,14 +20,15 @@ use crate::derived_orders::are_equal;
 use arrayvec::ArrayVec;
 use vx_plan_facts::{ColumnSet, KnownColumns};
 use vx_plan_nodes::{Copying, TypedNode};
+use vx_rows_values::OrderEntry;
 use vx_rows_values::limits::MAX_COLUMNS;
 
-/// The columns of an order that those before them do not determine.
+/// The entries of an order whose columns those before them do not determine.
 pub fn short(
     node: &TypedNode,
     known: &mut KnownColumns<'_>,
-    order: &[usize],
-) -> ArrayVec<usize, MAX_COLUMNS>
+    order: &[OrderEntry],
+) -> ArrayVec<OrderEntry, MAX_COLUMNS>
     requires { (catalog : ℕ → Relation) × AreOrdersOf catalog known.old (plan_of node.now) order.now order.now }
     ensures short { (catalog : ℕ → Relation) → AreOrdersOf catalog known.old (plan_of node.now) order.now order.now → result.items ≡ short (determined catalog (plan_of node.now)) order.now }
     ensures kept { StaysKnown known.old known.new (plan_of node.now) }
@@ -34,12 +36,12 @@ pub fn short(
     let mut short = ArrayVec::new();
     let mut passed = ColumnSet::new();
     let mut found = known.determined(node, &passed);
-    for column in order {
-        if found.contains(*column) {
+    for entry in order {
+        if found.contains(entry.column) {
             continue;
         }
-        short.push(*column);
-        passed.put(*column);
+        short.push(*entry);
+        passed.put(entry.column);
         found = known.determined(node, &passed);
     }
     short
@@ -83,24 +85,27 @@ pub fn copy_of(
     None
 }
 
-// Where such copies of the columns of an input's order stand, up to the first that has none.
+// The order of such copies of the columns of an input's order, up to the first that has none. Each keeps its direction.
 fn front_copies(
     copying: Copying<'_>,
     outputs: usize,
     input: &TypedNode,
     known: &KnownColumns<'_>,
-    order: &[usize],
-) -> ArrayVec<usize, MAX_COLUMNS>
+    order: &[OrderEntry],
+) -> ArrayVec<OrderEntry, MAX_COLUMNS>
     requires copies { (catalog : ℕ → Relation) × AreCopiesOf catalog known.now (plan_of input.now) outputs (copying_of copying)
-        × (all_below (width catalog (plan_of input.now)) order.now ≡ true) }
+        × (all_below (width catalog (plan_of input.now)) (order_columns order.now) ≡ true) }
     requires few { length order.now ≤ max_columns }
-    ensures { (catalog : ℕ → Relation) → AreCopiesOf catalog known.now (plan_of input.now) outputs (copying_of copying.entry) → all_below (width catalog (plan_of input.now)) order.now ≡ true
+    ensures { (catalog : ℕ → Relation) → AreCopiesOf catalog known.now (plan_of input.now) outputs (copying_of copying.entry) → all_below (width catalog (plan_of input.now)) (order_columns order.now) ≡ true
         → result.items ≡ front_copies outputs (copying_of copying.entry) (equal_at catalog (plan_of input.now)) order.now }
 {
     let mut copies = ArrayVec::new();
-    for column in order {
-        match copy_of(copying, outputs, input, known, *column) {
-            Some(copy) => copies.push(copy),
+    for entry in order {
+        match copy_of(copying, outputs, input, known, entry.column) {
+            Some(column) => copies.push(OrderEntry {
+                column,
+                falling: entry.falling,
+            }),
             None => return copies,
         }
     }
@@ -113,12 +118,12 @@ pub fn carried_order(
     outputs: usize,
     input: &TypedNode,
     known: &mut KnownColumns<'_>,
-    order: &[usize],
-) -> ArrayVec<usize, MAX_COLUMNS>
+    order: &[OrderEntry],
+) -> ArrayVec<OrderEntry, MAX_COLUMNS>
     requires { (catalog : ℕ → Relation) × AreCopiesOf catalog known.old (plan_of input.now) outputs (copying_of copying)
-        × (all_below (width catalog (plan_of input.now)) order.now ≡ true) }
+        × (all_below (width catalog (plan_of input.now)) (order_columns order.now) ≡ true) }
     ensures carried { (catalog : ℕ → Relation) → AreCopiesOf catalog known.old (plan_of input.now) outputs (copying_of copying.entry)
-        → all_below (width catalog (plan_of input.now)) order.now ≡ true
+        → all_below (width catalog (plan_of input.now)) (order_columns order.now) ≡ true
         → result.items ≡ front_copies outputs (copying_of copying.entry) (equal_at catalog (plan_of input.now)) (short (determined catalog (plan_of input.now)) order.now) }
     ensures kept { StaysKnown known.old known.new (plan_of input.now) }
 {

@@ -1,13 +1,16 @@
 //! Lists of columns, which are read where they stand.
 
 ghost use Rattle.std.specs.Prelude.{◌≡◌, ◌<◌, length, slice_index_or};
-ghost use Rattle.vx_check_rules.specs.Rules.{numbers_eq, is_prefix};
+ghost use Rattle.vx_check_rules.specs.Rules.{numbers_eq};
 ghost use Rattle.vx_check_rules.specs.Seen.{columns_seen};
 
-/// The columns of a list, those of one input in the pairs of a join, or the first ones.
+use vx_rows_values::OrderEntry;
+
+/// The columns of a list, those of an order, those of one input in the pairs of a join, or the first ones.
 #[derive(Clone, Copy)]
 pub enum ColumnsSeen<'p> {
     Listed(&'p [usize]),
+    Ordered(&'p [OrderEntry]),
     Lefts(&'p [(usize, usize)]),
     Rights(&'p [(usize, usize)]),
     /// The columns from 0 up to this number.
@@ -22,6 +25,7 @@ impl ColumnsSeen<'_> {
     {
         match self {
             ColumnsSeen::Listed(columns) => columns.len(),
+            ColumnsSeen::Ordered(order) => order.len(),
             ColumnsSeen::Lefts(on) | ColumnsSeen::Rights(on) => on.len(),
             ColumnsSeen::First(count) => count,
         }
@@ -34,25 +38,11 @@ impl ColumnsSeen<'_> {
     {
         match self {
             ColumnsSeen::Listed(columns) => columns[place],
+            ColumnsSeen::Ordered(order) => order[place].column,
             ColumnsSeen::Lefts(on) => on[place].0,
             ColumnsSeen::Rights(on) => on[place].1,
             ColumnsSeen::First(_) => place,
         }
-    }
-
-    /// Whether they begin an order.
-    pub fn begin(self, order: &[usize]) -> bool
-        ensures { result ≡ is_prefix (columns_seen self.entry) order.now }
-    {
-        if order.len() < self.len() {
-            return false;
-        }
-        for i in 0..self.len() {
-            if self.at(i) != order[i] {
-                return false;
-            }
-        }
-        true
     }
 }
 

@@ -3,6 +3,7 @@
 ghost use Rattle.std.specs.Prelude.{◌≡◌, ℕ, ◌<◌, ◌||◌};
 ghost use Rattle.std.specs.List.{list_all, list_any};
 ghost use Rattle.vx_rows_values.specs.Limits.{max_columns};
+ghost use Rattle.vx_rows_values.specs.Order.{order_columns};
 ghost use Rattle.vx_catalog_relations.specs.Relation.{Relation};
 ghost use Rattle.vx_catalog_relations.specs.Catalog.{relation_at};
 ghost use Rattle.vx_plan_nodes.specs.Describe.{source};
@@ -40,11 +41,11 @@ fn is_key_within(keys: &[Vec<usize>], set: &ColumnSet) -> bool
 fn does_total_follow(node: &TypedNode, known: &mut KnownColumns<'_>) -> bool
     requires { (catalog : ℕ → Relation) × IsKnownOf catalog known.old (plan_of node.now) }
     ensures follows { (catalog : ℕ → Relation) → IsKnownOf catalog known.old (plan_of node.now)
-        → result ≡ total_follows (width catalog (plan_of node.now)) (determined catalog (plan_of node.now)) (claim (plan_of node.now)).keys (claim (plan_of node.now)).order }
+        → result ≡ total_follows (width catalog (plan_of node.now)) (determined catalog (plan_of node.now)) (claim (plan_of node.now)).keys (order_columns (claim (plan_of node.now)).order) }
     ensures kept { StaysKnown known.old known.new (plan_of node.now) }
 {
     let width = known.facts_of(node).width();
-    let found = known.determined(node, &ColumnSet::of(claimed_order(node)));
+    let found = known.determined(node, &ColumnSet::of_order(claimed_order(node)));
     if is_key_within(claimed_keys(node), &found) {
         return true;
     }
@@ -56,7 +57,7 @@ pub fn is_order_total_derived(node: &TypedNode, known: &mut KnownColumns<'_>) ->
     requires { (catalog : ℕ → Relation) × IsKnownOf catalog known.old (plan_of node.now) × HasOutputs catalog (outline_of node.now) }
     ensures total { (catalog : ℕ → Relation) → IsKnownOf catalog known.old (plan_of node.now) → HasOutputs catalog (outline_of node.now)
         → result ≡ (is_total_order catalog (plan_of node.now)
-        || total_follows (width catalog (plan_of node.now)) (determined catalog (plan_of node.now)) (claim (plan_of node.now)).keys (claim (plan_of node.now)).order) }
+        || total_follows (width catalog (plan_of node.now)) (determined catalog (plan_of node.now)) (claim (plan_of node.now)).keys (order_columns (claim (plan_of node.now)).order)) }
     ensures kept { StaysKnown known.old known.new (plan_of node.now) }
 {
     if is_order_total(node) {

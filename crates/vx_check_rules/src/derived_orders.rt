@@ -2,6 +2,7 @@
 
 ghost use Rattle.std.specs.Prelude.{◌≡◌, ℕ, ◌<◌, ◌≤◌, ◌||◌, true, List, length, drop};
 ghost use Rattle.vx_rows_values.specs.Limits.{max_columns};
+ghost use Rattle.vx_rows_values.specs.Order.{order_columns};
 ghost use Rattle.vx_catalog_relations.specs.Relation.{Relation};
 ghost use Rattle.vx_catalog_relations.specs.Catalog.{relation_at, all_below};
 ghost use Rattle.vx_plan_nodes.specs.Describe.{Copying};
@@ -14,33 +15,34 @@ ghost use Rattle.vx_plan_facts.specs.Asking.{Reaches};
 ghost use Rattle.vx_plan_facts.specs.ColumnSetView.{set_of_columns};
 ghost use Rattle.vx_plan_facts.specs.Determined.{determined};
 ghost use Rattle.vx_plan_facts.specs.Equal.{equal_at};
-ghost use Rattle.vx_plan_facts.specs.Following.{short, order_follows, total_follows};
+ghost use Rattle.vx_plan_facts.specs.Following.{equal_entries, short, order_follows, total_follows};
 ghost use Rattle.vx_plan_facts.specs.KnownView.{IsKnownOf};
 ghost use Rattle.vx_check_rules.specs.Derived.{order_given_derived, needed_follows};
 ghost use Rattle.vx_check_rules.specs.KnownNode.{IsKnownTyped, AreOrdersOf, AreJoined, pairs_follow, StaysKnown};
 ghost use Rattle.vx_check_rules.specs.Passed.{past, first_passes};
 ghost use Rattle.vx_check_rules.specs.Rules.{is_total_order};
-ghost use Rattle.vx_check_rules.specs.Seen.{columns_seen};
+ghost use Rattle.vx_check_rules.specs.Seen.{order_seen};
 
-use crate::columns::ColumnsSeen;
 use crate::nodes::{claimed_keys, claimed_order, claimed_part, has_one_worker};
+use crate::order_seen::OrderSeen;
 use crate::orders::{is_order_given, is_order_shown, is_order_total};
 use vx_catalog_relations::Catalog;
 use vx_plan_facts::{ColumnSet, KnownColumns};
 use vx_plan_nodes::{Binary, Copying, Described, ExchangeKind, OrderAfter, Part, Route, TypedNode};
+use vx_rows_values::OrderEntry;
 
 // The first place from this one on whose column is not in the set, or the end.
-fn first_left(columns: ColumnsSeen<'_>, from: usize, set: &ColumnSet) -> usize
-    requires { from ≤ length (columns_seen columns) }
-    ensures within { result ≤ length (columns_seen columns.entry) }
-    ensures past { drop result (columns_seen columns.entry) ≡ past (set_of_columns set.now) (drop from (columns_seen columns.entry)) }
+fn first_left(order: OrderSeen<'_>, from: usize, set: &ColumnSet) -> usize
+    requires { from ≤ length (order_seen order) }
+    ensures within { result ≤ length (order_seen order.entry) }
+    ensures past { drop result (order_seen order.entry) ≡ past (set_of_columns set.now) (drop from (order_seen order.entry)) }
 {
-    for place in from..columns.len() {
-        if !set.contains(columns.at(place)) {
+    for place in from..order.len() {
+        if !set.contains(order.at(place).column) {
             return place;
         }
     }
-    columns.len()
+    order.len()
 }
 
 /// Whether two columns of a node are equal.
@@ -52,66 +54,78 @@ pub(crate) fn are_equal(node: &TypedNode, known: &KnownColumns<'_>, a: usize, b:
     known.facts_of(node).are_equal(a, b)
 }
 
-// Whether a column that is equal to this one is the next of an order.
+// Whether two entries are of equal columns, in the same direction.
+fn are_alike(
+    node: &TypedNode,
+    known: &KnownColumns<'_>,
+    entry: OrderEntry,
+    other: OrderEntry,
+) -> bool
+    requires { (catalog : ℕ → Relation) × IsKnownOf catalog known.now (plan_of node.now) × (entry.column < width catalog (plan_of node.now))
+        × (other.column < width catalog (plan_of node.now)) }
+    ensures { (catalog : ℕ → Relation) → IsKnownOf catalog known.now (plan_of node.now) → entry.column < width catalog (plan_of node.now)
+        → other.column < width catalog (plan_of node.now) → result ≡ equal_entries (equal_at catalog (plan_of node.now)) entry other }
+{
+    are_equal(node, known, entry.column, other.column) && entry.falling == other.falling
+}
+
+// Whether the next entry of an order is of an equal column, in the same direction.
 fn goes_on(
     node: &TypedNode,
     known: &KnownColumns<'_>,
-    order: ColumnsSeen<'_>,
+    order: OrderSeen<'_>,
     next: usize,
-    column: usize,
+    entry: OrderEntry,
 ) -> bool
-    requires { (catalog : ℕ → Relation) × IsKnownOf catalog known.now (plan_of node.now) × (all_below (width catalog (plan_of node.now)) (columns_seen order) ≡ true)
-        × (column < width catalog (plan_of node.now)) }
-    ensures { (catalog : ℕ → Relation) → IsKnownOf catalog known.now (plan_of node.now) → all_below (width catalog (plan_of node.now)) (columns_seen order.entry) ≡ true
-        → column < width catalog (plan_of node.now)
-        → result ≡ first_passes (equal_at catalog (plan_of node.now) column) (drop next (columns_seen order.entry)) }
+    requires { (catalog : ℕ → Relation) × IsKnownOf catalog known.now (plan_of node.now)
+        × (all_below (width catalog (plan_of node.now)) (order_columns (order_seen order)) ≡ true) × (entry.column < width catalog (plan_of node.now)) }
+    ensures { (catalog : ℕ → Relation) → IsKnownOf catalog known.now (plan_of node.now)
+        → all_below (width catalog (plan_of node.now)) (order_columns (order_seen order.entry)) ≡ true → entry.column < width catalog (plan_of node.now)
+        → result ≡ first_passes (equal_entries (equal_at catalog (plan_of node.now)) entry) (drop next (order_seen order.entry)) }
 {
-    next < order.len() && are_equal(node, known, column, order.at(next))
+    next < order.len() && are_alike(node, known, entry, order.at(next))
 }
 
-/// Whether rows in the order `given` are in the other one too: its columns, but for those that earlier ones determine, begin
-/// the given ones, up to equal columns. Equal columns determine the same, so that one set stands for those passed of either.
+/// Whether rows in the order `given` are in the other one too: its entries, but for those whose columns earlier ones
+/// determine, begin the given ones, up to equal columns. Equal columns determine the same, so that one set stands for those
+/// passed of either.
 pub fn order_follows(
     node: &TypedNode,
     known: &mut KnownColumns<'_>,
-    given: ColumnsSeen<'_>,
-    order: ColumnsSeen<'_>,
+    given: OrderSeen<'_>,
+    order: OrderSeen<'_>,
 ) -> bool
-    requires { (catalog : ℕ → Relation) × AreOrdersOf catalog known.old (plan_of node.now) (columns_seen given) (columns_seen order) }
-    ensures follows { (catalog : ℕ → Relation) → AreOrdersOf catalog known.old (plan_of node.now) (columns_seen given.entry) (columns_seen order.entry)
-        → result ≡ order_follows (equal_at catalog (plan_of node.now)) (determined catalog (plan_of node.now)) (columns_seen given.entry) (columns_seen order.entry) }
+    requires { (catalog : ℕ → Relation) × AreOrdersOf catalog known.old (plan_of node.now) (order_seen given) (order_seen order) }
+    ensures follows { (catalog : ℕ → Relation) → AreOrdersOf catalog known.old (plan_of node.now) (order_seen given.entry) (order_seen order.entry)
+        → result ≡ order_follows (equal_at catalog (plan_of node.now)) (determined catalog (plan_of node.now)) (order_seen given.entry) (order_seen order.entry) }
     ensures kept { StaysKnown known.old known.new (plan_of node.now) }
 {
     let mut passed = ColumnSet::new();
     let mut found = known.determined(node, &passed);
     let mut next = 0;
     for place in 0..order.len() {
-        let column = order.at(place);
-        if found.contains(column) {
+        let entry = order.at(place);
+        if found.contains(entry.column) {
             continue;
         }
         next = first_left(given, next, &found);
-        if !goes_on(node, known, given, next, column) {
+        if !goes_on(node, known, given, next, entry) {
             return false;
         }
-        passed.put(column);
+        passed.put(entry.column);
         found = known.determined(node, &passed);
     }
     true
 }
 
 /// Whether an order follows from the one that a node claims.
-pub fn follows_claimed(
-    node: &TypedNode,
-    known: &mut KnownColumns<'_>,
-    order: ColumnsSeen<'_>,
-) -> bool
-    requires { (catalog : ℕ → Relation) × AreOrdersOf catalog known.old (plan_of node.now) (claim (plan_of node.now)).order (columns_seen order) }
-    ensures follows { (catalog : ℕ → Relation) → AreOrdersOf catalog known.old (plan_of node.now) (claim (plan_of node.now)).order (columns_seen order.entry)
-        → result ≡ order_follows (equal_at catalog (plan_of node.now)) (determined catalog (plan_of node.now)) (claim (plan_of node.now)).order (columns_seen order.entry) }
+pub fn follows_claimed(node: &TypedNode, known: &mut KnownColumns<'_>, order: OrderSeen<'_>) -> bool
+    requires { (catalog : ℕ → Relation) × AreOrdersOf catalog known.old (plan_of node.now) (claim (plan_of node.now)).order (order_seen order) }
+    ensures follows { (catalog : ℕ → Relation) → AreOrdersOf catalog known.old (plan_of node.now) (claim (plan_of node.now)).order (order_seen order.entry)
+        → result ≡ order_follows (equal_at catalog (plan_of node.now)) (determined catalog (plan_of node.now)) (claim (plan_of node.now)).order (order_seen order.entry) }
     ensures kept { StaysKnown known.old known.new (plan_of node.now) }
 {
-    order_follows(node, known, ColumnsSeen::Listed(claimed_order(node)), order)
+    order_follows(node, known, OrderSeen::Listed(claimed_order(node)), order)
 }
 
 // Whether what a merge join asks of its inputs' orders follows from what they claim.
@@ -128,12 +142,13 @@ fn do_pairs_follow(
         → (p : Plan) → IsKnownOf catalog known.old p → IsKnownOf catalog known.new p }
 {
     match operator {
-        Binary::MergeJoin(on) => {
+        Binary::MergeJoin(on, falls) => {
             let on = on.as_slice();
-            if !follows_claimed(left, known, ColumnsSeen::Lefts(on)) {
+            let falls = falls.as_slice();
+            if !follows_claimed(left, known, OrderSeen::Lefts(on, falls)) {
                 return false;
             }
-            follows_claimed(right, known, ColumnsSeen::Rights(on))
+            follows_claimed(right, known, OrderSeen::Rights(on, falls))
         }
         Binary::HashJoin(_) => false,
         Binary::SemiJoin(_, _) => false,
@@ -153,7 +168,7 @@ fn does_needed_follow(node: &TypedNode, known: &mut KnownColumns<'_>) -> bool
             operator, left, right, known,
         ),
         TypedNode::Exchange(_, exchange, input) => {
-            follows_claimed(input, known, ColumnsSeen::Listed(exchange.merge.as_slice()))
+            follows_claimed(input, known, OrderSeen::Listed(exchange.merge.as_slice()))
         }
         TypedNode::Scan(_, _) => false,
         TypedNode::Unary(_, _, _) => false,

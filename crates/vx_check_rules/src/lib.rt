@@ -19,6 +19,7 @@ mod keyed;
 mod keys;
 mod laws;
 mod nodes;
+mod order_seen;
 mod orders;
 mod pairs;
 mod parts;
@@ -51,6 +52,7 @@ pub use laws::{
     orders_exactly, parts_carried, parts_exactly, tables_decide, verdicts_exactly,
 };
 pub use nodes::{claimed_keys, claimed_order, claimed_part, has_one_worker};
+pub use order_seen::OrderSeen;
 pub use orders::is_total;
 pub use parts::{PartSeen, gives, is_same_route, seen};
 pub use refusal::{failure_at, root_failure};

@@ -8,6 +8,7 @@ ghost use Rattle.vx_plan_nodes.specs.Types.{width};
 ghost use Rattle.vx_plan_nodes.specs.Outputs.{HasOutputs};
 
 use vx_plan_nodes::{Part, Size, TypedNode, output_types};
+use vx_rows_values::OrderEntry;
 
 /// The part that the node's note claims.
 pub fn claimed_part(node: &TypedNode) -> &Part
@@ -17,7 +18,7 @@ pub fn claimed_part(node: &TypedNode) -> &Part
 }
 
 /// The order that the node's note claims.
-pub fn claimed_order(node: &TypedNode) -> &[usize]
+pub fn claimed_order(node: &TypedNode) -> &[OrderEntry]
     ensures { result.now ≡ (claim (plan_of node.now)).order }
 {
     node.head().claim.order.as_slice()

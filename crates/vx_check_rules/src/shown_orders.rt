@@ -1,6 +1,6 @@
 //! Whether a node's claimed order follows from one that the node has.
 
-ghost use Rattle.std.specs.Prelude.{◌≡◌, ℕ, ◌&&◌, ◌||◌, true, List};
+ghost use Rattle.std.specs.Prelude.{◌≡◌, ℕ, ◌&&◌, ◌||◌, true, List, [], ◌∷◌};
 ghost use Rattle.vx_catalog_relations.specs.Relation.{Relation};
 ghost use Rattle.vx_catalog_relations.specs.Catalog.{relation_at};
 ghost use Rattle.vx_plan_nodes.specs.DescribeView.{copying_of, order_after_of};
@@ -15,24 +15,25 @@ ghost use Rattle.vx_check_rules.specs.Derived.{front_copies, rises_equally, goes
 ghost use Rattle.vx_check_rules.specs.KnownNode.{IsKnownTyped, AreOrdersOf, AreGivenOf, HasCopies, HasInput, IsPassed, is_whole, order_by, StaysKnown};
 
 use crate::carried_orders::carried_order;
-use crate::columns::ColumnsSeen;
 use crate::derived_orders::order_follows;
 use crate::nodes::{claimed_order, claimed_part, has_one_worker};
+use crate::order_seen::OrderSeen;
 use crate::orders::is_order_shown;
 use crate::sortings::order_after;
 use vx_catalog_relations::Catalog;
 use vx_plan_facts::KnownColumns;
 use vx_plan_nodes::{Binary, Copying, Described, Exchange, ExchangeKind, Part, Route, TypedNode};
+use vx_rows_values::OrderEntry;
 
 // Whether the node's claimed order follows from this one, which the node has.
-fn follows_from(node: &TypedNode, known: &mut KnownColumns<'_>, given: &[usize]) -> bool
+fn follows_from(node: &TypedNode, known: &mut KnownColumns<'_>, given: &[OrderEntry]) -> bool
     requires { (catalog : ℕ → Relation) × AreOrdersOf catalog known.old (plan_of node.now) given.now (claim (plan_of node.now)).order }
     ensures follows { (catalog : ℕ → Relation) → AreOrdersOf catalog known.old (plan_of node.now) given.now (claim (plan_of node.now)).order
         → result ≡ follows_at catalog (plan_of node.now) given.now (claim (plan_of node.now)).order }
     ensures kept { StaysKnown known.old known.new (plan_of node.now) }
 {
-    let order = ColumnsSeen::Listed(claimed_order(node));
-    order_follows(node, known, ColumnsSeen::Listed(given), order)
+    let order = OrderSeen::Listed(claimed_order(node));
+    order_follows(node, known, OrderSeen::Listed(given), order)
 }
 
 // Whether each output column is the input's own.
@@ -95,21 +96,26 @@ fn follows_after(
 }
 
 /// The order of an output over two inputs, of which the left one has this order.
-pub fn order_over<'p>(operator: &Binary, left: &'p [usize]) -> &'p [usize]
+pub fn order_over<'p>(operator: &Binary, left: &'p [OrderEntry]) -> &'p [OrderEntry]
     ensures { result.now ≡ binary_order (binary_of operator.now) left.now }
 {
     match operator {
         Binary::Union => &[],
         Binary::HashJoin(_) => left,
-        Binary::MergeJoin(_) => left,
+        Binary::MergeJoin(_, _) => left,
         Binary::SemiJoin(_, _) => left,
         Binary::AntiJoin(_, _) => left,
     }
 }
 
 // Whether rows of a node with this part rise with the number of their worker, as each worker's rows do in this order: a range
-// on a column put them there, from which their order begins, but for what is fixed.
-fn does_rise(node: &TypedNode, known: &mut KnownColumns<'_>, part: &Part, order: &[usize]) -> bool
+// on a column put them there, with which their order begins, rising, but for what is fixed.
+fn does_rise(
+    node: &TypedNode,
+    known: &mut KnownColumns<'_>,
+    part: &Part,
+    order: &[OrderEntry],
+) -> bool
     requires { (catalog : ℕ → Relation) × AreGivenOf catalog known.old (plan_of node.now) (part_of part.now) order.now }
     ensures rises { (catalog : ℕ → Relation) → AreGivenOf catalog known.old (plan_of node.now) (part_of part.now) order.now
         → result ≡ rises_equally (equal_at catalog (plan_of node.now)) (determined catalog (plan_of node.now)) (part_of part.now) order.now }
@@ -120,8 +126,13 @@ fn does_rise(node: &TypedNode, known: &mut KnownColumns<'_>, part: &Part, order:
             if columns.len() != 1 {
                 return false;
             }
-            let wanted = ColumnsSeen::Listed(columns.as_slice());
-            order_follows(node, known, ColumnsSeen::Listed(order), wanted)
+            let wanted = [OrderEntry::rising(columns[0])];
+            order_follows(
+                node,
+                known,
+                OrderSeen::Listed(order),
+                OrderSeen::Listed(&wanted),
+            )
         }
         Part::One | Part::Any | Part::All | Part::Routed(Route::Hash(_), _) => false,
     }
@@ -133,7 +144,7 @@ fn does_go_on(
     input: &TypedNode,
     known: &mut KnownColumns<'_>,
     part: &Part,
-    order: &[usize],
+    order: &[OrderEntry],
 ) -> bool
     requires { (catalog : ℕ → Relation) × AreGivenOf catalog known.old (plan_of input.now) (part_of part.now) order.now }
     ensures on { (catalog : ℕ → Relation) → AreGivenOf catalog known.old (plan_of input.now) (part_of part.now) order.now
@@ -155,7 +166,7 @@ pub fn keeps_order(
     input: &TypedNode,
     known: &mut KnownColumns<'_>,
     part: &Part,
-    order: &[usize],
+    order: &[OrderEntry],
 ) -> bool
     requires { (catalog : ℕ → Relation) × AreGivenOf catalog known.old (plan_of input.now) (part_of part.now) order.now }
     ensures keeps { (catalog : ℕ → Relation) → AreGivenOf catalog known.old (plan_of input.now) (part_of part.now) order.now

@@ -1,9 +1,9 @@
 //! The orders that a node has, by what its operator does with columns and rows.
 
-ghost use Rattle.std.specs.Prelude.{◌≡◌, [], ◌∷◌};
+ghost use Rattle.std.specs.Prelude.{◌≡◌, ℕ, [], ◌∷◌};
 ghost use Rattle.std.specs.List.{list_any};
 ghost use Rattle.vx_catalog_relations.specs.Catalog.{relation_at};
-ghost use Rattle.vx_plan_nodes.specs.Plan.{claim};
+ghost use Rattle.vx_plan_nodes.specs.Plan.{by_range, routed, claim};
 ghost use Rattle.vx_plan_nodes.specs.Outline.{part_of, kind_of, plan_of};
 ghost use Rattle.vx_plan_nodes.specs.Describe.{whole_rows};
 ghost use Rattle.vx_plan_nodes.specs.DescribeView.{copying_of, order_after_of, described_of, described_both_of};
@@ -11,33 +11,33 @@ ghost use Rattle.vx_check_rules.specs.Rules.{rises_by, goes_on};
 ghost use Rattle.vx_check_rules.specs.Behaviour.{sorted_by, if_so, order_after, order_over, moved, behaviour, sorts};
 ghost use Rattle.vx_check_rules.specs.SortedView.{sorted_of, sorting_in, sortings_in};
 
-use crate::columns::ColumnsSeen;
 use crate::nodes::{claimed_order, claimed_part, has_one_worker};
-use crate::sources::begin_with_copies;
+use crate::sources::begins_with_copies;
 use vx_catalog_relations::Catalog;
 use vx_plan_nodes::{
     Copying, Described, DescribedBoth, Exchange, ExchangeKind, Meeting, OrderAfter, Part, Route,
     TypedNode, output_types,
 };
+use vx_rows_values::OrderEntry;
 
 /// An order, on the columns that are copied.
 #[derive(Clone, Copy)]
 pub struct Sorted<'p> {
     pub copying: Copying<'p>,
-    pub order: &'p [usize],
+    pub order: &'p [OrderEntry],
 }
 
 impl Sorted<'_> {
     /// Whether the rows are sorted so.
-    pub fn sorts(self, wanted: &[usize]) -> bool
+    pub fn sorts(self, wanted: &[OrderEntry]) -> bool
         ensures { result ≡ sorts (sorted_of self.entry) wanted.now }
     {
-        begin_with_copies(self.copying, wanted, self.order)
+        begins_with_copies(self.copying, wanted, self.order)
     }
 }
 
 // An order of columns that stand where they stood.
-fn whole<'p>(order: &'p [usize]) -> Sorted<'p>
+fn whole<'p>(order: &'p [OrderEntry]) -> Sorted<'p>
     ensures { sorted_of result ≡ sorted_by whole_rows order.now }
 {
     Sorted {
@@ -47,7 +47,7 @@ fn whole<'p>(order: &'p [usize]) -> Sorted<'p>
 }
 
 // Such an order, if it is there.
-fn whole_if<'p>(is_there: bool, order: &'p [usize]) -> Option<Sorted<'p>>
+fn whole_if<'p>(is_there: bool, order: &'p [OrderEntry]) -> Option<Sorted<'p>>
     ensures { sorting_in result ≡ if_so is_there (sorted_by whole_rows order.now ∷ []) }
 {
     is_there.then_some(whole(order))
@@ -61,17 +61,17 @@ fn only<'p>(sorted: Sorted<'p>) -> [Option<Sorted<'p>>; 2]
 }
 
 /// The order of the output's rows, over rows that are sorted on `below`.
-pub fn order_after<'p>(order: OrderAfter<'p>, below: &'p [usize]) -> &'p [usize]
+pub fn order_after<'p>(order: OrderAfter<'p>, below: &'p [OrderEntry]) -> &'p [OrderEntry]
     ensures { result.now ≡ order_after (order_after_of order.entry) below.now }
 {
     match order {
         OrderAfter::Kept => below,
-        OrderAfter::SortedOn(columns) => columns,
+        OrderAfter::SortedOn(order) => order,
     }
 }
 
 // The order of an operator over one input that is sorted on `below`.
-fn sorted_over<'p>(described: Described<'p>, below: &'p [usize]) -> Sorted<'p>
+fn sorted_over<'p>(described: Described<'p>, below: &'p [OrderEntry]) -> Sorted<'p>
     ensures { sorted_of result ≡ sorted_by (described_of described.entry).copying (order_after (described_of described.entry).order below.now) }
 {
     Sorted {
@@ -82,7 +82,7 @@ fn sorted_over<'p>(described: Described<'p>, below: &'p [usize]) -> Sorted<'p>
 
 // The order of an operator over two inputs, where the left one is sorted on `left`. It is lost where rows stand side by
 // side.
-fn sorted_over_both<'p>(described: DescribedBoth<'p>, left: &'p [usize]) -> Sorted<'p>
+fn sorted_over_both<'p>(described: DescribedBoth<'p>, left: &'p [OrderEntry]) -> Sorted<'p>
     ensures { sorted_of result ≡ sorted_by whole_rows (order_over (described_both_of described.entry).meeting left.now) }
 {
     match described.meeting {
@@ -91,14 +91,24 @@ fn sorted_over_both<'p>(described: DescribedBoth<'p>, left: &'p [usize]) -> Sort
     }
 }
 
+// Whether the order begins with the column, rising.
+fn begins_with(order: &[OrderEntry], column: usize) -> bool
+    ensures { (range : ℕ) → result ≡ rises_by (routed (by_range range) (column ∷ [])) order.now }
+{
+    match order.first() {
+        Some(entry) => column == entry.column && !entry.falling,
+        None => false,
+    }
+}
+
 /// Whether rows with this part rise with the number of their worker, where each worker's rows are in this order: a range
-/// on the order's first column put them there.
-pub fn rises_with_workers(part: &Part, order: &[usize]) -> bool
+/// on the order's first column put them there, and it rises.
+pub fn rises_with_workers(part: &Part, order: &[OrderEntry]) -> bool
     ensures { result ≡ rises_by (part_of part.now) order.now }
 {
     match part {
         Part::Routed(Route::Range(_), columns) => {
-            columns.len() == 1 && ColumnsSeen::Listed(columns.as_slice()).begin(order)
+            columns.len() == 1 && begins_with(order, columns[0])
         }
         Part::One | Part::Any | Part::All | Part::Routed(Route::Hash(_), _) => false,
     }
@@ -146,7 +156,7 @@ pub fn node_sortings<'p>(catalog: &'p Catalog, node: &'p TypedNode) -> [Option<S
 }
 
 // Whether the order is there and the rows are sorted so by it.
-fn is_sorted(sorting: Option<Sorted<'_>>, order: &[usize]) -> bool
+fn is_sorted(sorting: Option<Sorted<'_>>, order: &[OrderEntry]) -> bool
     ensures { result ≡ list_any (λ s. sorts s order.now) (sorting_in sorting.entry) }
 {
     match sorting {
@@ -156,7 +166,7 @@ fn is_sorted(sorting: Option<Sorted<'_>>, order: &[usize]) -> bool
 }
 
 /// Whether the rows are sorted so by one of these.
-pub fn show_order(sortings: &[Option<Sorted<'_>>], order: &[usize]) -> bool
+pub fn show_order(sortings: &[Option<Sorted<'_>>], order: &[OrderEntry]) -> bool
     ensures { result ≡ list_any (λ s. sorts s order.now) (sortings_in sortings.now) }
 {
     for sorting in sortings {

@@ -1,10 +1,10 @@
 -- What a node that is refused claims or does, as a sentence.
-use Rattle.std.specs.Prelude.{ℕ, ◌++◌, Bool, true, false, List, [], ◌∷◌, map, codes}
+use Rattle.std.specs.Prelude.{ℕ, ◌++◌, List, [], ◌∷◌, codes}
 use Rattle.vx_rows_values.specs.Values.{Name}
-use Rattle.vx_plan_nodes.specs.Plan.{Part, one, any, all, routed, Unary, select, project, distinct, sort, group, limit, Binary, union, join, semi_join}
+use Rattle.vx_plan_nodes.specs.Plan.{Part, one, any, all, routed, Unary, select, project, distinct, sort, group, limit, JoinMethod, by_hashing, by_merging, left_order, right_order, Binary, union, join, semi_join}
 use Rattle.vx_plan_nodes.specs.Outline.{Outline, scan, unary, binary, exchange, top, columns}
 use Rattle.vx_plan_nodes.specs.Names.{Names}
-use Rattle.vx_check.specs.Explain.{list_text, part_text}
+use Rattle.vx_check.specs.Explain.{list_text, order_text, part_text}
 use Rattle.vx_check_rules.specs.Refusal.{Rule, size_mismatch, root_not_one, part_not_shown, inputs_not_matched, replicated_input, order_not_shown, order_needed, key_not_shown, total_not_shown, first_rows_open}
 use Rattle.vx_check_sentences.specs.Words.{node_text, doing_text, order_words, keys_words}
 
@@ -31,7 +31,7 @@ unary_needs names (limit rows) = []
 
 abbrev pub binary_needs : Binary → List ℕ
 binary_needs union = codes " needs of both inputs each row once, or of both all rows at every worker"
-binary_needs (join merging on) = codes " needs rows that match at one worker"
+binary_needs (join method on) = codes " needs rows that match at one worker"
 binary_needs (semi_join matched on conditions) = codes " needs rows that match at one worker, or all rows of its right input at every worker"
 
 abbrev pub needs_text : Outline → List ℕ
@@ -41,20 +41,20 @@ needs_text (binary h op t u) = binary_needs op
 needs_text (exchange h k m t) = []
 
 -- the orders that a join needs of its inputs, if it merges
-abbrev pub join_orders : List Name → List Name → Bool → List (ℕ × ℕ) → List ℕ
-join_orders lefts rights false on = []
-join_orders lefts rights true on = codes " needs its inputs sorted on " ++ (list_text lefts (map (λ p. p.0) on) ++ (codes " and on " ++ list_text rights (map (λ p. p.1) on)))
+abbrev pub join_orders : List Name → List Name → JoinMethod → List (ℕ × ℕ) → List ℕ
+join_orders lefts rights by_hashing on = []
+join_orders lefts rights (by_merging falls) on = codes " needs its inputs sorted on " ++ (order_text lefts (left_order falls on) ++ (codes " and on " ++ order_text rights (right_order falls on)))
 
 abbrev pub binary_orders : List Name → List Name → Binary → List ℕ
 binary_orders lefts rights union = []
-binary_orders lefts rights (join merging on) = join_orders lefts rights merging on
+binary_orders lefts rights (join method on) = join_orders lefts rights method on
 binary_orders lefts rights (semi_join matched on conditions) = []
 
 abbrev pub orders_text : Outline → List ℕ
 orders_text (scan h r m z p) = []
 orders_text (unary h op flags t) = []
 orders_text (binary h op t u) = binary_orders (columns t).names (columns u).names op
-orders_text (exchange h k m t) = codes " needs its input sorted on " ++ list_text (columns t).names m
+orders_text (exchange h k m t) = codes " needs its input sorted on " ++ order_text (columns t).names m
 
 -- ---- by the rule that refuses the node
 

@@ -2,6 +2,7 @@
 use Rattle.std.specs.Prelude.{ℕ, ◌++◌, Bool, cond, List, [], ◌∷◌, length, Option, Some, None, codes}
 use Rattle.serde_json.specs.Data.{object}
 use Rattle.serde_json.specs.Written.{compact_text}
+use Rattle.vx_rows_values.specs.Order.{order_columns}
 use Rattle.vx_rows_values.specs.Values.{Name}
 use Rattle.vx_catalog_relations.specs.Catalog.{relation_at}
 use Rattle.vx_plan_nodes.specs.Plan.{Size, one_worker, group_of, Claim, size}
@@ -77,7 +78,7 @@ all_lacks names order keys = codes "it lacks " ++ (list_text names (missing orde
 
 -- the same of the order that a node claims
 unfoldable pub order_lacks : Outline → List ℕ
-order_lacks t = all_lacks (columns t).names (top t).claim.order (top t).claim.keys
+order_lacks t = all_lacks (columns t).names (order_columns (top t).claim.order) (top t).claim.keys
 
 -- what the input of a limit lacks, which has this size: one worker, or else an order that is total
 abbrev pub first_rows_lack : Size → Names → Outline → List ℕ

@@ -1,10 +1,11 @@
 -- Words of a sentence about a node: its number, what it does, what it or an input of it claims.
 use Rattle.std.specs.Prelude.{ℕ, ◌++◌, List, [], ◌∷◌, codes, decimal}
+use Rattle.vx_rows_values.specs.declared.order.OrderEntry.{OrderEntry}
 use Rattle.vx_rows_values.specs.Values.{Name}
 use Rattle.vx_plan_nodes.specs.Plan.{Claim}
 use Rattle.vx_plan_nodes.specs.Outline.{Outline, scan, unary, binary, exchange, top, columns}
 use Rattle.vx_plan_nodes.specs.Names.{Names}
-use Rattle.vx_check.specs.Explain.{list_text, part_text, keys_text, description}
+use Rattle.vx_check.specs.Explain.{order_text, part_text, keys_text, description}
 use Rattle.vx_check_sentences.specs.declared.told.Told.{Told}
 use Rattle.vx_check_sentences.specs.declared.told.Told.TheVariants.{Part, Order, Keys}
 
@@ -15,9 +16,9 @@ node_text o = codes "node " ++ decimal (top o).number
 abbrev pub doing_text : Names → Outline → List ℕ
 doing_text s o = node_text o ++ (codes " (" ++ (description s o ++ codes ")"))
 
-abbrev pub order_words : List Name → List ℕ → List ℕ
+abbrev pub order_words : List Name → List OrderEntry → List ℕ
 order_words names [] = codes "no order"
-order_words names (c ∷ cols) = codes "the order " ++ list_text names (c ∷ cols)
+order_words names (e ∷ order) = codes "the order " ++ order_text names (e ∷ order)
 
 abbrev pub keys_words : List Name → List (List ℕ) → List ℕ
 keys_words names [] = codes "no key"

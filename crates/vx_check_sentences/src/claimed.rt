@@ -1,19 +1,22 @@
 //! What a node that is refused claims or does.
 
-ghost use Rattle.std.specs.Prelude.{◌≡◌, ◌++◌, map, string_bytes, OnOk, IfOk, codes, true, false};
+ghost use Rattle.std.specs.Prelude.{◌≡◌, ◌++◌, map, string_bytes, OnOk, IfOk, codes, false};
 ghost use Rattle.vx_plan_nodes.specs.Outline.{part_of, unary_of, binary_of, outline_of, columns, top};
 ghost use Rattle.vx_plan_nodes.specs.TypedView.{names_in};
 ghost use Rattle.vx_check.specs.Explain.{name_at, separated, list_text};
 ghost use Rattle.vx_check_rules.specs.Refusal.{size_mismatch, part_not_shown, inputs_not_matched, replicated_input, order_needed, first_rows_open};
 ghost use Rattle.vx_check_rules.specs.RuleView.{rule_of};
+ghost use Rattle.vx_check_rules.specs.Seen.{order_seen};
+ghost use Rattle.vx_plan_nodes.specs.Plan.{by_merging};
 ghost use Rattle.vx_check_sentences.specs.Words.{node_text, doing_text, order_words, keys_words};
 ghost use Rattle.vx_check_sentences.specs.Claimed.{part_words, equal_needed, unary_needs, binary_needs, needs_text, join_orders, binary_orders, orders_text, claimed_text};
 
-use crate::words::{push_doing, push_keys, push_list, push_node, push_order};
+use crate::words::{push_doing, push_keys, push_list, push_node, push_order_words};
 use std::alloc::{AllocError, Global};
-use vx_check::{column_names, push_between, push_name, push_part};
-use vx_check_rules::Rule;
+use vx_check::{column_names, push_between, push_name, push_order, push_part};
+use vx_check_rules::{OrderSeen, Rule};
 use vx_plan_nodes::{Binary, Name, Part, Projected, TypedNode, TypedPlan, Unary};
+use vx_rows_values::OrderEntry;
 
 // Adds a part that is claimed.
 fn push_part_words(
@@ -100,7 +103,7 @@ fn push_binary_needs(text: &mut String, operator: &Binary) -> Result<(), AllocEr
             " needs of both inputs each row once, or of both all rows at every worker",
         ),
         Binary::HashJoin(_) => text.push_str(" needs rows that match at one worker"),
-        Binary::MergeJoin(_) => text.push_str(" needs rows that match at one worker"),
+        Binary::MergeJoin(_, _) => text.push_str(" needs rows that match at one worker"),
         Binary::SemiJoin(_, _) | Binary::AntiJoin(_, _) => text.push_str(
             " needs rows that match at one worker, or all rows of its right input at every worker",
         ),
@@ -121,70 +124,38 @@ fn push_needs(text: &mut String, node: &TypedNode) -> Result<(), AllocError>
     }
 }
 
-// Adds the left columns of pairs.
-fn push_lefts(text: &mut String, names: &[Name], on: &[(usize, usize)]) -> Result<(), AllocError>
-    ensures { OnOk result (string_bytes text.new ≡ string_bytes text.old ++ separated (codes ",") false (map (name_at names.now) (map (λ p. p.0) on.now))) }
+/// The order in which a merge join has to have the rows of an input, entry by entry.
+pub(crate) fn listed(alloc: Global, order: OrderSeen<'_>) -> Result<Vec<OrderEntry>, AllocError>
+    ensures { IfOk result (λ v. v.items ≡ order_seen order.entry) }
 {
-    for (i, pair) in on.iter().enumerate() {
-        push_between(text, ",", i > 0)?;
-        push_name(text, names, pair.0)?;
+    let mut entries = Vec::new(alloc);
+    for place in 0..order.len() {
+        entries.push(order.at(place))?;
     }
-    Ok(())
-}
-
-// Adds the right columns of pairs.
-fn push_rights(text: &mut String, names: &[Name], on: &[(usize, usize)]) -> Result<(), AllocError>
-    ensures { OnOk result (string_bytes text.new ≡ string_bytes text.old ++ separated (codes ",") false (map (name_at names.now) (map (λ p. p.1) on.now))) }
-{
-    for (i, pair) in on.iter().enumerate() {
-        push_between(text, ",", i > 0)?;
-        push_name(text, names, pair.1)?;
-    }
-    Ok(())
-}
-
-// Adds the left columns in brackets.
-fn push_left_list(
-    text: &mut String,
-    names: &[Name],
-    on: &[(usize, usize)],
-) -> Result<(), AllocError>
-    ensures { OnOk result (string_bytes text.new ≡ string_bytes text.old ++ list_text names.now (map (λ p. p.0) on.now)) }
-{
-    text.push_str("[")?;
-    push_lefts(text, names, on)?;
-    text.push_str("]")
-}
-
-// Adds the right columns in brackets.
-fn push_right_list(
-    text: &mut String,
-    names: &[Name],
-    on: &[(usize, usize)],
-) -> Result<(), AllocError>
-    ensures { OnOk result (string_bytes text.new ≡ string_bytes text.old ++ list_text names.now (map (λ p. p.1) on.now)) }
-{
-    text.push_str("[")?;
-    push_rights(text, names, on)?;
-    text.push_str("]")
+    Ok(entries)
 }
 
 // Adds the orders that a merge join needs.
 fn push_join_orders(
+    alloc: Global,
     text: &mut String,
     lefts: &[Name],
     rights: &[Name],
     on: &[(usize, usize)],
+    falls: &[bool],
 ) -> Result<(), AllocError>
-    ensures { OnOk result (string_bytes text.new ≡ string_bytes text.old ++ join_orders lefts.now rights.now true on.now) }
+    ensures { OnOk result (string_bytes text.new ≡ string_bytes text.old ++ join_orders lefts.now rights.now (by_merging falls.now) on.now) }
 {
+    let left = listed(alloc, OrderSeen::Lefts(on, falls))?;
+    let right = listed(alloc, OrderSeen::Rights(on, falls))?;
     text.push_str(" needs its inputs sorted on ")?;
-    push_left_list(text, lefts, on)?;
+    push_order(text, lefts, left.as_slice())?;
     text.push_str(" and on ")?;
-    push_right_list(text, rights, on)
+    push_order(text, rights, right.as_slice())
 }
 
 fn push_binary_orders(
+    alloc: Global,
     text: &mut String,
     lefts: &[Name],
     rights: &[Name],
@@ -196,23 +167,31 @@ fn push_binary_orders(
         Binary::Union => Ok(()),
         Binary::HashJoin(_) => Ok(()),
         Binary::SemiJoin(_, _) | Binary::AntiJoin(_, _) => Ok(()),
-        Binary::MergeJoin(on) => push_join_orders(text, lefts, rights, on.as_slice()),
+        Binary::MergeJoin(on, falls) => {
+            push_join_orders(alloc, text, lefts, rights, on.as_slice(), falls.as_slice())
+        }
     }
 }
 
 // Adds the orders that a node needs of its inputs.
-fn push_orders(text: &mut String, node: &TypedNode) -> Result<(), AllocError>
+fn push_orders(alloc: Global, text: &mut String, node: &TypedNode) -> Result<(), AllocError>
     ensures { OnOk result (string_bytes text.new ≡ string_bytes text.old ++ orders_text (outline_of node.now)) }
 {
     match node {
         TypedNode::Scan(_, _) => Ok(()),
         TypedNode::Unary(_, _, _) => Ok(()),
         TypedNode::Binary(_, operator, left, right) => {
-            push_binary_orders(text, column_names(left), column_names(right), operator)
+            push_binary_orders(
+                alloc,
+                text,
+                column_names(left),
+                column_names(right),
+                operator,
+            )
         }
         TypedNode::Exchange(_, exchange, input) => {
             text.push_str(" needs its input sorted on ")?;
-            push_list(text, column_names(input), exchange.merge.as_slice())
+            push_order(text, column_names(input), exchange.merge.as_slice())
         }
     }
 }
@@ -279,7 +258,7 @@ fn push_order_not_shown(text: &mut String, node: &TypedNode) -> Result<(), Alloc
 {
     push_node(text, node)?;
     text.push_str(" claims ")?;
-    push_order(text, column_names(node), node.head().claim.order.as_slice())
+    push_order_words(text, column_names(node), node.head().claim.order.as_slice())
 }
 
 fn push_order_needed(
@@ -291,7 +270,7 @@ fn push_order_needed(
     ensures { OnOk result (string_bytes text.new ≡ string_bytes text.old ++ claimed_text (names_in plan.now) order_needed (outline_of node.now)) }
 {
     push_doing(alloc, text, plan, node)?;
-    push_orders(text, node)
+    push_orders(alloc, text, node)
 }
 
 fn push_key_not_shown(text: &mut String, node: &TypedNode) -> Result<(), AllocError>

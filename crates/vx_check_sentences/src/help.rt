@@ -6,18 +6,20 @@ ghost use Rattle.vx_plan_nodes.specs.Outline.{plan_of};
 ghost use Rattle.vx_check_rules.specs.TableView.{Judges};
 ghost use Rattle.vx_check_failures.specs.FailureView.{IsTableOf, IsNodeOf};
 
+use crate::claimed::listed;
 use crate::followed::missing;
 use crate::help_claims::{push_key_help, push_order_help, push_part_help};
-use crate::help_words::{push_json_list, push_json_part};
+use crate::help_words::{push_json_order, push_json_part};
 use crate::open::is_open;
 use crate::second_table::passes_second;
 use crate::words::{push_list, push_node};
 use std::alloc::{AllocError, Global};
-use vx_check::{column_names, push_between, push_name, push_size};
+use vx_check::{column_names, push_between, push_name, push_order, push_size};
 use vx_check_failures::shown_claim;
-use vx_check_rules::{ColumnsSeen, Rule, Table, claimed_part, gives, is_same_equally, seen};
+use vx_check_rules::{OrderSeen, Rule, Table, claimed_part, gives, is_same_equally, seen};
 use vx_plan::first_columns;
 use vx_plan_nodes::{Binary, Claim, Name, Part, Size, TypedNode, TypedPlan, Unary};
+use vx_rows_values::{OrderEntry, order_columns};
 
 // ---- sizes
 
@@ -53,7 +55,7 @@ fn push_gather(text: &mut String, node: &TypedNode) -> Result<(), AllocError> {
         return Ok(());
     }
     text.push_str(", which keeps the order if it merges on ")?;
-    push_list(text, column_names(node), order)
+    push_order(text, column_names(node), order)
 }
 
 // ---- which rows meet
@@ -142,7 +144,7 @@ fn push_binary_meeting(
 ) -> Result<(), AllocError> {
     match operator {
         Binary::Union => push_union_meeting(text, left, right),
-        Binary::HashJoin(on) | Binary::MergeJoin(on) => {
+        Binary::HashJoin(on) | Binary::MergeJoin(on, _) => {
             push_join_meeting(text, left, right, on.as_slice(), "one side")
         }
         Binary::SemiJoin(on, _) | Binary::AntiJoin(on, _) => {
@@ -238,16 +240,16 @@ fn push_sorted(
     alloc: Global,
     text: &mut String,
     input: &TypedNode,
-    needed: &[usize],
+    needed: &[OrderEntry],
 ) -> Result<(), AllocError> {
     let claimed = input.head().claim.order.as_slice();
-    if ColumnsSeen::Listed(needed).begin(claimed) {
+    if OrderSeen::Listed(needed).begin(claimed) {
         return Ok(());
     }
     let is_later = !text.is_empty();
     push_between(text, "; ", is_later)?;
     text.push_str("claim \"order\": ")?;
-    push_json_list(alloc, text, column_names(input), needed)?;
+    push_json_order(alloc, text, column_names(input), needed)?;
     text.push_str(" at ")?;
     push_node(text, input)?;
     text.push_str(match input {
@@ -266,17 +268,18 @@ fn push_join_sorted(
     left: &TypedNode,
     right: &TypedNode,
     on: &[(usize, usize)],
+    falls: &[bool],
 ) -> Result<(), AllocError> {
-    let lefts: Vec<usize> = on.iter().map(|pair| pair.0).collect(alloc)?;
-    let rights: Vec<usize> = on.iter().map(|pair| pair.1).collect(alloc)?;
+    let lefts = listed(alloc, OrderSeen::Lefts(on, falls))?;
+    let rights = listed(alloc, OrderSeen::Rights(on, falls))?;
     push_sorted(alloc, text, left, lefts.as_slice())?;
     push_sorted(alloc, text, right, rights.as_slice())
 }
 
 fn push_orders(alloc: Global, text: &mut String, node: &TypedNode) -> Result<(), AllocError> {
     match node {
-        TypedNode::Binary(_, Binary::MergeJoin(on), left, right) => {
-            push_join_sorted(alloc, text, left, right, on.as_slice())
+        TypedNode::Binary(_, Binary::MergeJoin(on, falls), left, right) => {
+            push_join_sorted(alloc, text, left, right, on.as_slice(), falls.as_slice())
         }
         TypedNode::Exchange(_, exchange, input) => {
             push_sorted(alloc, text, input, exchange.merge.as_slice())
@@ -285,16 +288,21 @@ fn push_orders(alloc: Global, text: &mut String, node: &TypedNode) -> Result<(),
     }
 }
 
-// The order, with the columns behind it that it lacks of the first key, or of all columns where there is none.
-fn longer_order(alloc: Global, claim: &Claim, width: usize) -> Result<Vec<usize>, AllocError> {
+// The order, with the columns behind it, rising, that it lacks of the first key, or of all columns where there is none.
+fn longer_order(alloc: Global, claim: &Claim, width: usize) -> Result<Vec<OrderEntry>, AllocError> {
     let order = claim.order.as_slice();
+    let columns = order_columns(alloc, order)?;
     let lacking = match claim.keys.first() {
-        Some(key) => missing(alloc, order, key.as_slice())?,
-        None => missing(alloc, order, first_columns(alloc, width)?.as_slice())?,
+        Some(key) => missing(alloc, columns.as_slice(), key.as_slice())?,
+        None => missing(
+            alloc,
+            columns.as_slice(),
+            first_columns(alloc, width)?.as_slice(),
+        )?,
     };
     let mut longer = Vec::from_slice(alloc, order)?;
     for column in lacking.as_slice() {
-        longer.push(*column)?;
+        longer.push(OrderEntry::rising(*column))?;
     }
     Ok(longer)
 }
@@ -303,23 +311,31 @@ fn push_total(alloc: Global, text: &mut String, node: &TypedNode) -> Result<(), 
     let names = column_names(node);
     let longer = longer_order(alloc, &node.head().claim, names.len())?;
     text.push_str("sort on ")?;
-    push_list(text, names, longer.as_slice())?;
+    push_order(text, names, longer.as_slice())?;
     text.push_str(
         " and claim that order, claim a key whose columns are all in the order, or leave out \"total\"",
     )
 }
 
 // Adds how rows come to one worker in this order.
-fn push_gathered(text: &mut String, names: &[Name], order: &[usize]) -> Result<(), AllocError> {
+fn push_gathered(
+    text: &mut String,
+    names: &[Name],
+    order: &[OrderEntry],
+) -> Result<(), AllocError> {
     text.push_str("put a gather below it that merges on ")?;
-    push_list(text, names, order)?;
+    push_order(text, names, order)?;
     text.push_str(", over rows that are sorted so, or a gather and above that a sort")
 }
 
 // Adds how an input of one worker comes to have an order that is total.
-fn push_longer(text: &mut String, input: &TypedNode, longer: &[usize]) -> Result<(), AllocError> {
+fn push_longer(
+    text: &mut String,
+    input: &TypedNode,
+    longer: &[OrderEntry],
+) -> Result<(), AllocError> {
     text.push_str("sort below it on ")?;
-    push_list(text, column_names(input), longer)?;
+    push_order(text, column_names(input), longer)?;
     text.push_str(" and claim that order, or claim at ")?;
     push_node(text, input)?;
     text.push_str(" a key whose columns are all in the order, if it holds there")

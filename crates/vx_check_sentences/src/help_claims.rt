@@ -1,10 +1,10 @@
 //! What would help where a part, an order or a key is claimed that does not follow.
 
-use crate::help_words::{push_json_keys, push_json_list, push_json_part};
+use crate::help_words::{push_json_keys, push_json_order, push_json_part};
 use crate::open::is_open;
 use crate::words::{push_list, push_node};
 use std::alloc::{AllocError, Global};
-use vx_check::column_names;
+use vx_check::{column_names, push_order};
 use vx_plan_nodes::{
     Binary, Claim, Name, Part, Phase, Route, SortPhase, TypedNode, TypedPlan, Unary,
 };
@@ -70,7 +70,7 @@ fn push_sorting(text: &mut String, node: &TypedNode) -> Result<(), AllocError> {
         TypedNode::Exchange(_, _, _) => ", or merge here, over an input that is sorted so, on ",
     };
     text.push_str(word)?;
-    push_list(text, column_names(node), node.head().claim.order.as_slice())
+    push_order(text, column_names(node), node.head().claim.order.as_slice())
 }
 
 /// Adds what would help where the claimed order does not follow, but this claim.
@@ -83,7 +83,7 @@ pub fn push_order_help(
     match claim {
         Some(claim) if !claim.order.is_empty() => {
             text.push_str("claim \"order\": ")?;
-            push_json_list(alloc, text, column_names(node), claim.order.as_slice())?;
+            push_json_order(alloc, text, column_names(node), claim.order.as_slice())?;
             text.push_str(" here")?;
         }
         _ => text.push_str("claim no order here")?,

@@ -3,6 +3,7 @@
 use std::alloc::{AllocError, Global};
 use vx_check::{push_between, range_name};
 use vx_plan_nodes::{Name, Part, Route, TypedPlan};
+use vx_rows_values::OrderEntry;
 
 // Adds a text as JSON writes it.
 fn push_quoted(alloc: Global, text: &mut String, word: String) -> Result<(), AllocError> {
@@ -34,6 +35,36 @@ pub fn push_json_list(
     for (i, column) in columns.iter().enumerate() {
         push_between(text, ", ", i > 0)?;
         push_quoted_name(alloc, text, names, *column)?;
+    }
+    text.push_str("]")
+}
+
+// Adds an entry of an order as JSON writes it: a name, or an object where it falls.
+fn push_json_entry(
+    alloc: Global,
+    text: &mut String,
+    names: &[Name],
+    entry: OrderEntry,
+) -> Result<(), AllocError> {
+    if !entry.falling {
+        return push_quoted_name(alloc, text, names, entry.column);
+    }
+    text.push_str("{\"column\": ")?;
+    push_quoted_name(alloc, text, names, entry.column)?;
+    text.push_str(", \"desc\": true}")
+}
+
+/// Adds an order as a list of JSON.
+pub fn push_json_order(
+    alloc: Global,
+    text: &mut String,
+    names: &[Name],
+    order: &[OrderEntry],
+) -> Result<(), AllocError> {
+    text.push_str("[")?;
+    for (i, entry) in order.iter().enumerate() {
+        push_between(text, ", ", i > 0)?;
+        push_json_entry(alloc, text, names, *entry)?;
     }
     text.push_str("]")
 }

@@ -14,6 +14,7 @@ use std::alloc::{AllocError, Global};
 use vx_check::{column_names, push_size};
 use vx_check_rules::Rule;
 use vx_plan_nodes::{Claim, Size, TypedNode, TypedPlan};
+use vx_rows_values::order_columns;
 
 fn push_size_of(text: &mut String, plan: &TypedPlan, node: &TypedNode) -> Result<(), AllocError>
     ensures { OnOk result (string_bytes text.new ≡ string_bytes text.old ++ size_of_text (names_in plan.now) (outline_of node.now)) }
@@ -73,11 +74,12 @@ fn push_lacking(alloc: Global, text: &mut String, node: &TypedNode) -> Result<()
     ensures { OnOk result (string_bytes text.new ≡ string_bytes text.old ++ order_lacks (outline_of node.now)) }
 {
     let claim = &node.head().claim;
+    let columns = order_columns(alloc, claim.order.as_slice())?;
     push_all_lacks(
         alloc,
         text,
         column_names(node),
-        claim.order.as_slice(),
+        columns.as_slice(),
         claim.keys.as_slice(),
     )
 }

@@ -9,8 +9,9 @@ ghost use Rattle.vx_check_sentences.specs.Words.{node_text, doing_text, order_wo
 use crate::told::Told;
 use itoa::Buffer;
 use std::alloc::{AllocError, Global};
-use vx_check::{column_names, description, push_between, push_name, push_part};
+use vx_check::{column_names, description, push_between, push_name, push_order, push_part};
 use vx_plan_nodes::{Claim, Name, TypedNode, TypedPlan};
+use vx_rows_values::OrderEntry;
 
 /// Adds the number of a node.
 pub fn push_node(text: &mut String, node: &TypedNode) -> Result<(), AllocError>
@@ -66,14 +67,18 @@ fn push_lists(text: &mut String, names: &[Name], keys: &[Vec<usize>]) -> Result<
 }
 
 /// Adds an order.
-pub fn push_order(text: &mut String, names: &[Name], order: &[usize]) -> Result<(), AllocError>
+pub fn push_order_words(
+    text: &mut String,
+    names: &[Name],
+    order: &[OrderEntry],
+) -> Result<(), AllocError>
     ensures { OnOk result (string_bytes text.new ≡ string_bytes text.old ++ order_words names.now order.now) }
 {
     if order.is_empty() {
         return text.push_str("no order");
     }
     text.push_str("the order ")?;
-    push_list(text, names, order)
+    push_order(text, names, order)
 }
 
 /// Adds keys.
@@ -102,7 +107,7 @@ pub fn push_told(
             text.push_str("the part ")?;
             push_part(text, plan, names, &claim.part)
         }
-        Told::Order => push_order(text, names, claim.order.as_slice()),
+        Told::Order => push_order_words(text, names, claim.order.as_slice()),
         Told::Keys => push_keys(text, names, claim.keys.as_slice()),
     }
 }

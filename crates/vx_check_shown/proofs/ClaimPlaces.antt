@@ -1,6 +1,7 @@
 -- Claims of nodes that are put behind one another, each over those of the node's inputs.
 use Rattle.std.proofs.Common.{◌≡◌, ℕ, zero, suc, Some, None, slice_get, Bool, List, [], ◌∷◌, ◌++◌, length, refl, sym, ap, ◌∙◌, subst, append_assoc, Result, Ok, Err}
 use Rattle.std.specs.Result.{IfOk}
+use Rattle.vx_rows_values.specs.declared.order.OrderEntry.{OrderEntry}
 use Rattle.vx_catalog_relations.specs.Relation.{Relation}
 use Rattle.vx_plan_nodes.specs.Plan.{Claim, Unary, Binary, ExchangeKind, Size, Plan, scan, unary, binary, exchange, claim}
 use Rattle.vx_check_options.specs.Claimed.{reversed_claims}
@@ -50,7 +51,7 @@ binary-keyed catalog p n c op left right is keys y z i j f =
     let P : Plan → Type 0 = λ x. ShownAt catalog x (claim y).keys (claim z).keys keys → IsKeyed catalog x (binary n (keyed keys) op y z) in
     subst P (sym is) (λ g. (keys, y, z, refl, i, j, g)) f
 
-pub exchange-keyed : (catalog : ℕ → Relation) (p : Plan) (n : ℕ) (c : Claim) (k : ExchangeKind) (m : List ℕ) (below : Plan) → p ≡ exchange n c k m below → (keys : List (List ℕ)) (y : Plan)
+pub exchange-keyed : (catalog : ℕ → Relation) (p : Plan) (n : ℕ) (c : Claim) (k : ExchangeKind) (m : List OrderEntry) (below : Plan) → p ≡ exchange n c k m below → (keys : List (List ℕ)) (y : Plan)
     → IsKeyed catalog below y → ShownAt catalog p (claim y).keys [] keys → IsKeyed catalog p (exchange n (keyed keys) k m y)
 exchange-keyed catalog p n c k m below is keys y i f =
     let P : Plan → Type 0 = λ x. ShownAt catalog x (claim y).keys [] keys → IsKeyed catalog x (exchange n (keyed keys) k m y) in subst P (sym is) (λ g. (keys, y, refl, i, g)) f

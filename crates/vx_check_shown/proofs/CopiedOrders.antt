@@ -1,5 +1,8 @@
 -- Orders of an output that copies columns: what begins the input's order there follows from the copies of what is left of it.
 use Rattle.std.proofs.Common.{◌≡◌, ◌∙◌, ℕ, ◌<◌, ◌==◌, Bool, true, false, cond, ⊎_elim, List, [], ◌∷◌, Option, Some, None, refl, sym, ap, arith, true≢false, eqb-true, eq-eqb}
+use Rattle.vx_rows_values.specs.declared.order.OrderEntry.{OrderEntry}
+use Rattle.vx_rows_values.specs.Order.{order_columns}
+use Rattle.vx_rows_values.proofs.Booleans.{and-both}
 use Rattle.vx_catalog_relations.specs.Catalog.{all_below}
 use Rattle.vx_plan_nodes.specs.Describe.{Copying, source}
 use Rattle.vx_plan_facts.specs.Equal.{Equality, both_equal}
@@ -9,15 +12,16 @@ use Rattle.vx_plan_facts.proofs.Tests.{or-cases, or-left, or-right}
 use Rattle.vx_check_rules.specs.Derived.{copy_of, copies_then, front_copies}
 use Rattle.vx_check_rules.proofs.CopySteps.{copies-below}
 use Rattle.vx_check_rules.proofs.Shortening.{Closes, with_one, short_past, short-starts}
+use Rattle.vx_check_shown.proofs.Entries.{one_way, way-itself}
 use Rattle.vx_check_shown.proofs.Equivalent.{IsEquivalence}
 use Rattle.vx_check_shown.proofs.Standing.{first-is, has-first}
 use Rattle.vx_check_shown.proofs.ShortOrders.{none_of, column-below, rest-below, both-go}
 
--- the columns are copies of the first of these, in order
-abbrev pub AreCopies : Copying → List ℕ → List ℕ → Type 0
+-- the columns are copies of the first of these, in order and in the same directions
+abbrev pub AreCopies : Copying → List OrderEntry → List OrderEntry → Type 0
 AreCopies k [] xs = Unit {0}
-AreCopies k (c ∷ cols) [] = ⊥
-AreCopies k (c ∷ cols) (x ∷ xs) = (source k c ≡ Some x) × AreCopies k cols xs
+AreCopies k (c ∷ order) [] = ⊥
+AreCopies k (c ∷ order) (x ∷ xs) = (source k c.column ≡ Some x.column) × (c.falling ≡ x.falling) × AreCopies k order xs
 
 -- each column of an input's set has a copy that the output's set determines
 abbrev pub Held : (v w : ℕ) → Copying → (Columns → Columns) → (s t : Columns) → Type 0
@@ -67,45 +71,51 @@ module _ (v w : ℕ) (k : Copying) (e f : Equality) (det more : Columns → Colu
       ))
       (or-cases (t z) (z == x) h)
 
-  carried : (cols xs : List ℕ) → AreCopies k cols xs → all_below w cols ≡ true → all_below v xs ≡ true → (s t : Columns) → Held v w k more s t
-      → begins_equally f (short_past more s cols) (short_past more s (front_copies w k e (short_past det t xs))) ≡ true
+  carried : (order xs : List OrderEntry) → AreCopies k order xs → all_below w (order_columns order) ≡ true → all_below v (order_columns xs) ≡ true → (s t : Columns) → Held v w k more s t
+      → begins_equally f (short_past more s order) (short_past more s (front_copies w k e (short_past det t xs))) ≡ true
   carried [] xs copies l m s t held = refl
-  carried (c ∷ cols) [] copies l m s t held = absurd copies
-  carried (c ∷ cols) (x ∷ xs) copies l m s t held =
-      let below = column-below w c cols l in
-      let rest = rest-below w c cols l in
+  carried (c ∷ order) [] copies l m s t held = absurd copies
+  carried (c ∷ order) (x ∷ xs) copies l m s t held =
+      let below = column-below w c order l in
+      let rest = rest-below w c order l in
       let others = rest-below v x xs m in
-      go (det t x) refl (carried cols xs copies.1 rest others s t held)
-      (carried cols xs copies.1 rest others (with_one s c) (with_one t x) (held-one s t held c x below copies.0))
+      go (det t x.column) refl (carried order xs copies.2 rest others s t held)
+      (carried order xs copies.2 rest others (with_one s c.column) (with_one t x.column) (held-one s t held c.column x.column below copies.0))
     where
-      found : (d : ℕ) × IsCopyOf w k e x d
-      found = copy-found w k e is c x (column-below w c cols l) copies.0
+      found : (d : ℕ) × IsCopyOf w k e x.column d
+      found = copy-found w k e is c.column x.column (column-below w c order l) copies.0
 
-      go : (b : Bool) → det t x ≡ b
-          → begins_equally f (short_past more s cols) (short_past more s (front_copies w k e (short_past det t xs))) ≡ true
-          → begins_equally f (short_past more (with_one s c) cols) (short_past more (with_one s c) (front_copies w k e (short_past det (with_one t x) xs))) ≡ true
-          → begins_equally f (short_past more s (c ∷ cols)) (short_past more s (front_copies w k e (cond b (short_past det t xs) (x ∷ short_past det (with_one t x) xs)))) ≡ true
+      go : (b : Bool) → det t x.column ≡ b
+          → begins_equally f (short_past more s order) (short_past more s (front_copies w k e (short_past det t xs))) ≡ true
+          → begins_equally f (short_past more (with_one s c.column) order)
+          (short_past more (with_one s c.column) (front_copies w k e (short_past det (with_one t x.column) xs))) ≡ true
+          → begins_equally f (short_past more s (c ∷ order))
+          (short_past more s (front_copies w k e (cond b (short_past det t xs) (x ∷ short_past det (with_one t x.column) xs)))) ≡ true
       go true h passed goes =
-          let given : List ℕ = front_copies w k e (short_past det t xs) in
-          ap (λ b. begins_equally f (cond b (short_past more s cols) (c ∷ short_past more (with_one s c) cols)) (short_past more s given))
-          (up s t held c x (column-below w c cols l) copies.0 h) ∙ passed
+          let given : List OrderEntry = front_copies w k e (short_past det t xs) in
+          ap (λ b. begins_equally f (cond b (short_past more s order) (c ∷ short_past more (with_one s c.column) order)) (short_past more s given))
+          (up s t held c.column x.column (column-below w c order l) copies.0 h) ∙ passed
       go false h passed goes =
-          let ys : List ℕ = short_past det (with_one t x) xs in
+          let ys : List OrderEntry = short_past det (with_one t x.column) xs in
           let d : ℕ = found.0 in
           let copy = found.1 in
-          let same : f c d ≡ true = lifts c d (ap (both_equal e (source k c)) copy.source_is ∙ ap (λ o. both_equal e o (Some copy.from)) copies.0 ∙ is.swap copy.from x copy.equal) in
-          ap (λ o. begins_equally f (short_past more s (c ∷ cols)) (short_past more s (copies_then o (front_copies w k e ys)))) copy.here
-          ∙ both-go w f more output s c d cols (front_copies w k e ys) (column-below w c cols l) copy.below (rest-below w c cols l) (copies-below w k e ys) same goes
+          let put : OrderEntry = record { column = d; falling = x.falling } in
+          let same : f c.column d ≡ true =
+          lifts c.column d (ap (both_equal e (source k c.column)) copy.source_is ∙ ap (λ o. both_equal e o (Some copy.from)) copies.0 ∙ is.swap copy.from x.column copy.equal) in
+          let way : one_way c.falling x.falling ≡ true = ap (one_way c.falling) (sym copies.1) ∙ way-itself c.falling in
+          ap (λ o. begins_equally f (short_past more s (c ∷ order)) (short_past more s (copies_then o x.falling (front_copies w k e ys)))) copy.here
+          ∙ both-go w f more output s c put order (front_copies w k e ys) (column-below w c order l) copy.below (rest-below w c order l) (copies-below w k e ys)
+          (and-both (f c.column d) (one_way c.falling x.falling) same way) goes
 
   none-held : (s : Columns) → Held v w k more s none_of
   none-held s x m h = absurd (true≢false (sym h))
 
   -- an order of copies of what begins the input's order follows from the one that the output has
-  pub copies-follow : (cols xs : List ℕ) → AreCopies k cols xs → all_below w cols ≡ true → all_below v xs ≡ true
-      → order_follows f more (front_copies w k e (short det xs)) cols ≡ true
-  copies-follow cols xs copies l m =
-      let given : List ℕ = front_copies w k e (short det xs) in
-      ap (λ ys. begins_equally f ys (short more given)) (short-starts w f more output none_of cols (λ c. refl) l)
-      ∙ ap (begins_equally f (short_past more none_of cols)) (short-starts w f more output none_of given (λ c. refl) (copies-below w k e (short det xs)))
-      ∙ ap (λ ys. begins_equally f (short_past more none_of cols) (short_past more none_of (front_copies w k e ys))) (short-starts v e det input none_of xs (λ c. refl) m)
-      ∙ carried cols xs copies l m none_of none_of (none-held none_of)
+  pub copies-follow : (order xs : List OrderEntry) → AreCopies k order xs → all_below w (order_columns order) ≡ true → all_below v (order_columns xs) ≡ true
+      → order_follows f more (front_copies w k e (short det xs)) order ≡ true
+  copies-follow order xs copies l m =
+      let given : List OrderEntry = front_copies w k e (short det xs) in
+      ap (λ ys. begins_equally f ys (short more given)) (short-starts w f more output none_of order (λ c. refl) l)
+      ∙ ap (begins_equally f (short_past more none_of order)) (short-starts w f more output none_of given (λ c. refl) (copies-below w k e (short det xs)))
+      ∙ ap (λ ys. begins_equally f (short_past more none_of order) (short_past more none_of (front_copies w k e ys))) (short-starts v e det input none_of xs (λ c. refl) m)
+      ∙ carried order xs copies l m none_of none_of (none-held none_of)

@@ -191,13 +191,13 @@ unary-too : (op : Unary) (e : Equality) → IsEquivalence e → IsEquivalence (u
 unary-too (select cs) e is = conditions-too cs e is
 unary-too (project cols) e is = lifted-too (described (project cols)).copying e is
 unary-too (distinct cols) e is = lifted-too (described (distinct cols)).copying e is
-unary-too (sort of_parts cols) e is = lifted-too (described (sort of_parts cols)).copying e is
+unary-too (sort of_parts order) e is = lifted-too (described (sort of_parts order)).copying e is
 unary-too (group phase by aggregates) e is = lifted-too (described (group phase by aggregates)).copying e is
 unary-too (limit m) e is = lifted-too (described (limit m)).copying e is
 
 binary-too : (w : ℕ) (op : Binary) (e f : Equality) → IsEquivalence e → IsEquivalence f → IsEquivalence (binary_equal w op e f)
 binary-too w union e f is it = both-too e f is it
-binary-too w (join merging on) e f is it = pairs-too w on (λ a b. lifted (left_of w) e a b || lifted (right_of w) f a b) (joined-too w e f is it)
+binary-too w (join m on) e f is it = pairs-too w on (λ a b. lifted (left_of w) e a b || lifted (right_of w) f a b) (joined-too w e f is it)
 binary-too w (semi_join matched on conditions) e f is it = is
 
 pub equal-equivalence : (catalog : ℕ → Relation) (p : Plan) → IsEquivalence (equal_at catalog p)

@@ -1,5 +1,6 @@
 -- What is found over the inputs of a known node names columns of these.
 use Rattle.std.proofs.Common.{◌≡◌, ℕ, true, ◌&&◌, List, sym, subst}
+use Rattle.vx_rows_values.specs.declared.order.OrderEntry.{OrderEntry}
 use Rattle.vx_rows_values.proofs.Booleans.{and-left, and-right}
 use Rattle.vx_catalog_relations.specs.Relation.{Relation}
 use Rattle.vx_catalog_relations.specs.Catalog.{relation_at, IsCatalog}
@@ -24,7 +25,7 @@ module _ (part-typed : PartIsTyped) (longest : ShownOrderTellsTheMost) (catalog 
       let okn = and-left (typed s below) _ (subst (λ x. typed s x ≡ true) is ok) in
       subst P (sym is) (subst Q same (told-under s below (found-top s (subst IsCatalog (sym same) cat) part-typed longest below okn) n c op))
 
-  through : IsTypedOver catalog p → (n : ℕ) (c : Claim) (k : ExchangeKind) (m : List ℕ) (below : Plan) → p ≡ exchange n c k m below
+  through : IsTypedOver catalog p → (n : ℕ) (c : Claim) (k : ExchangeKind) (m : List OrderEntry) (below : Plan) → p ≡ exchange n c k m below
       → AreTold (relation_at catalog) p (claim (found (relation_at catalog) below)) no_claim
   through (s, same, ok) n c k m below is =
       let P : Plan → Type 0 = λ x. AreTold (relation_at catalog) x (claim (found (relation_at catalog) below)) no_claim in
@@ -53,7 +54,7 @@ pub told-over : (catalog : List Relation) → IsCatalog catalog → (p : Plan) �
     → AreTold (relation_at catalog) p (claim (found (relation_at catalog) below)) no_claim
 told-over catalog cat p = under part-typed longest catalog cat p
 
-pub told-through : (catalog : List Relation) → IsCatalog catalog → (p : Plan) → IsTypedOver catalog p → (n : ℕ) (c : Claim) (k : ExchangeKind) (m : List ℕ) (below : Plan) → p ≡ exchange n c k m below
+pub told-through : (catalog : List Relation) → IsCatalog catalog → (p : Plan) → IsTypedOver catalog p → (n : ℕ) (c : Claim) (k : ExchangeKind) (m : List OrderEntry) (below : Plan) → p ≡ exchange n c k m below
     → AreTold (relation_at catalog) p (claim (found (relation_at catalog) below)) no_claim
 told-through catalog cat p = through part-typed longest catalog cat p
 

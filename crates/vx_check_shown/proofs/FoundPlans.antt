@@ -1,6 +1,7 @@
 -- Plans with the parts and the orders that are found: the same nodes with the same keys, typed, and telling the most.
 use Rattle.std.proofs.Common.{◌≡◌, ℕ, Bool, true, false, cond, not, ◌&&◌, ◌||◌, List, [], ◌∷◌, length, refl, sym, ap, ◌∙◌, subst}
 use Rattle.std.specs.List.{list_all, list_any}
+use Rattle.vx_rows_values.specs.declared.order.OrderEntry.{OrderEntry}
 use Rattle.vx_rows_values.proofs.Booleans.{and-left, and-right, and-both}
 use Rattle.vx_catalog_relations.specs.Relation.{Relation}
 use Rattle.vx_catalog_relations.specs.Catalog.{relation_at, all_below, are_distinct, IsCatalog}
@@ -16,7 +17,7 @@ use Rattle.vx_check_rules.specs.Derived.{rises_equally, goes_on_with, unary_orde
 use Rattle.vx_check_rules.specs.Behaviour.{keyed_by, keyed_after, keyed_over, behaviour, shown_key}
 use Rattle.vx_check_options.specs.Placed.{keyless, bare}
 use Rattle.vx_check_options.specs.Laws.{AtEach}
-use Rattle.vx_check_shown.specs.Standing.{named_first}
+use Rattle.vx_check_shown.specs.Standing.{ordered_first}
 use Rattle.vx_check_shown.specs.ShownPart.{shown_part}
 use Rattle.vx_check_shown.specs.ShownOrder.{order_had, shown_order}
 use Rattle.vx_check_shown.specs.PartLaws.{PartTellsTheMost, PartIsClaimless, PartIsTyped}
@@ -69,21 +70,21 @@ module _ (catalog : ℕ → Relation) where
       closure (width-found p i) (equal-found p i) (fixed-found p i) c.keys (by_input (width-found p i) whole_rows (determined-found p i))
 
   -- so do orders
-  goes-found : (k : ExchangeKind) (p : Plan) (q : Part) (below : List ℕ) → goes_on_with catalog k (found catalog p) q below ≡ goes_on_with catalog k p q below
+  goes-found : (k : ExchangeKind) (p : Plan) (q : Part) (below : List OrderEntry) → goes_on_with catalog k (found catalog p) q below ≡ goes_on_with catalog k p q below
   goes-found concat p q below = λ i. rises_equally (equal-found p i) (determined-found p i) q below
   goes-found (route_to z r cols) p q below = refl
   goes-found (round z) p q below = refl
   goes-found (broadcast z) p q below = refl
   goes-found gather p q below = refl
 
-  had-found : (p : Plan) (q : Part) (below : List ℕ) → order_had catalog (found catalog p) q below ≡ order_had catalog p q below
+  had-found : (p : Plan) (q : Part) (below : List OrderEntry) → order_had catalog (found catalog p) q below ≡ order_had catalog p q below
   had-found (scan n c r m z) q below = refl
   had-found (unary n c op p) q below = λ i. unary_order (width-found (unary n c op p) i) op (equal-found p i) (determined-found p i) below
   had-found (binary n c op p p2) q below = refl
   had-found (exchange n c k m p) q below = λ i. cond (is_one (size-found p i) || goes-found k p q below i) below m
 
-  pub order-found : (p : Plan) (q : Part) (below : List ℕ) → shown_order catalog (found catalog p) q below ≡ shown_order catalog p q below
-  order-found p q below = λ i. named_first (width-found p i) (equal-found p i) (short (determined-found p i) (had-found p q below i))
+  pub order-found : (p : Plan) (q : Part) (below : List OrderEntry) → shown_order catalog (found catalog p) q below ≡ shown_order catalog p q below
+  order-found p q below = λ i. ordered_first (width-found p i) (equal-found p i) (short (determined-found p i) (had-found p q below i))
 
   -- and the keys that the inputs have
   keyed-found : (p : Plan) → (behaviour catalog (found catalog p)).keyed ≡ (behaviour catalog p).keyed

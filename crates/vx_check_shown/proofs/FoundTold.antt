@@ -2,6 +2,8 @@
 use Rattle.std.proofs.Common.{◌≡◌, ℕ, nat_lt, Bool, true, cond, ◌&&◌, ◌||◌, List, [], ◌∷◌, length, refl, sym, ap, ◌∙◌, subst}
 use Rattle.std.specs.List.{list_all}
 use Rattle.vx_rows_values.specs.declared.value.ColType.{ColType}
+use Rattle.vx_rows_values.specs.declared.order.OrderEntry.{OrderEntry}
+use Rattle.vx_rows_values.specs.Order.{order_columns}
 use Rattle.vx_rows_values.specs.Lists.{is_some_list}
 use Rattle.vx_rows_values.proofs.Booleans.{and-left, and-right, and-both}
 use Rattle.vx_catalog_relations.specs.Relation.{Relation}
@@ -54,19 +56,20 @@ named-columns s p h =
     let P : ℕ → Type 0 = λ w. all_below w (part_columns (claim p).part) ≡ true in
     subst P (types-width (relation_at s.catalog) p) (part-below s types (claim p).part (and-left (is_part s types (claim p).part) _ h))
 
-order-columns : (s : Scope) (p : Plan) → IsClaimTyped s p → all_below (width (relation_at s.catalog) p) (claim p).order ≡ true
+order-columns : (s : Scope) (p : Plan) → IsClaimTyped s p → all_below (width (relation_at s.catalog) p) (order_columns (claim p).order) ≡ true
 order-columns s p h =
     let types = types_of (relation_at s.catalog) p in
     let c : Claim = claim p in
-    let P : ℕ → Type 0 = λ w. all_below w c.order ≡ true in
+    let P : ℕ → Type 0 = λ w. all_below w (order_columns c.order) ≡ true in
     subst P (types-width (relation_at s.catalog) p)
-    (and-left (all_below (length types) c.order) (are_distinct c.order) (and-left (are_columns (length types) c.order) (list_all (are_columns (length types)) c.keys) (and-right (is_part s types c.part) _ h)))
+    (and-left (all_below (length types) (order_columns c.order)) (are_distinct (order_columns c.order))
+    (and-left (are_columns (length types) (order_columns c.order)) (list_all (are_columns (length types)) c.keys) (and-right (is_part s types c.part) _ h)))
 
 keys-columns : (s : Scope) (p : Plan) → IsClaimTyped s p → list_all (are_columns (length (types_of (relation_at s.catalog) p))) (claim p).keys ≡ true
 keys-columns s p h =
     let types = types_of (relation_at s.catalog) p in
     let c : Claim = claim p in
-    and-right (are_columns (length types) c.order) (list_all (are_columns (length types)) c.keys) (and-right (is_part s types c.part) _ h)
+    and-right (are_columns (length types) (order_columns c.order)) (list_all (are_columns (length types)) c.keys) (and-right (is_part s types c.part) _ h)
 
 claim-part : (s : Scope) (p : Plan) → IsClaimTyped s p → is_part s (types_of (relation_at s.catalog) p) (claim p).part ≡ true
 claim-part s p h = let types = types_of (relation_at s.catalog) p in and-left (is_part s types (claim p).part) _ h
@@ -79,7 +82,7 @@ of-found catalog p cols h = let P : ℕ → Type 0 = λ w. all_below w cols ≡ 
 told-unary : (s : Scope) (p : Plan) → IsClaimTyped s (found (relation_at s.catalog) p) → all_below (width (relation_at s.catalog) p) (part_columns (claim (found (relation_at s.catalog) p)).part) ≡ true
 told-unary s p h = of-found (relation_at s.catalog) p _ (named-columns s (found (relation_at s.catalog) p) h)
 
-told-order : (s : Scope) (p : Plan) → IsClaimTyped s (found (relation_at s.catalog) p) → all_below (width (relation_at s.catalog) p) (claim (found (relation_at s.catalog) p)).order ≡ true
+told-order : (s : Scope) (p : Plan) → IsClaimTyped s (found (relation_at s.catalog) p) → all_below (width (relation_at s.catalog) p) (order_columns (claim (found (relation_at s.catalog) p)).order) ≡ true
 told-order s p h = of-found (relation_at s.catalog) p _ (order-columns s (found (relation_at s.catalog) p) h)
 
 told-part : (s : Scope) (p : Plan) → IsClaimTyped s (found (relation_at s.catalog) p) → is_part s (types_of (relation_at s.catalog) p) (claim (found (relation_at s.catalog) p)).part ≡ true
@@ -98,7 +101,7 @@ top-typed s (exchange n c k m p) h = h.1
 pub told-under : (s : Scope) (p : Plan) → IsClaimTyped s (found (relation_at s.catalog) p) → (n : ℕ) (c : Claim) (op : Unary) → AreTold (relation_at s.catalog) (unary n c op p) (claim (found (relation_at s.catalog) p)) no_claim
 told-under s p h n c op = record { parts = told-unary s p h; order = and-both _ _ (told-unary s p h) (told-order s p h) }
 
-pub told-sent : (s : Scope) (p : Plan) → IsClaimTyped s (found (relation_at s.catalog) p) → (n : ℕ) (c : Claim) (k : ExchangeKind) (m : List ℕ)
+pub told-sent : (s : Scope) (p : Plan) → IsClaimTyped s (found (relation_at s.catalog) p) → (n : ℕ) (c : Claim) (k : ExchangeKind) (m : List OrderEntry)
     → AreTold (relation_at s.catalog) (exchange n c k m p) (claim (found (relation_at s.catalog) p)) no_claim
 told-sent s p h n c k m = record { parts = refl; order = and-both _ _ (told-unary s p h) (told-order s p h) }
 
@@ -119,15 +122,16 @@ module _ (s : Scope) (cat : IsCatalog s.catalog) (part-typed : PartIsTyped) (lon
   claim-typed p y l r ok oky parts input wide is =
       let C : ℕ → Relation = relation_at s.catalog in
       let types = types_of C p in
-      let order : List ℕ = shown_order C p l.part l.order in
+      let order : List OrderEntry = shown_order C p l.part l.order in
       let long = longest s y cat oky in
       let det = determined C y in
-      let distinct : are_distinct order ≡ true = subst (λ o. are_distinct o ≡ true) is (short-distinct det (more-from-more.itself C y) (order_over_claims C y) long.shortened) in
-      let P : ℕ → Type 0 = λ w. all_below w order ≡ true in
-      let below : all_below (length types) order ≡ true = subst P (sym (types-width C p)) (order-below s cat p ok l.part l.order input) in
-      and-both (is_part s types (shown_part C p l.part r.part)) (are_columns (length types) order && list_all (are_columns (length types)) (claim p).keys)
+      let distinct : are_distinct (order_columns order) ≡ true = subst (λ (o : List OrderEntry). are_distinct (order_columns o) ≡ true) is (short-distinct det (more-from-more.itself C y) (order_over_claims C y) long.shortened) in
+      let P : ℕ → Type 0 = λ w. all_below w (order_columns order) ≡ true in
+      let below : all_below (length types) (order_columns order) ≡ true = subst P (sym (types-width C p)) (order-below s cat p ok l.part l.order input) in
+      and-both (is_part s types (shown_part C p l.part r.part)) (are_columns (length types) (order_columns order) && list_all (are_columns (length types)) (claim p).keys)
       (part-typed s p ok l.part r.part parts)
-      (and-both (are_columns (length types) order) (list_all (are_columns (length types)) (claim p).keys) (and-both (all_below (length types) order) (are_distinct order) below distinct)
+      (and-both (are_columns (length types) (order_columns order)) (list_all (are_columns (length types)) (claim p).keys)
+      (and-both (all_below (length types) (order_columns order)) (are_distinct (order_columns order)) below distinct)
       (keys-columns s p (top-typed s p (claims-typed s p ok))))
 
   pub found-claims : (p : Plan) → typed s p ≡ true → AtEach (IsClaimTyped s) (found (relation_at s.catalog) p)
@@ -194,7 +198,7 @@ shown-one catalog p x y e = rw e refl
 
 module _ (part-typed : PartIsTyped) (most : PartTellsTheMost) (claimless : PartIsClaimless) (longest : ShownOrderTellsTheMost) (s : Scope) (cat : IsCatalog s.catalog) where
   -- a node whose claim is the one that is found over what its inputs claim
-  strongest-here : (p x : Plan) (order : List ℕ) → typed s x ≡ true → bare x ≡ bare p → size x ≡ size p
+  strongest-here : (p x : Plan) (order : List OrderEntry) → typed s x ≡ true → bare x ≡ bare p → size x ≡ size p
       → (claim x).part ≡ shown_part (relation_at s.catalog) p (left_part x) (right_part x) → (claim x).order ≡ order → order_over_claims (relation_at s.catalog) x ≡ order
       → HasAllKeysDerived (relation_at s.catalog) x → IsStrongestDerived (relation_at s.catalog) x
   strongest-here p x order ok same sized part is over keys =
@@ -252,11 +256,14 @@ typed-keys catalog p (s, same, ok) =
 -- ---- whether the order is total
 
 pub total-found : (catalog : ℕ → Relation) (p : Plan) (c : Claim) → c ≡ claim (found catalog p)
-    → ((covers c.keys c.order || within (numbers_below (width catalog p)) c.order) || total_follows (width catalog p) (determined catalog p) c.keys c.order) ≡ is_total_derived catalog (found catalog p)
+    → ((covers c.keys (order_columns c.order) || within (numbers_below (width catalog p)) (order_columns c.order))
+    || total_follows (width catalog p) (determined catalog p) c.keys (order_columns c.order)) ≡ is_total_derived catalog (found catalog p)
 total-found catalog p c e =
     let d : Claim = claim (found catalog p) in
-    ap (λ (c : Claim). (covers c.keys c.order || within (numbers_below (width catalog p)) c.order) || total_follows (width catalog p) (determined catalog p) c.keys c.order) e
-    ∙ sym (λ i. (covers d.keys d.order || within (numbers_below (width-found catalog p i)) d.order) || total_follows (width-found catalog p i) (determined-found catalog p i) d.keys d.order)
+    let cols : List ℕ = order_columns d.order in
+    ap (λ (c : Claim). (covers c.keys (order_columns c.order) || within (numbers_below (width catalog p)) (order_columns c.order))
+    || total_follows (width catalog p) (determined catalog p) c.keys (order_columns c.order)) e
+    ∙ sym (λ i. (covers d.keys cols || within (numbers_below (width-found catalog p i)) cols) || total_follows (width-found catalog p i) (determined-found catalog p i) d.keys cols)
 
 pub known-claim : (catalog : ℕ → Relation) (k : rust_known.KnownColumns) (p : Plan) (c : Claim) → IsKnownOf catalog k p → c ≡ claim (found catalog p) → IsClaimOf catalog k p c
 known-claim catalog k p c known e = record { known = known; keys = ap (λ (d : Claim). d.keys) e ∙ keys-found catalog p }

@@ -1,11 +1,12 @@
 -- The first of the columns that are equal to one.
-use Rattle.std.proofs.Common.{◌≡◌, ◌∙◌, ℕ, zero, suc, ◌+◌, ◌<◌, ◌≤◌, ◌==◌, ◌||◌, Bool, true, false, cond, ⊎_elim, List, [], ◌∷◌, length, map, take, get_or, ◌++◌, slice_index, Option, Some, refl, ap, sym, subst, arith, true≢false}
+use Rattle.std.proofs.Common.{◌≡◌, ◌∙◌, ℕ, zero, suc, ◌+◌, ◌<◌, ◌≤◌, ◌==◌, nat_lt, ltb-true, ◌||◌, Bool, true, false, cond, ⊎_elim, List, [], ◌∷◌, length, map, take, get_or, ◌++◌, slice_index, Option, Some, refl, ap, sym, subst, arith, true≢false}
 use Rattle.std.specs.Option.{unwrap_or}
 use Rattle.std.specs.List.{list_any, filter}
 use Rattle.std.proofs.lemmas.Bool.{cases_lt, eqb-true, eq-eqb, ne_eqb}
 use Rattle.std.proofs.lemmas.List.{take_more, take_all, map-append}
 use Rattle.std.proofs.lemmas.List.Folds.{list_any-append, list_all-append}
-use Rattle.vx_rows_values.proofs.Booleans.{and-both}
+use Rattle.vx_rows_values.proofs.Booleans.{and-left, and-right, and-both}
+use Rattle.vx_catalog_relations.specs.Catalog.{all_below}
 use Rattle.vx_check_rules.specs.Rules.{contains, within}
 use Rattle.vx_check_rules.proofs.Bools.{or-left, or-right, all-more}
 use Rattle.vx_check_options.specs.FoundKeys.{with_column}
@@ -25,6 +26,12 @@ use Rattle.vx_plan_facts.proofs.ColumnSets.{any-at}
 use Rattle.vx_plan_facts.proofs.Searching.{top-stands}
 use Rattle.vx_check_rules.specs.Derived.{first_of}
 use Rattle.vx_check_shown.specs.Standing.{first_equal, named_first}
+
+-- a column of a list is one of those that are there
+pub column-at : (w : ℕ) (cols : List ℕ) (i : ℕ) → all_below w cols ≡ true → i < length cols → get_or cols i 0 < w
+column-at w [] i l h = absurd (omega (arith, h))
+column-at w (c ∷ cols) zero l h = ltb-true c w (and-left (nat_lt c w) (all_below w cols) l)
+column-at w (c ∷ cols) (suc i) l h = column-at w cols i (and-right (nat_lt c w) (all_below w cols) l) (omega (arith, h))
 
 -- ---- the first column that passes
 

@@ -1,3 +1,4 @@
+pub mod Entries
 pub mod Equivalent
 pub mod Standing
 pub mod ShortOrders

@@ -1,5 +1,7 @@
 -- The order that a node shows: each other one that is shown follows from it.
-use Rattle.std.proofs.Common.{◌≡◌, ◌∙◌, ℕ, ◌<◌, ◌==◌, nat_lt, Bool, true, false, cond, ◌&&◌, ◌||◌, ⊎_elim, List, [], ◌∷◌, length, Option, Some, None, slice_get, refl, sym, ap, subst, true≢false, eqb-true, arith}
+use Rattle.std.proofs.Common.{◌≡◌, ◌∙◌, ℕ, ◌<◌, ◌==◌, nat_lt, Bool, true, false, cond, not, ◌&&◌, ◌||◌, ⊎_elim, List, [], ◌∷◌, length, Option, Some, None, slice_get, refl, sym, ap, subst, true≢false, eqb-true, arith}
+use Rattle.vx_rows_values.specs.declared.order.OrderEntry.{OrderEntry}
+use Rattle.vx_rows_values.specs.Order.{order_columns, entry_eq}
 use Rattle.vx_rows_values.proofs.Booleans.{and-left, and-right, and-both}
 use Rattle.vx_catalog_relations.specs.Relation.{Relation}
 use Rattle.vx_catalog_relations.specs.Catalog.{relation_at, all_below, are_distinct, IsCatalog}
@@ -15,7 +17,7 @@ use Rattle.vx_plan_facts.specs.Naming.{names_within}
 use Rattle.vx_plan_facts.proofs.NamedColumns.{project-within, distinct-within, group-within}
 use Rattle.vx_plan_facts.proofs.Tests.{or-cases, or-left, or-right}
 use Rattle.vx_plan_facts.proofs.WellTyped.{typed-well-formed}
-use Rattle.vx_check_rules.specs.Rules.{is_prefix, cons_both, copied, if_some, unary_orders, goes_on, order_given, orders}
+use Rattle.vx_check_rules.specs.Rules.{is_front, entry_at, entry_both, copied_order, if_order, unary_orders, goes_on, order_given, orders}
 use Rattle.vx_check_rules.specs.Derived.{goes_on_with, unary_order, binary_order, front_copies, needed_follows, order_given_derived, order_derived}
 use Rattle.vx_check_rules.proofs.CopySteps.{copies-below}
 use Rattle.vx_check_rules.proofs.OrderSteps.{short-below as shortened-below}
@@ -23,8 +25,9 @@ use Rattle.vx_check_rules.proofs.Shortening.{Closes}
 use Rattle.vx_check_shown.specs.Standing.{first_equal}
 use Rattle.vx_check_shown.specs.ShownOrder.{order_had}
 use Rattle.vx_check_shown.specs.OrderLaws.{part_below, order_below, order_over_claims, IsLongestOrder}
+use Rattle.vx_check_shown.proofs.Entries.{entry-same}
 use Rattle.vx_check_shown.proofs.Equivalent.{equal-equivalence}
-use Rattle.vx_check_shown.proofs.Standing.{first-equal, first-before, named-below, named-firsts}
+use Rattle.vx_check_shown.proofs.Standing.{first-equal, first-before, ordered-below, ordered-firsts}
 use Rattle.vx_check_shown.proofs.ShortOrders.{begins-chain, front-follows, named-short, named-follows, follows-named, follows-more, short-distinct}
 use Rattle.vx_check_shown.proofs.CopiedOrders.{AreCopies, copies-follow}
 use Rattle.vx_check_shown.proofs.OrderNodes.{both-below}
@@ -33,39 +36,43 @@ use Rattle.vx_check_shown.proofs.TypedNodes.{closes-at, goes-up, exchange-more, 
 -- ---- at any node
 
 -- the second order follows from the first
-abbrev Follows : (ℕ → Relation) → Plan → (given order : List ℕ) → Type 0
+abbrev Follows : (ℕ → Relation) → Plan → (given order : List OrderEntry) → Type 0
 Follows catalog p given order = order_follows (equal_at catalog p) (determined catalog p) given order ≡ true
 
 module _ (catalog : ℕ → Relation) (p : Plan) (formed : well_formed catalog p ≡ true) where
   -- an order begins another
-  front : (given order : List ℕ) → all_below (width catalog p) given ≡ true → all_below (width catalog p) order ≡ true → is_prefix order given ≡ true → Follows catalog p given order
+  front : (given order : List OrderEntry) → all_below (width catalog p) (order_columns given) ≡ true → all_below (width catalog p) (order_columns order) ≡ true → is_front order given ≡ true
+      → Follows catalog p given order
   front given order l m h =
       front-follows (width catalog p) (equal_at catalog p) (determined catalog p) (closes-at catalog p formed) (equal-equivalence catalog p) given order l m h
 
-  chain : (xs ys zs : List ℕ) → Follows catalog p xs ys → Follows catalog p ys zs → Follows catalog p xs zs
+  chain : (xs ys zs : List OrderEntry) → Follows catalog p xs ys → Follows catalog p ys zs → Follows catalog p xs zs
   chain xs ys zs h k =
       let det : Columns → Columns = determined catalog p in
       begins-chain (equal_at catalog p) (equal-equivalence catalog p) (short det zs) (short det ys) (short det xs) k h
 
 -- ---- copies
 
-none-copied : {A : Type 0} (o : Option ℕ) (os : Option (List ℕ)) → if_some (cons_both o os) (λ ys. is_prefix ys []) ≡ true → A
-none-copied None os h = absurd (true≢false (sym h))
-none-copied (Some x) None h = absurd (true≢false (sym h))
-none-copied (Some x) (Some ys) h = absurd (true≢false (sym h))
+none-copied : {A : Type 0} (o : Option ℕ) (e : OrderEntry) (os : Option (List OrderEntry)) → if_order (entry_both o e os) (λ ys. is_front ys []) ≡ true → A
+none-copied None e os h = absurd (true≢false (sym h))
+none-copied (Some x) e None h = absurd (true≢false (sym h))
+none-copied (Some x) e (Some ys) h = absurd (true≢false (sym h))
 
--- columns of which the kept ones begin an order are copies of its columns
-copies-of : (kept cols xs : List ℕ) → if_some (copied kept cols) (λ ys. is_prefix ys xs) ≡ true → AreCopies (columns_kept kept) cols xs
+-- an order of which the kept columns begin an order copies that
+copies-of : (kept : List ℕ) (order xs : List OrderEntry) → if_order (copied_order kept order) (λ ys. is_front ys xs) ≡ true → AreCopies (columns_kept kept) order xs
 copies-of kept [] xs h = tt
-copies-of kept (c ∷ cols) [] h = none-copied (slice_get kept c) (copied kept cols) h
-copies-of kept (c ∷ cols) (z ∷ zs) h = go (slice_get kept c) (copied kept cols) refl h (copies-of kept cols zs)
+copies-of kept (c ∷ order) [] h = none-copied (slice_get kept c.column) c (copied_order kept order) h
+copies-of kept (c ∷ order) (z ∷ zs) h = go (slice_get kept c.column) (copied_order kept order) refl h (copies-of kept order zs)
   where
-    go : (o : Option ℕ) (os : Option (List ℕ)) → slice_get kept c ≡ o → if_some (cons_both o os) (λ ys. is_prefix ys (z ∷ zs)) ≡ true
-        → (if_some os (λ ys. is_prefix ys zs) ≡ true → AreCopies (columns_kept kept) cols zs) → (slice_get kept c ≡ Some z) × AreCopies (columns_kept kept) cols zs
+    go : (o : Option ℕ) (os : Option (List OrderEntry)) → slice_get kept c.column ≡ o → if_order (entry_both o c os) (λ ys. is_front ys (z ∷ zs)) ≡ true
+        → (if_order os (λ ys. is_front ys zs) ≡ true → AreCopies (columns_kept kept) order zs)
+        → (slice_get kept c.column ≡ Some z.column) × (c.falling ≡ z.falling) × AreCopies (columns_kept kept) order zs
     go None os is k rest = absurd (true≢false (sym k))
     go (Some x) None is k rest = absurd (true≢false (sym k))
     go (Some x) (Some ys) is k rest =
-        (is ∙ ap Some (eqb-true x z (and-left (x == z) (is_prefix ys zs) k)), rest (and-right (x == z) (is_prefix ys zs) k))
+        let copy : OrderEntry = entry_at x c in
+        let same : copy ≡ z = entry-same copy z (and-left (entry_eq copy z) (is_front ys zs) k) in
+        (is ∙ ap (λ (y : OrderEntry). Some y.column) same, ap (λ (y : OrderEntry). y.falling) same, rest (and-right (entry_eq copy z) (is_front ys zs) k))
 
 module _ (s : Scope) (n : ℕ) (c : Claim) (op : Unary) (p : Plan) (h : typed s (unary n c op p) ≡ true) where
   abbrev rel : ℕ → Relation
@@ -81,10 +88,10 @@ module _ (s : Scope) (n : ℕ) (c : Claim) (op : Unary) (p : Plan) (h : typed s 
   input-formed = typed-well-formed s p (and-left (typed s p) _ h)
 
   -- an order of copies of what begins the input's order
-  carried-follows : (kept order : List ℕ) → (described op).copying ≡ columns_kept kept
+  carried-follows : (kept : List ℕ) (order : List OrderEntry) → (described op).copying ≡ columns_kept kept
       → ((a b : ℕ) → both_equal (equal_at rel p) (source (columns_kept kept) a) (source (columns_kept kept) b) ≡ true → equal_at rel node a b ≡ true)
       → ((w : ℕ) → names_within w op ≡ true → (d : ℕ) → source_within w (source (described op).copying d) ≡ true)
-      → all_below (width rel node) order ≡ true → if_some (copied kept order) (λ ys. is_prefix ys (claim p).order) ≡ true
+      → all_below (width rel node) (order_columns order) ≡ true → if_order (copied_order kept order) (λ ys. is_front ys (claim p).order) ≡ true
       → Follows rel node (front_copies (width rel node) (columns_kept kept) (equal_at rel p) (short (determined rel p) (claim p).order)) order
   carried-follows kept order is lifts within l begins =
       let P : Copying → Type 0 = λ k. ((a b : ℕ) → both_equal (equal_at rel p) (source k a) (source k b) ≡ true → equal_at rel node a b ≡ true) → AreCopies k order (claim p).order
@@ -98,15 +105,15 @@ module _ (s : Scope) (n : ℕ) (c : Claim) (op : Unary) (p : Plan) (h : typed s 
 
 -- what the first table shows
 unary-front : (s : Scope) (n : ℕ) (c : Claim) (op : Unary) (p : Plan) → typed s (unary n c op p) ≡ true
-    → (order : List ℕ) → all_below (width (relation_at s.catalog) (unary n c op p)) order ≡ true → unary_orders op (claim p).order order ≡ true
+    → (order : List OrderEntry) → all_below (width (relation_at s.catalog) (unary n c op p)) (order_columns order) ≡ true → unary_orders op (claim p).order order ≡ true
     → Follows (relation_at s.catalog) (unary n c op p)
     (unary_order (width (relation_at s.catalog) (unary n c op p)) op (equal_at (relation_at s.catalog) p) (determined (relation_at s.catalog) p) (claim p).order) order
 unary-front s n c (select cs) p h order l k =
     let rel : ℕ → Relation = relation_at s.catalog in
     front rel (unary n c (select cs) p) (typed-well-formed s (unary n c (select cs) p) h) (claim p).order order
     (order-below rel p (typed-well-formed s p (and-left (typed s p) _ h))) l k
-unary-front s n c (sort of_parts cols) p h order l k =
-    front (relation_at s.catalog) (unary n c (sort of_parts cols) p) (typed-well-formed s (unary n c (sort of_parts cols) p) h) cols order (sorted-below s n c of_parts cols p h) l k
+unary-front s n c (sort of_parts given) p h order l k =
+    front (relation_at s.catalog) (unary n c (sort of_parts given) p) (typed-well-formed s (unary n c (sort of_parts given) p) h) given order (sorted-below s n c of_parts given p h) l k
 unary-front s n c (project cols) p h order l k =
     carried-follows s n c (project cols) p h cols order refl (λ a b e. or-right (a == b) _ e) (λ w m d. project-within w (project cols) cols refl m d) l k
 unary-front s n c (distinct cols) p h order l k =
@@ -125,9 +132,9 @@ unary-front s n c (limit m) p h order l k =
 -- the order that an operator over one input has is of its columns
 unary-below : (s : Scope) (n : ℕ) (c : Claim) (op : Unary) (p : Plan) → typed s (unary n c op p) ≡ true
     → all_below (width (relation_at s.catalog) (unary n c op p))
-    (unary_order (width (relation_at s.catalog) (unary n c op p)) op (equal_at (relation_at s.catalog) p) (determined (relation_at s.catalog) p) (claim p).order) ≡ true
+    (order_columns (unary_order (width (relation_at s.catalog) (unary n c op p)) op (equal_at (relation_at s.catalog) p) (determined (relation_at s.catalog) p) (claim p).order)) ≡ true
 unary-below s n c (select cs) p h = order-below (relation_at s.catalog) p (typed-well-formed s p (and-left (typed s p) _ h))
-unary-below s n c (sort of_parts cols) p h = sorted-below s n c of_parts cols p h
+unary-below s n c (sort of_parts order) p h = sorted-below s n c of_parts order p h
 unary-below s n c (project cols) p h =
     copies-below (length cols) (columns_kept cols) (equal_at (relation_at s.catalog) p) (short (determined (relation_at s.catalog) p) (claim p).order)
 unary-below s n c (distinct cols) p h =
@@ -146,12 +153,15 @@ unary-below s n c (limit m) p h = order-below (relation_at s.catalog) p (typed-w
 -- ---- exchanges
 
 -- rows of producers that rise by the first table do by the second one
-goes-too : (catalog : ℕ → Relation) (p : Plan) → well_formed catalog p ≡ true → (k : ExchangeKind) (q : Part) (order : List ℕ) (keys : List (List ℕ))
-    → all_below (width catalog p) order ≡ true → goes_on k (record { part = q; order = order; keys = keys }) ≡ true → goes_on_with catalog k p q order ≡ true
+goes-too : (catalog : ℕ → Relation) (p : Plan) → well_formed catalog p ≡ true → (k : ExchangeKind) (q : Part) (order : List OrderEntry) (keys : List (List ℕ))
+    → all_below (width catalog p) (order_columns order) ≡ true → goes_on k (record { part = q; order = order; keys = keys }) ≡ true → goes_on_with catalog k p q order ≡ true
 goes-too catalog p fine concat (routed (by_range j) (c ∷ [])) (d ∷ order) keys l h =
-    let P : ℕ → Type 0 = λ v. nat_lt v (width catalog p) ≡ true in
-    let below : nat_lt c (width catalog p) ≡ true = subst P (sym (eqb-true c d h)) (and-left (nat_lt d (width catalog p)) (all_below (width catalog p) order) l) in
-    front catalog p fine (d ∷ order) (c ∷ []) l (and-both (nat_lt c (width catalog p)) true below refl) (and-both (c == d) true h refl)
+    let w : ℕ = width catalog p in
+    let rising : OrderEntry = record { column = c; falling = false } in
+    let P : ℕ → Type 0 = λ v. nat_lt v w ≡ true in
+    let same : c ≡ d.column = eqb-true c d.column (and-left (c == d.column) (not d.falling) h) in
+    let below : nat_lt c w ≡ true = subst P (sym same) (and-left (nat_lt d.column w) (all_below w (order_columns order)) l) in
+    front catalog p fine (d ∷ order) (rising ∷ []) l (and-both (nat_lt c w) true below refl) (and-both (entry_eq rising d) true h refl)
 goes-too catalog p fine concat (routed (by_range j) (c ∷ [])) [] keys l h = absurd (true≢false (sym h))
 goes-too catalog p fine concat (routed (by_range j) []) order keys l h = absurd (true≢false (sym h))
 goes-too catalog p fine concat (routed (by_range j) (c ∷ d ∷ cs)) order keys l h = absurd (true≢false (sym h))
@@ -164,14 +174,14 @@ goes-too catalog p fine (round z) q order keys l h = absurd (true≢false (sym h
 goes-too catalog p fine (broadcast z) q order keys l h = absurd (true≢false (sym h))
 goes-too catalog p fine gather q order keys l h = absurd (true≢false (sym h))
 
-module _ (s : Scope) (n : ℕ) (c : Claim) (k : ExchangeKind) (merge : List ℕ) (p : Plan) (h : typed s (exchange n c k merge p) ≡ true) where
+module _ (s : Scope) (n : ℕ) (c : Claim) (k : ExchangeKind) (merge : List OrderEntry) (p : Plan) (h : typed s (exchange n c k merge p) ≡ true) where
   abbrev sent : Plan
   sent = exchange n c k merge p
 
   abbrev catalog_of : ℕ → Relation
   catalog_of = relation_at s.catalog
 
-  abbrev given : List ℕ
+  abbrev given : List OrderEntry
   given = (claim p).order
 
   abbrev keeps : Bool
@@ -183,10 +193,10 @@ module _ (s : Scope) (n : ℕ) (c : Claim) (k : ExchangeKind) (merge : List ℕ)
   below-formed : well_formed catalog_of p ≡ true
   below-formed = typed-well-formed s p (and-left (typed s p) _ h)
 
-  given-below : all_below (width catalog_of p) given ≡ true
+  given-below : all_below (width catalog_of p) (order_columns given) ≡ true
   given-below = order-below catalog_of p below-formed
 
-  merge-below : all_below (width catalog_of p) merge ≡ true
+  merge-below : all_below (width catalog_of p) (order_columns merge) ≡ true
   merge-below = merged-below s n c k merge p h
 
   -- the order by which it merges follows from the input's
@@ -199,11 +209,11 @@ module _ (s : Scope) (n : ℕ) (c : Claim) (k : ExchangeKind) (merge : List ℕ)
       (or-cases (order_given sent) (needed_follows catalog_of sent) needed)
 
   -- the order that it has, by whether the input's goes on
-  by-merge : (b : Bool) → Follows catalog_of sent given merge → (order : List ℕ) → Follows catalog_of sent merge order → Follows catalog_of sent (cond b given merge) order
+  by-merge : (b : Bool) → Follows catalog_of sent given merge → (order : List OrderEntry) → Follows catalog_of sent merge order → Follows catalog_of sent (cond b given merge) order
   by-merge true needed order f = chain catalog_of sent sent-formed given merge order needed f
   by-merge false needed order f = f
 
-  by-given : (b : Bool) → b ≡ true → (order : List ℕ) → Follows catalog_of sent given order → Follows catalog_of sent (cond b given merge) order
+  by-given : (b : Bool) → b ≡ true → (order : List OrderEntry) → Follows catalog_of sent given order → Follows catalog_of sent (cond b given merge) order
   by-given true going order f = f
   by-given false going order f = absurd (true≢false (sym going))
 
@@ -214,18 +224,18 @@ module _ (s : Scope) (n : ℕ) (c : Claim) (k : ExchangeKind) (merge : List ℕ)
       (goes-too catalog_of p below-formed k (claim p).part given (claim p).keys given-below goes))
       (or-cases (is_one (size p)) (goes_on k (claim p)) e)
 
-  sent-follows : order_given_derived catalog_of sent ≡ true → (order : List ℕ) → all_below (width catalog_of sent) order ≡ true
+  sent-follows : order_given_derived catalog_of sent ≡ true → (order : List OrderEntry) → all_below (width catalog_of sent) (order_columns order) ≡ true
       → (orders catalog_of sent order || order_derived catalog_of sent order) ≡ true → Follows catalog_of sent (cond keeps given merge) order
   sent-follows needed order l e =
       let merges = merge-follows needed in
-      let by_table : Bool = (is_one (size p) || goes_on k (claim p)) && is_prefix order given in
+      let by_table : Bool = (is_one (size p) || goes_on k (claim p)) && is_front order given in
       let by_facts : Bool = keeps && order_follows (equal_at catalog_of sent) (determined catalog_of sent) given order in
       ⊎_elim
       (λ first. ⊎_elim
       (λ m. by-merge keeps merges order (front catalog_of sent sent-formed merge order merge-below l m))
-      (λ g. by-given keeps (going (and-left (is_one (size p) || goes_on k (claim p)) (is_prefix order given) g)) order
-      (front catalog_of sent sent-formed given order given-below l (and-right (is_one (size p) || goes_on k (claim p)) (is_prefix order given) g)))
-      (or-cases (is_prefix order merge) by_table first))
+      (λ g. by-given keeps (going (and-left (is_one (size p) || goes_on k (claim p)) (is_front order given) g)) order
+      (front catalog_of sent sent-formed given order given-below l (and-right (is_one (size p) || goes_on k (claim p)) (is_front order given) g)))
+      (or-cases (is_front order merge) by_table first))
       (λ second. ⊎_elim
       (λ m. by-merge keeps merges order m)
       (λ g. by-given keeps (and-left keeps (order_follows (equal_at catalog_of sent) (determined catalog_of sent) given order) g) order
@@ -233,26 +243,26 @@ module _ (s : Scope) (n : ℕ) (c : Claim) (k : ExchangeKind) (merge : List ℕ)
       (or-cases (order_follows (equal_at catalog_of sent) (determined catalog_of sent) merge order) by_facts second))
       (or-cases (orders catalog_of sent order) (order_derived catalog_of sent order) e)
 
-  sent-shown : (b : Bool) (order : List ℕ) → Follows catalog_of sent (cond b given merge) order
+  sent-shown : (b : Bool) (order : List OrderEntry) → Follows catalog_of sent (cond b given merge) order
       → (order_follows (equal_at catalog_of sent) (determined catalog_of sent) merge order
       || (b && order_follows (equal_at catalog_of sent) (determined catalog_of sent) given order)) ≡ true
   sent-shown true order f = or-right (order_follows (equal_at catalog_of sent) (determined catalog_of sent) merge order) _ f
   sent-shown false order f = or-left (order_follows (equal_at catalog_of sent) (determined catalog_of sent) merge order) _ f
 
-  sent-below : (b : Bool) → all_below (width catalog_of sent) (cond b given merge) ≡ true
+  sent-below : (b : Bool) → all_below (width catalog_of sent) (order_columns (cond b given merge)) ≡ true
   sent-below true = given-below
   sent-below false = merge-below
 
 -- ---- all nodes
 
-abbrev had : (ℕ → Relation) → Plan → List ℕ
+abbrev had : (ℕ → Relation) → Plan → List OrderEntry
 had catalog p = order_had catalog p (part_below p) (order_below p)
 
 -- of the order that a node has: it is of its columns; what follows from it is shown; and what is shown follows from it
 record IsHad (catalog : ℕ → Relation) (p : Plan) : Type 0 where
-  pub of_node : all_below (width catalog p) (had catalog p) ≡ true
-  pub gives : (order : List ℕ) → Follows catalog p (had catalog p) order → order_derived catalog p order ≡ true
-  pub tells : order_given_derived catalog p ≡ true → (order : List ℕ) → all_below (width catalog p) order ≡ true
+  pub of_node : all_below (width catalog p) (order_columns (had catalog p)) ≡ true
+  pub gives : (order : List OrderEntry) → Follows catalog p (had catalog p) order → order_derived catalog p order ≡ true
+  pub tells : order_given_derived catalog p ≡ true → (order : List OrderEntry) → all_below (width catalog p) (order_columns order) ≡ true
       → (orders catalog p order || order_derived catalog p order) ≡ true → Follows catalog p (had catalog p) order
 
 is-had : (s : Scope) (p : Plan) → IsCatalog s.catalog → typed s p ≡ true → IsHad (relation_at s.catalog) p
@@ -284,7 +294,7 @@ is-had s (binary n c op p q) catalog h =
           ⊎_elim (λ k. front rel x (typed-well-formed s x h) (binary_order op (claim p).order) order under l (begins order op k)) (λ f. f) (or-cases (orders rel x order) (order_derived rel x order) e);
     }
   where
-    begins : (order : List ℕ) (o : Binary) → orders (relation_at s.catalog) (binary n c o p q) order ≡ true → is_prefix order (binary_order o (claim p).order) ≡ true
+    begins : (order : List OrderEntry) (o : Binary) → orders (relation_at s.catalog) (binary n c o p q) order ≡ true → is_front order (binary_order o (claim p).order) ≡ true
     begins order union k = k
     begins order (join m on) k = k
     begins order (semi_join matched on conditions) k = k
@@ -304,14 +314,14 @@ longest-order s p catalog h =
     let closes : Closes w e det = closes-at rel p (typed-well-formed s p h) in
     let told = is-had s p catalog h in
     let low : (c : ℕ) → c < w → first_equal w e c < w = λ c l. let b = first-before w e is c l in omega (arith, l, b) in
-    let given : List ℕ = had rel p in
-    let under = named-below w e is (short det given) (shortened-below w det [] given told.of_node) in
-    let short_is = named-short w e det closes is (first_equal w e) (first-equal w e is) low (named-below w e is) given told.of_node in
+    let given : List OrderEntry = had rel p in
+    let under = ordered-below w e is (short det given) (shortened-below w det [] given told.of_node) in
+    let short_is = named-short w e det closes is (first_equal w e) (first-equal w e is) low (ordered-below w e is) given told.of_node in
     record {
-      shown = told.gives (order_over_claims rel p) (named-follows w e det closes is (first_equal w e) (first-equal w e is) low (named-below w e is) given told.of_node);
+      shown = told.gives (order_over_claims rel p) (named-follows w e det closes is (first_equal w e) (first-equal w e is) low (ordered-below w e is) given told.of_node);
       most = λ needed order l k.
-          follows-named w e det closes is (first_equal w e) (first-equal w e is) low (named-below w e is) given order told.of_node (told.tells needed order l k);
+          follows-named w e det closes is (first_equal w e) (first-equal w e is) low (ordered-below w e is) given order told.of_node (told.tells needed order l k);
       shortened = short_is;
-      firsts = named-firsts w e is (short det given) (shortened-below w det [] given told.of_node);
-      columns = and-both (all_below w (order_over_claims rel p)) (are_distinct (order_over_claims rel p)) under (short-distinct w e det closes (order_over_claims rel p) under short_is);
+      firsts = ordered-firsts w e is (short det given) (shortened-below w det [] given told.of_node);
+      columns = and-both (all_below w (order_columns (order_over_claims rel p))) (are_distinct (order_columns (order_over_claims rel p))) under (short-distinct w e det closes (order_over_claims rel p) under short_is);
     }

@@ -1,10 +1,11 @@
 -- The part that a node shows tells each part that passes its test.
 use Rattle.std.proofs.Common.{◌≡◌, ◌∙◌, ℕ, ◌+◌, ◌≤◌, Bool, true, false, cond, ◌&&◌, ◌||◌, ⊎_elim, List, [], ◌∷◌, ◌++◌, Some, refl, sym, subst, arith, true≢false}
 use Rattle.std.specs.List.{list_any}
+use Rattle.vx_rows_values.specs.declared.order.OrderEntry.{OrderEntry}
 use Rattle.vx_rows_values.proofs.Booleans.{and-left, and-right}
 use Rattle.vx_catalog_relations.specs.Relation.{Relation}
 use Rattle.vx_catalog_relations.specs.Catalog.{relation_at, all_below, are_distinct}
-use Rattle.vx_plan_nodes.specs.Plan.{Part, one, any, all, routed, Claim, claim, Condition, Unary, union, join, semi_join, ExchangeKind, Plan, scan, unary, binary, exchange, size, is_one, Size}
+use Rattle.vx_plan_nodes.specs.Plan.{Part, one, any, all, routed, Claim, claim, Condition, Unary, JoinMethod, union, join, semi_join, ExchangeKind, Plan, scan, unary, binary, exchange, size, is_one, Size}
 use Rattle.vx_plan_nodes.specs.Parts.{kind_part}
 use Rattle.vx_plan_nodes.specs.Types.{width, part_columns}
 use Rattle.vx_plan_nodes.specs.Describe.{whole_rows, left_of, right_of, no_columns, paired_on, matched_on, described}
@@ -107,7 +108,7 @@ module _ (catalog : List Relation) (n : ℕ) (c : Claim) where
       (λ s. union-tells (width at p) e f (equal-equivalence at p) (equal-equivalence at q) x y z (and-left (part_matches e x z) (part_matches f y z) s) (and-right (part_matches e x z) (part_matches f y z) s) low)
       (or-cases (unless_one (shows at top) z) (part_derived at top z) h)
 
-  join-most : (m : Bool) (on : List (ℕ × ℕ)) (p q : Plan) (z : Part) → IsTypedOver catalog (binary n c (join m on) p q) → is_one (size p) ≡ false → is_one (size q) ≡ false
+  join-most : (m : JoinMethod) (on : List (ℕ × ℕ)) (p q : Plan) (z : Part) → IsTypedOver catalog (binary n c (join m on) p q) → is_one (size p) ≡ false → is_one (size q) ≡ false
       → all_below (width at p + width at q) (part_columns z) ≡ true → passes at (binary n c (join m on) p q) z ≡ true
       → told (equal_at at (binary n c (join m on) p q)) (part_over at (binary n c (join m on) p q) (claim p).part (claim q).part) z ≡ true
   join-most m on p q z typed_x several beside low h =
@@ -169,7 +170,7 @@ module _ (catalog : List Relation) (n : ℕ) (c : Claim) where
       (or-cases (is_any z && alike) ((has q all || alike) && routed_as w whole_rows e e x z) s))
       (or-cases (unless_one (shows at top) z) (part_derived at top z) h)
 
-  sent-most : (k : ExchangeKind) (m : List ℕ) (p : Plan) (q : Part) → is_one (size (exchange n c k m p)) ≡ false → passes at (exchange n c k m p) q ≡ true
+  sent-most : (k : ExchangeKind) (m : List OrderEntry) (p : Plan) (q : Part) → is_one (size (exchange n c k m p)) ≡ false → passes at (exchange n c k m p) q ≡ true
       → told (equal_at at p) (kind_part k) q ≡ true
   sent-most k m p q several h =
       let top : Plan = exchange n c k m p in

@@ -1,11 +1,12 @@
 -- What typed nodes do with equal columns and with the parts that their inputs claim.
-use Rattle.std.proofs.Common.{◌≡◌, ◌∙◌, ℕ, ◌+◌, ◌==◌, nat_lt, Bool, true, false, ◌&&◌, ◌||◌, List, [], ◌∷◌, Some, refl, ap₂, sym, subst}
+use Rattle.std.proofs.Common.{◌≡◌, ◌∙◌, ℕ, ◌+◌, ◌==◌, nat_lt, true, false, ◌&&◌, ◌||◌, List, [], ◌∷◌, Some, refl, ap₂, sym, subst}
 use Rattle.std.specs.List.{list_all}
 use Rattle.std.proofs.lemmas.Bool.{eq-eqb}
+use Rattle.vx_rows_values.specs.Order.{order_columns}
 use Rattle.vx_rows_values.proofs.Booleans.{and-left, and-right, and-both}
 use Rattle.vx_catalog_relations.specs.Relation.{Relation}
 use Rattle.vx_catalog_relations.specs.Catalog.{relation_at, all_below}
-use Rattle.vx_plan_nodes.specs.Plan.{column, constant, equal, unequal, below, at_most, above, at_least, Test, Side, Condition, claim, Size, one_worker, group_of, size_eq, Unary, select, project, distinct, sort, group, limit, union, join, semi_join, Plan, scan, unary, binary, exchange, is_one}
+use Rattle.vx_plan_nodes.specs.Plan.{column, constant, equal, unequal, below, at_most, above, at_least, Test, Side, Condition, claim, Size, one_worker, group_of, size_eq, Unary, select, project, distinct, sort, group, limit, JoinMethod, union, join, semi_join, Plan, scan, unary, binary, exchange, is_one}
 use Rattle.vx_plan_nodes.specs.Phases.{phase_fits, both_closed}
 use Rattle.vx_plan_nodes.specs.Types.{width, part_columns, names_columns, well_formed}
 use Rattle.vx_plan_nodes.specs.Describe.{Copying, whole_rows, left_of, right_of, source, described}
@@ -46,7 +47,7 @@ claim-named catalog (exchange n c k m p) h = and-right (well_formed catalog p) (
 pub part-named : (catalog : List Relation) (p : Plan) → IsTypedOver catalog p → all_below (width (relation_at catalog) p) (part_columns (claim p).part) ≡ true
 part-named catalog p h =
     let w : ℕ = width (relation_at catalog) p in
-    and-left (all_below w (part_columns (claim p).part)) (all_below w (claim p).order && list_all (all_below w) (claim p).keys) (claim-named (relation_at catalog) p (formed-over catalog p h))
+    and-left (all_below w (part_columns (claim p).part)) (all_below w (order_columns (claim p).order) && list_all (all_below w) (claim p).keys) (claim-named (relation_at catalog) p (formed-over catalog p h))
 
 -- ---- workers
 
@@ -97,12 +98,12 @@ unary-lifts (limit m) e a b y z s t h = lifted-lifts (described (limit m)).copyi
 pub whole-lifts : (e : Equality) → Lifts whole_rows e e
 whole-lifts e a b y z s t h = subst (λ u. e u b ≡ true) (sym (whole-is a y s)) (subst (λ u. e y u ≡ true) (sym (whole-is b z t)) h)
 
-pub left-lifts : (v : ℕ) (m : Bool) (on : List (ℕ × ℕ)) (e f : Equality) → Lifts (left_of v) e (binary_equal v (join m on) e f)
+pub left-lifts : (v : ℕ) (m : JoinMethod) (on : List (ℕ × ℕ)) (e f : Equality) → Lifts (left_of v) e (binary_equal v (join m on) e f)
 left-lifts v m on e f a b y z s t h =
     pairs-keep v on (λ c d. lifted (left_of v) e c d || lifted (right_of v) f c d) a b
     (or-left (lifted (left_of v) e a b) (lifted (right_of v) f a b) (lifted-lifts (left_of v) e a b y z s t h))
 
-pub right-lifts : (v : ℕ) (m : Bool) (on : List (ℕ × ℕ)) (e f : Equality) → Lifts (right_of v) f (binary_equal v (join m on) e f)
+pub right-lifts : (v : ℕ) (m : JoinMethod) (on : List (ℕ × ℕ)) (e f : Equality) → Lifts (right_of v) f (binary_equal v (join m on) e f)
 right-lifts v m on e f a b y z s t h =
     pairs-keep v on (λ c d. lifted (left_of v) e c d || lifted (right_of v) f c d) a b
     (or-right (lifted (left_of v) e a b) (lifted (right_of v) f a b) (lifted-lifts (right_of v) f a b y z s t h))
@@ -127,7 +128,7 @@ pairs-equal v w on e itself named = go on named (λ a b h. h)
         (more p.0 (v + p.1) (pair-itself p.0 (v + p.1) (with_pairs v ps e) (self ps p.0) (self ps (v + p.1)))))
         (go ps (and-right (pair_within v w p) (list_all (pair_within v w) ps) h) (λ a b k. more a b (pair-keeps p.0 (v + p.1) (with_pairs v ps e) a b k)))
 
-pub joined-equal : (v w : ℕ) (m : Bool) (on : List (ℕ × ℕ)) (e f : Equality) → ((a : ℕ) → e a a ≡ true) → list_all (pair_within v w) on ≡ true
+pub joined-equal : (v w : ℕ) (m : JoinMethod) (on : List (ℕ × ℕ)) (e f : Equality) → ((a : ℕ) → e a a ≡ true) → list_all (pair_within v w) on ≡ true
     → list_all (λ p. nat_lt p.0 v && binary_equal v (join m on) e f p.0 (v + p.1)) on ≡ true
 joined-equal v w m on e f itself named =
     pairs-equal v w on (λ a b. lifted (left_of v) e a b || lifted (right_of v) f a b)

@@ -1,5 +1,6 @@
 -- The part that a node shows names columns of the node.
 use Rattle.std.proofs.Common.{◌≡◌, ◌∙◌, ℕ, ◌+◌, nat_lt, Bool, true, false, cond, not, ◌&&◌, List, [], ◌∷◌, length, Option, Some, None, refl, ap, subst}
+use Rattle.vx_rows_values.specs.declared.order.OrderEntry.{OrderEntry}
 use Rattle.vx_rows_values.specs.declared.value.ColType.{ColType}
 use Rattle.vx_rows_values.specs.Lists.{is_some_list}
 use Rattle.vx_rows_values.proofs.Booleans.{and-left, and-right}
@@ -61,7 +62,7 @@ kind-named s types (broadcast z) h = refl
 kind-named s types gather h = refl
 kind-named s types concat h = refl
 
-sent-named : (catalog : List Relation) (n : ℕ) (c : Claim) (k : ExchangeKind) (m : List ℕ) (p : Plan) → IsTypedOver catalog (exchange n c k m p)
+sent-named : (catalog : List Relation) (n : ℕ) (c : Claim) (k : ExchangeKind) (m : List OrderEntry) (p : Plan) → IsTypedOver catalog (exchange n c k m p)
     → all_below (width (relation_at catalog) p) (part_columns (kind_part k)) ≡ true
 sent-named catalog n c k m p (s, same, typed_x) =
     let types : List ColType = types_of (relation_at s.catalog) p in

@@ -2,6 +2,7 @@
 use Rattle.std.proofs.Common.{◌≡◌, ℕ, nat_lt, nat_le, List, [], length, Bool, true, false, not, ◌&&◌, refl, sym, ap, ◌∙◌, subst}
 use Rattle.std.specs.List.{list_all}
 use Rattle.vx_rows_values.specs.declared.value.ColType.{ColType}
+use Rattle.vx_rows_values.specs.Order.{order_columns}
 use Rattle.vx_rows_values.proofs.Booleans.{and-left, and-right, and-both}
 use Rattle.vx_catalog_relations.specs.Relation.{Relation}
 use Rattle.vx_catalog_relations.specs.Catalog.{relation_at}
@@ -64,8 +65,8 @@ fits-bare : (op : Unary) (p : Plan) → phase_fits op (bare p) ≡ phase_fits op
 fits-bare (select cs) p = ap not (open-bare p)
 fits-bare (project cols) p = ap not (open-bare p)
 fits-bare (distinct cols) p = ap not (open-bare p)
-fits-bare (sort false cols) p = ap not (open-bare p)
-fits-bare (sort true cols) p = open-bare p
+fits-bare (sort false order) p = ap not (open-bare p)
+fits-bare (sort true order) p = open-bare p
 fits-bare (group plain by aggregates) p = ap not (open-bare p)
 fits-bare (group partial by aggregates) p = ap not (open-bare p)
 fits-bare (group final by aggregates) p = opens-bare by aggregates p
@@ -115,8 +116,8 @@ split s (binary n c op p q) h =
     ∙ ap (λ b. typed s p && (typed s q && (both_closed p q && (is_binary (types_of C p) (types_of C q) op && b)))) (with-claim s (binary_types op (types_of C p) (types_of C q)) c h.2)
 split s (exchange n c k m p) h =
     let C : ℕ → Relation = relation_at s.catalog in
-    (λ i. split s p h.0 i && (is_kind s (types-bare C p i) k && (are_columns (length (types-bare C p i)) m && (may_merge k m && is_output s (types-bare C p i) (keyless any [])))))
-    ∙ ap (λ b. typed s p && (is_kind s (types_of C p) k && (are_columns (length (types_of C p)) m && (may_merge k m && b)))) (with-claim s (types_of C p) c h.1)
+    (λ i. split s p h.0 i && (is_kind s (types-bare C p i) k && (are_columns (length (types-bare C p i)) (order_columns m) && (may_merge k m && is_output s (types-bare C p i) (keyless any [])))))
+    ∙ ap (λ b. typed s p && (is_kind s (types_of C p) k && (are_columns (length (types_of C p)) (order_columns m) && (may_merge k m && b)))) (with-claim s (types_of C p) c h.1)
 
 -- the claims of a typed plan are
 fourth : (a b c d : Bool) → (a && (b && (c && d))) ≡ true → d ≡ true
@@ -143,7 +144,7 @@ claims-typed s (exchange n c k m p) h =
     let types : List ColType = types_of (relation_at s.catalog) p in (
       claims-typed s p (and-left (typed s p) _ h),
       and-right (nat_le (length types) 64) (is_claim s types c)
-          (fourth (is_kind s types k) (are_columns (length types) m) (may_merge k m) (is_output s types c) (and-right (typed s p) _ h)),
+          (fourth (is_kind s types k) (are_columns (length types) (order_columns m)) (may_merge k m) (is_output s types c) (and-right (typed s p) _ h)),
     )
 
 bare-typed : (s : Scope) (p : Plan) → typed s p ≡ true → typed s (bare p) ≡ true

@@ -1,5 +1,7 @@
 -- Orders without what earlier columns determine: shortened again, by equal columns, and at a node that determines more.
 use Rattle.std.proofs.Common.{◌≡◌, ◌∙◌, ℕ, ◌<◌, ◌==◌, nat_lt, Bool, true, false, cond, ◌||◌, List, [], ◌∷◌, map, refl, sym, ap, subst, true≢false, eqb-true, eq-eqb, ltb-true, not}
+use Rattle.vx_rows_values.specs.declared.order.OrderEntry.{OrderEntry}
+use Rattle.vx_rows_values.specs.Order.{order_columns, entry_eq}
 use Rattle.vx_rows_values.proofs.Booleans.{and-left, and-right, and-both}
 use Rattle.std.specs.List.{list_any}
 use Rattle.vx_plan_facts.proofs.Tests.{or-left, or-right}
@@ -7,68 +9,81 @@ use Rattle.vx_catalog_relations.specs.Catalog.{all_below, are_distinct}
 use Rattle.vx_plan_facts.specs.Equal.{Equality}
 use Rattle.vx_plan_facts.specs.Determined.{Columns}
 use Rattle.vx_plan_facts.specs.DeterminedFacts.{WithinFirst}
-use Rattle.vx_plan_facts.specs.Following.{begins_equally, short, order_follows}
-use Rattle.vx_check_rules.specs.Rules.{is_prefix}
+use Rattle.vx_plan_facts.specs.Following.{equal_entries, begins_equally, short, order_follows}
+use Rattle.vx_check_rules.specs.Rules.{is_front, entry_at}
 use Rattle.vx_check_rules.proofs.Shortening.{Closes, with_one, short_past, Alike, alike-same, alike-equal, alike-passed, short-same, short-starts}
+use Rattle.vx_check_shown.proofs.Entries.{one_way, way-itself, entry-same, entry-itself, entry-chain}
 use Rattle.vx_check_shown.proofs.Equivalent.{IsEquivalence}
 
 -- no column
 abbrev pub none_of : Columns
 none_of c = false
 
-pub column-below : (w c : ℕ) (cols : List ℕ) → all_below w (c ∷ cols) ≡ true → c < w
-column-below w c cols l = ltb-true c w (and-left (nat_lt c w) (all_below w cols) l)
+pub column-below : (w : ℕ) (c : OrderEntry) (order : List OrderEntry) → all_below w (order_columns (c ∷ order)) ≡ true → c.column < w
+column-below w c order l = ltb-true c.column w (and-left (nat_lt c.column w) (all_below w (order_columns order)) l)
 
-pub rest-below : (w c : ℕ) (cols : List ℕ) → all_below w (c ∷ cols) ≡ true → all_below w cols ≡ true
-rest-below w c cols l = and-right (nat_lt c w) (all_below w cols) l
+pub rest-below : (w : ℕ) (c : OrderEntry) (order : List OrderEntry) → all_below w (order_columns (c ∷ order)) ≡ true → all_below w (order_columns order) ≡ true
+rest-below w c order l = and-right (nat_lt c.column w) (all_below w (order_columns order)) l
 
--- ---- lists that begin others
+-- the entries by other columns, in their directions
+abbrev pub by_columns : (ℕ → ℕ) → List OrderEntry → List OrderEntry
+by_columns f order = map (λ x. entry_at (f x.column) x) order
+
+-- ---- orders that begin others
 
 module _ (e : Equality) (is : IsEquivalence e) where
-  pub begins-itself : (xs : List ℕ) → begins_equally e xs xs ≡ true
+  pub begins-itself : (xs : List OrderEntry) → begins_equally e xs xs ≡ true
   begins-itself [] = refl
-  begins-itself (x ∷ xs) = and-both (e x x) (begins_equally e xs xs) (is.itself x) (begins-itself xs)
+  begins-itself (x ∷ xs) = and-both (equal_entries e x x) (begins_equally e xs xs) (entry-itself e is.itself x) (begins-itself xs)
 
-  pub begins-chain : (xs ys zs : List ℕ) → begins_equally e xs ys ≡ true → begins_equally e ys zs ≡ true → begins_equally e xs zs ≡ true
+  pub begins-chain : (xs ys zs : List OrderEntry) → begins_equally e xs ys ≡ true → begins_equally e ys zs ≡ true → begins_equally e xs zs ≡ true
   begins-chain [] ys zs h k = refl
   begins-chain (x ∷ xs) [] zs h k = absurd (true≢false (sym h))
   begins-chain (x ∷ xs) (y ∷ ys) [] h k = absurd (true≢false (sym k))
   begins-chain (x ∷ xs) (y ∷ ys) (z ∷ zs) h k =
-      and-both (e x z) (begins_equally e xs zs) (is.chain x y z (and-left (e x y) (begins_equally e xs ys) h) (and-left (e y z) (begins_equally e ys zs) k))
-      (begins-chain xs ys zs (and-right (e x y) (begins_equally e xs ys) h) (and-right (e y z) (begins_equally e ys zs) k))
+      and-both (equal_entries e x z) (begins_equally e xs zs)
+      (entry-chain e is.chain x y z (and-left (equal_entries e x y) (begins_equally e xs ys) h) (and-left (equal_entries e y z) (begins_equally e ys zs) k))
+      (begins-chain xs ys zs (and-right (equal_entries e x y) (begins_equally e xs ys) h) (and-right (equal_entries e y z) (begins_equally e ys zs) k))
 
-  -- each column by an equal one
-  pub begins-named : (w : ℕ) (f : ℕ → ℕ) → ((c : ℕ) → c < w → e (f c) c ≡ true) → (xs : List ℕ) → all_below w xs ≡ true
-      → (begins_equally e (map f xs) xs ≡ true) × (begins_equally e xs (map f xs) ≡ true)
+  -- each entry by an equal column
+  pub begins-named : (w : ℕ) (f : ℕ → ℕ) → ((c : ℕ) → c < w → e (f c) c ≡ true) → (xs : List OrderEntry) → all_below w (order_columns xs) ≡ true
+      → (begins_equally e (by_columns f xs) xs ≡ true) × (begins_equally e xs (by_columns f xs) ≡ true)
   begins-named w f same [] l = (refl, refl)
   begins-named w f same (x ∷ xs) l =
       let rest = begins-named w f same xs (rest-below w x xs l) in
-      let here = same x (column-below w x xs l) in
-      (and-both (e (f x) x) (begins_equally e (map f xs) xs) here rest.0, and-both (e x (f x)) (begins_equally e xs (map f xs)) (is.swap (f x) x here) rest.1)
+      let c : ℕ = x.column in
+      let y : OrderEntry = entry_at (f c) x in
+      let here : e (f c) c ≡ true = same c (column-below w x xs l) in
+      let way : one_way x.falling x.falling ≡ true = way-itself x.falling in (
+        and-both (equal_entries e y x) (begins_equally e (by_columns f xs) xs) (and-both (e (f c) c) (one_way x.falling x.falling) here way) rest.0,
+        and-both (equal_entries e x y) (begins_equally e xs (by_columns f xs)) (and-both (e c (f c)) (one_way x.falling x.falling) (is.swap (f c) c here) way) rest.1,
+      )
 
 module _ (w : ℕ) (e : Equality) (det : Columns → Columns) (closes : Closes w e det) (is : IsEquivalence e) where
   -- what is short stays so
-  pub short-again : (s : Columns) (cols : List ℕ) → short_past det s (short_past det s cols) ≡ short_past det s cols
+  pub short-again : (s : Columns) (order : List OrderEntry) → short_past det s (short_past det s order) ≡ short_past det s order
   short-again s [] = refl
-  short-again s (c ∷ cols) = go (det s c) refl (short-again s cols) (short-again (with_one s c) cols)
+  short-again s (c ∷ order) = go (det s c.column) refl (short-again s order) (short-again (with_one s c.column) order)
     where
-      go : (b : Bool) → det s c ≡ b → short_past det s (short_past det s cols) ≡ short_past det s cols
-          → short_past det (with_one s c) (short_past det (with_one s c) cols) ≡ short_past det (with_one s c) cols
-          → short_past det s (cond b (short_past det s cols) (c ∷ short_past det (with_one s c) cols)) ≡ cond b (short_past det s cols) (c ∷ short_past det (with_one s c) cols)
+      go : (b : Bool) → det s c.column ≡ b → short_past det s (short_past det s order) ≡ short_past det s order
+          → short_past det (with_one s c.column) (short_past det (with_one s c.column) order) ≡ short_past det (with_one s c.column) order
+          → short_past det s (cond b (short_past det s order) (c ∷ short_past det (with_one s c.column) order))
+          ≡ cond b (short_past det s order) (c ∷ short_past det (with_one s c.column) order)
       go true h x y = x
       go false h x y =
-          let rest : List ℕ = short_past det (with_one s c) cols in
-          ap (λ b. cond b (short_past det s rest) (c ∷ short_past det (with_one s c) rest)) h ∙ ap (λ xs. c ∷ xs) y
+          let rest : List OrderEntry = short_past det (with_one s c.column) order in
+          ap (λ b. cond b (short_past det s rest) (c ∷ short_past det (with_one s c.column) rest)) h ∙ ap (λ xs. c ∷ xs) y
 
   -- so is what names equal columns
   pub short-named : (f : ℕ → ℕ) → ((c : ℕ) → c < w → e (f c) c ≡ true) → ((c : ℕ) → c < w → f c < w) → (s t : Columns) → Alike w det s t
-      → (cols : List ℕ) → all_below w cols ≡ true → short_past det s (map f cols) ≡ map f (short_past det t cols)
+      → (order : List OrderEntry) → all_below w (order_columns order) ≡ true → short_past det s (by_columns f order) ≡ by_columns f (short_past det t order)
   short-named f same low s t alike [] l = refl
-  short-named f same low s t alike (c ∷ cols) l =
-      let below = column-below w c cols l in
-      let rest = rest-below w c cols l in
-      go (det s (f c)) (det t c) (both c below) (short-named f same low s t alike cols rest)
-      (short-named f same low (with_one s (f c)) (with_one t c) (alike-equal w e det closes s t (f c) c (low c below) below (same c below) alike) cols rest)
+  short-named f same low s t alike (x ∷ order) l =
+      let c : ℕ = x.column in
+      let below = column-below w x order l in
+      let rest = rest-below w x order l in
+      go (det s (f c)) (det t c) (both c below) (short-named f same low s t alike order rest)
+      (short-named f same low (with_one s (f c)) (with_one t c) (alike-equal w e det closes s t (f c) c (low c below) below (same c below) alike) order rest)
     where
       same-bool : (a b : Bool) → (a ≡ true → b ≡ true) → (b ≡ true → a ≡ true) → a ≡ b
       same-bool true b f g = sym (f refl)
@@ -80,82 +95,95 @@ module _ (w : ℕ) (e : Equality) (det : Columns → Columns) (closes : Closes w
           (λ h. alike.there c m (closes.equal s (f c) c (low c m) m (same c m) h))
           (λ h. closes.equal s c (f c) m (low c m) (closes.swap (f c) c (low c m) m (same c m)) (alike.back c m h))
 
-      go : (a b : Bool) → a ≡ b → short_past det s (map f cols) ≡ map f (short_past det t cols)
-          → short_past det (with_one s (f c)) (map f cols) ≡ map f (short_past det (with_one t c) cols)
-          → cond a (short_past det s (map f cols)) (f c ∷ short_past det (with_one s (f c)) (map f cols)) ≡ map f (cond b (short_past det t cols) (c ∷ short_past det (with_one t c) cols))
-      go true true h x y = x
-      go true false h x y = absurd (true≢false h)
-      go false true h x y = absurd (true≢false (sym h))
-      go false false h x y = ap (λ xs. f c ∷ xs) y
+      go : (a b : Bool) → a ≡ b → short_past det s (by_columns f order) ≡ by_columns f (short_past det t order)
+          → short_past det (with_one s (f x.column)) (by_columns f order) ≡ by_columns f (short_past det (with_one t x.column) order)
+          → cond a (short_past det s (by_columns f order)) (entry_at (f x.column) x ∷ short_past det (with_one s (f x.column)) (by_columns f order))
+          ≡ by_columns f (cond b (short_past det t order) (x ∷ short_past det (with_one t x.column) order))
+      go true true h u v = u
+      go true false h u v = absurd (true≢false h)
+      go false true h u v = absurd (true≢false (sym h))
+      go false false h u v = ap (λ xs. entry_at (f x.column) x ∷ xs) v
 
-  starts : (cols : List ℕ) → all_below w cols ≡ true → short det cols ≡ short_past det none_of cols
-  starts cols l = short-starts w e det closes none_of cols (λ c. refl) l
+  starts : (order : List OrderEntry) → all_below w (order_columns order) ≡ true → short det order ≡ short_past det none_of order
+  starts order l = short-starts w e det closes none_of order (λ c. refl) l
 
-  past-below : (s : Columns) (cols : List ℕ) → all_below w cols ≡ true → all_below w (short_past det s cols) ≡ true
+  past-below : (s : Columns) (order : List OrderEntry) → all_below w (order_columns order) ≡ true → all_below w (order_columns (short_past det s order)) ≡ true
   past-below s [] l = refl
-  past-below s (c ∷ cols) l = go (det s c) (past-below s cols (rest-below w c cols l)) (past-below (with_one s c) cols (rest-below w c cols l))
+  past-below s (c ∷ order) l = go (det s c.column) (past-below s order (rest-below w c order l)) (past-below (with_one s c.column) order (rest-below w c order l))
     where
-      go : (b : Bool) → all_below w (short_past det s cols) ≡ true → all_below w (short_past det (with_one s c) cols) ≡ true
-          → all_below w (cond b (short_past det s cols) (c ∷ short_past det (with_one s c) cols)) ≡ true
+      go : (b : Bool) → all_below w (order_columns (short_past det s order)) ≡ true → all_below w (order_columns (short_past det (with_one s c.column) order)) ≡ true
+          → all_below w (order_columns (cond b (short_past det s order) (c ∷ short_past det (with_one s c.column) order))) ≡ true
       go true x y = x
-      go false x y = and-both (nat_lt c w) (all_below w (short_past det (with_one s c) cols)) (and-left (nat_lt c w) (all_below w cols) l) y
+      go false x y =
+          and-both (nat_lt c.column w) (all_below w (order_columns (short_past det (with_one s c.column) order))) (and-left (nat_lt c.column w) (all_below w (order_columns order)) l) y
 
-  pub short-below : (cols : List ℕ) → all_below w cols ≡ true → all_below w (short det cols) ≡ true
-  short-below cols l = let P : List ℕ → Type 0 = λ xs. all_below w xs ≡ true in subst P (sym (starts cols l)) (past-below none_of cols l)
+  pub short-below : (order : List OrderEntry) → all_below w (order_columns order) ≡ true → all_below w (order_columns (short det order)) ≡ true
+  short-below order l =
+      let P : List OrderEntry → Type 0 = λ xs. all_below w (order_columns xs) ≡ true in
+      subst P (sym (starts order l)) (past-below none_of order l)
 
-  pub short-twice : (cols : List ℕ) → all_below w cols ≡ true → short det (short det cols) ≡ short det cols
-  short-twice cols l =
-      starts (short det cols) (short-below cols l) ∙ ap (short_past det none_of) (starts cols l) ∙ short-again none_of cols ∙ sym (starts cols l)
+  pub short-twice : (order : List OrderEntry) → all_below w (order_columns order) ≡ true → short det (short det order) ≡ short det order
+  short-twice order l =
+      starts (short det order) (short-below order l) ∙ ap (short_past det none_of) (starts order l) ∙ short-again none_of order ∙ sym (starts order l)
 
-  module _ (f : ℕ → ℕ) (same : (c : ℕ) → c < w → e (f c) c ≡ true) (low : (c : ℕ) → c < w → f c < w) (named_below : (cols : List ℕ) → all_below w cols ≡ true → all_below w (map f cols) ≡ true) where
+  module _ (f : ℕ → ℕ) (same : (c : ℕ) → c < w → e (f c) c ≡ true) (low : (c : ℕ) → c < w → f c < w)
+      (named_below : (order : List OrderEntry) → all_below w (order_columns order) ≡ true → all_below w (order_columns (by_columns f order)) ≡ true) where
     -- a short order by equal columns is short
-    pub named-short : (cols : List ℕ) → all_below w cols ≡ true → short det (map f (short det cols)) ≡ map f (short det cols)
-    named-short cols l =
-        let short_cols = short-below cols l in
-        starts (map f (short det cols)) (named_below (short det cols) short_cols)
-        ∙ short-named f same low none_of none_of (alike-same w e det closes none_of none_of (λ c m. refl)) (short det cols) short_cols
-        ∙ ap (map f) (sym (starts (short det cols) short_cols)) ∙ ap (map f) (short-twice cols l)
+    pub named-short : (order : List OrderEntry) → all_below w (order_columns order) ≡ true → short det (by_columns f (short det order)) ≡ by_columns f (short det order)
+    named-short order l =
+        let short_order = short-below order l in
+        starts (by_columns f (short det order)) (named_below (short det order) short_order)
+        ∙ short-named f same low none_of none_of (alike-same w e det closes none_of none_of (λ c m. refl)) (short det order) short_order
+        ∙ ap (by_columns f) (sym (starts (short det order) short_order)) ∙ ap (by_columns f) (short-twice order l)
 
     -- it follows from the order
-    pub named-follows : (cols : List ℕ) → all_below w cols ≡ true → order_follows e det cols (map f (short det cols)) ≡ true
-    named-follows cols l =
-        ap (λ xs. begins_equally e xs (short det cols)) (named-short cols l) ∙ (begins-named e is w f same (short det cols) (short-below cols l)).0
+    pub named-follows : (order : List OrderEntry) → all_below w (order_columns order) ≡ true → order_follows e det order (by_columns f (short det order)) ≡ true
+    named-follows order l =
+        ap (λ xs. begins_equally e xs (short det order)) (named-short order l) ∙ (begins-named e is w f same (short det order) (short-below order l)).0
 
     -- and what follows from the order follows from it
-    pub follows-named : (cols order : List ℕ) → all_below w cols ≡ true → order_follows e det cols order ≡ true → order_follows e det (map f (short det cols)) order ≡ true
-    follows-named cols order l h =
-        ap (begins_equally e (short det order)) (named-short cols l)
-        ∙ begins-chain e is (short det order) (short det cols) (map f (short det cols)) h (begins-named e is w f same (short det cols) (short-below cols l)).1
+    pub follows-named : (given order : List OrderEntry) → all_below w (order_columns given) ≡ true → order_follows e det given order ≡ true
+        → order_follows e det (by_columns f (short det given)) order ≡ true
+    follows-named given order l h =
+        ap (begins_equally e (short det order)) (named-short given l)
+        ∙ begins-chain e is (short det order) (short det given) (by_columns f (short det given)) h (begins-named e is w f same (short det given) (short-below given l)).1
 
   -- ---- a front of an order follows
 
-  front-past : (s : Columns) (xs ys : List ℕ) → is_prefix xs ys ≡ true → begins_equally e (short_past det s xs) (short_past det s ys) ≡ true
+  front-past : (s : Columns) (xs ys : List OrderEntry) → is_front xs ys ≡ true → begins_equally e (short_past det s xs) (short_past det s ys) ≡ true
   front-past s [] ys h = refl
   front-past s (x ∷ xs) [] h = absurd (true≢false (sym h))
   front-past s (x ∷ xs) (y ∷ ys) h =
-      let P : ℕ → Type 0 = λ v. begins_equally e (short_past det s (x ∷ xs)) (short_past det s (v ∷ ys)) ≡ true in
-      let k = and-right (x == y) (is_prefix xs ys) h in
-      subst P (eqb-true x y (and-left (x == y) (is_prefix xs ys) h)) (go (det s x) (front-past s xs ys k) (front-past (with_one s x) xs ys k))
+      let P : OrderEntry → Type 0 = λ v. begins_equally e (short_past det s (x ∷ xs)) (short_past det s (v ∷ ys)) ≡ true in
+      let k = and-right (entry_eq x y) (is_front xs ys) h in
+      subst P (entry-same x y (and-left (entry_eq x y) (is_front xs ys) h)) (go (det s x.column) (front-past s xs ys k) (front-past (with_one s x.column) xs ys k))
     where
       go : (b : Bool) → begins_equally e (short_past det s xs) (short_past det s ys) ≡ true
-          → begins_equally e (short_past det (with_one s x) xs) (short_past det (with_one s x) ys) ≡ true
-          → begins_equally e (cond b (short_past det s xs) (x ∷ short_past det (with_one s x) xs)) (cond b (short_past det s ys) (x ∷ short_past det (with_one s x) ys)) ≡ true
+          → begins_equally e (short_past det (with_one s x.column) xs) (short_past det (with_one s x.column) ys) ≡ true
+          → begins_equally e (cond b (short_past det s xs) (x ∷ short_past det (with_one s x.column) xs))
+          (cond b (short_past det s ys) (x ∷ short_past det (with_one s x.column) ys)) ≡ true
       go true u v = u
-      go false u v = and-both (e x x) (begins_equally e (short_past det (with_one s x) xs) (short_past det (with_one s x) ys)) (is.itself x) v
+      go false u v =
+          and-both (equal_entries e x x) (begins_equally e (short_past det (with_one s x.column) xs) (short_past det (with_one s x.column) ys)) (entry-itself e is.itself x) v
 
-  pub front-follows : (given order : List ℕ) → all_below w given ≡ true → all_below w order ≡ true → is_prefix order given ≡ true → order_follows e det given order ≡ true
+  pub front-follows : (given order : List OrderEntry) → all_below w (order_columns given) ≡ true → all_below w (order_columns order) ≡ true → is_front order given ≡ true
+      → order_follows e det given order ≡ true
   front-follows given order l m h =
       ap (λ xs. begins_equally e xs (short det given)) (starts order m) ∙ ap (begins_equally e (short_past det none_of order)) (starts given l)
       ∙ front-past none_of order given h
 
 module _ (w : ℕ) (e : Equality) (more : Columns → Columns) (too : Closes w e more) where
-  -- a column that both orders go on with
-  pub both-go : (s : Columns) (c d : ℕ) (order given : List ℕ) → c < w → d < w → all_below w order ≡ true → all_below w given ≡ true → e c d ≡ true
-      → begins_equally e (short_past more (with_one s c) order) (short_past more (with_one s c) given) ≡ true
+  -- an entry that both orders go on with
+  pub both-go : (s : Columns) (c d : OrderEntry) (order given : List OrderEntry) → c.column < w → d.column < w → all_below w (order_columns order) ≡ true
+      → all_below w (order_columns given) ≡ true → equal_entries e c d ≡ true
+      → begins_equally e (short_past more (with_one s c.column) order) (short_past more (with_one s c.column) given) ≡ true
       → begins_equally e (short_past more s (c ∷ order)) (short_past more s (d ∷ given)) ≡ true
-  both-go s c d order given lc ld lo lg same h = go (more s c) (more s d) refl (one (more s c) (more s d)
-      (λ k. too.equal s c d lc ld same k) (λ k. too.equal s d c ld lc (too.swap c d lc ld same) k))
+  both-go s c d order given lc ld lo lg alike h = go (more s c.column) (more s d.column) refl (one (more s c.column) (more s d.column)
+      (λ k. too.equal s c.column d.column lc ld same k) (λ k. too.equal s d.column c.column ld lc (too.swap c.column d.column lc ld same) k))
     where
+      same : e c.column d.column ≡ true
+      same = and-left (e c.column d.column) (one_way c.falling d.falling) alike
+
       itself : Alike w more s s
       itself = alike-same w e more too s s (λ x l. refl)
 
@@ -164,71 +192,81 @@ module _ (w : ℕ) (e : Equality) (more : Columns → Columns) (too : Closes w e
       one false true f g = g refl
       one false false f g = refl
 
-      go : (a b : Bool) → more s c ≡ a → a ≡ b
-          → begins_equally e (cond a (short_past more s order) (c ∷ short_past more (with_one s c) order)) (cond b (short_past more s given) (d ∷ short_past more (with_one s d) given)) ≡ true
+      go : (a b : Bool) → more s c.column ≡ a → a ≡ b
+          → begins_equally e (cond a (short_past more s order) (c ∷ short_past more (with_one s c.column) order))
+          (cond b (short_past more s given) (d ∷ short_past more (with_one s d.column) given)) ≡ true
       go true true k j =
-          let passed : Alike w more (with_one s c) s = alike-passed w e more too s s c k lc itself in
-          ap (λ xs. begins_equally e xs (short_past more s given)) (sym (short-same w e more too (with_one s c) s order passed lo))
-          ∙ ap (begins_equally e (short_past more (with_one s c) order)) (sym (short-same w e more too (with_one s c) s given passed lg)) ∙ h
+          let passed : Alike w more (with_one s c.column) s = alike-passed w e more too s s c.column k lc itself in
+          ap (λ xs. begins_equally e xs (short_past more s given)) (sym (short-same w e more too (with_one s c.column) s order passed lo))
+          ∙ ap (begins_equally e (short_past more (with_one s c.column) order)) (sym (short-same w e more too (with_one s c.column) s given passed lg)) ∙ h
       go true false k j = absurd (true≢false j)
       go false true k j = absurd (true≢false (sym j))
       go false false k j =
-          let equals : Alike w more (with_one s d) (with_one s c) = alike-equal w e more too s s d c ld lc (too.swap c d lc ld same) itself in
-          and-both (e c d) (begins_equally e (short_past more (with_one s c) order) (short_past more (with_one s d) given)) same
-          (ap (begins_equally e (short_past more (with_one s c) order)) (short-same w e more too (with_one s d) (with_one s c) given equals lg) ∙ h)
+          let equals : Alike w more (with_one s d.column) (with_one s c.column) =
+          alike-equal w e more too s s d.column c.column ld lc (too.swap c.column d.column lc ld same) itself in
+          and-both (equal_entries e c d) (begins_equally e (short_past more (with_one s c.column) order) (short_past more (with_one s d.column) given)) alike
+          (ap (begins_equally e (short_past more (with_one s c.column) order)) (short-same w e more too (with_one s d.column) (with_one s c.column) given equals lg) ∙ h)
 
 -- ---- where more is determined
 
 module _ (w : ℕ) (e : Equality) (det more : Columns → Columns) (closes : Closes w e det) (too : Closes w e more) (grows : (s : Columns) → WithinFirst w (det s) (more s)) where
   -- what follows past a set still does
-  abbrev Still : Columns → List ℕ → List ℕ → Type 0
+  abbrev Still : Columns → List OrderEntry → List OrderEntry → Type 0
   Still s order given = begins_equally e (short_past det s order) (short_past det s given) ≡ true → begins_equally e (short_past more s order) (short_past more s given) ≡ true
 
-  -- the first column of an order that is not determined, past a given order
-  past-given : (s : Columns) (c : ℕ) (order : List ℕ) → c < w → all_below w order ≡ true → ((given : List ℕ) → all_below w given ≡ true → Still (with_one s c) order given)
-      → (given : List ℕ) → all_below w given ≡ true
-      → begins_equally e (c ∷ short_past det (with_one s c) order) (short_past det s given) ≡ true
+  -- the first entry of an order that is not determined, past a given order
+  past-given : (s : Columns) (c : OrderEntry) (order : List OrderEntry) → c.column < w → all_below w (order_columns order) ≡ true
+      → ((given : List OrderEntry) → all_below w (order_columns given) ≡ true → Still (with_one s c.column) order given)
+      → (given : List OrderEntry) → all_below w (order_columns given) ≡ true
+      → begins_equally e (c ∷ short_past det (with_one s c.column) order) (short_past det s given) ≡ true
       → begins_equally e (short_past more s (c ∷ order)) (short_past more s given) ≡ true
   past-given s c order lc lo rest [] lg h = absurd (true≢false (sym h))
-  past-given s c order lc lo rest (d ∷ given) lg h = go (det s d) refl (λ j. past-given s c order lc lo rest given (rest-below w d given lg) j) h
+  past-given s c order lc lo rest (d ∷ given) lg h = go (det s d.column) refl (λ j. past-given s c order lc lo rest given (rest-below w d given lg) j) h
     where
-      ld : d < w
+      ld : d.column < w
       ld = column-below w d given lg
 
-      under : all_below w given ≡ true
+      under : all_below w (order_columns given) ≡ true
       under = rest-below w d given lg
 
-      go : (b : Bool) → det s d ≡ b
-          → (begins_equally e (c ∷ short_past det (with_one s c) order) (short_past det s given) ≡ true → begins_equally e (short_past more s (c ∷ order)) (short_past more s given) ≡ true)
-          → begins_equally e (c ∷ short_past det (with_one s c) order) (cond b (short_past det s given) (d ∷ short_past det (with_one s d) given)) ≡ true
+      go : (b : Bool) → det s d.column ≡ b
+          → (begins_equally e (c ∷ short_past det (with_one s c.column) order) (short_past det s given) ≡ true
+          → begins_equally e (short_past more s (c ∷ order)) (short_past more s given) ≡ true)
+          → begins_equally e (c ∷ short_past det (with_one s c.column) order) (cond b (short_past det s given) (d ∷ short_past det (with_one s d.column) given)) ≡ true
           → begins_equally e (short_past more s (c ∷ order)) (short_past more s (d ∷ given)) ≡ true
       go true k again j =
-          ap (λ b. begins_equally e (short_past more s (c ∷ order)) (cond b (short_past more s given) (d ∷ short_past more (with_one s d) given))) (grows s d ld k) ∙ again j
+          ap (λ b. begins_equally e (short_past more s (c ∷ order)) (cond b (short_past more s given) (d ∷ short_past more (with_one s d.column) given))) (grows s d.column ld k) ∙ again j
       go false k again j =
-          let tail : Bool = begins_equally e (short_past det (with_one s c) order) (short_past det (with_one s d) given) in
-          let same : e c d ≡ true = and-left (e c d) tail j in
-          let equals : Alike w det (with_one s d) (with_one s c) =
-          alike-equal w e det closes s s d c ld lc (closes.swap c d lc ld same) (alike-same w e det closes s s (λ x l. refl)) in
-          both-go w e more too s c d order given lc ld lo under same
+          let tail : Bool = begins_equally e (short_past det (with_one s c.column) order) (short_past det (with_one s d.column) given) in
+          let alike : equal_entries e c d ≡ true = and-left (equal_entries e c d) tail j in
+          let same : e c.column d.column ≡ true = and-left (e c.column d.column) (one_way c.falling d.falling) alike in
+          let equals : Alike w det (with_one s d.column) (with_one s c.column) =
+          alike-equal w e det closes s s d.column c.column ld lc (closes.swap c.column d.column lc ld same) (alike-same w e det closes s s (λ x l. refl)) in
+          both-go w e more too s c d order given lc ld lo under alike
           (rest given under
-          (ap (begins_equally e (short_past det (with_one s c) order)) (sym (short-same w e det closes (with_one s d) (with_one s c) given equals under)) ∙ and-right (e c d) tail j))
+          (ap (begins_equally e (short_past det (with_one s c.column) order)) (sym (short-same w e det closes (with_one s d.column) (with_one s c.column) given equals under))
+          ∙ and-right (equal_entries e c d) tail j))
 
-  still : (order : List ℕ) → all_below w order ≡ true → (s : Columns) (given : List ℕ) → all_below w given ≡ true → Still s order given
+  still : (order : List OrderEntry) → all_below w (order_columns order) ≡ true → (s : Columns) (given : List OrderEntry) → all_below w (order_columns given) ≡ true → Still s order given
   still [] lo s given lg h = refl
   still (c ∷ order) lo s given lg h =
       let rest = rest-below w c order lo in
-      go (det s c) refl (λ j. still order rest s given lg j) (λ j. past-given s c order (column-below w c order lo) rest (λ ys l. still order rest (with_one s c) ys l) given lg j) h
+      go (det s c.column) refl (λ j. still order rest s given lg j)
+      (λ j. past-given s c order (column-below w c order lo) rest (λ ys l. still order rest (with_one s c.column) ys l) given lg j) h
     where
-      go : (b : Bool) → det s c ≡ b → Still s order given
-          → (begins_equally e (c ∷ short_past det (with_one s c) order) (short_past det s given) ≡ true → begins_equally e (short_past more s (c ∷ order)) (short_past more s given) ≡ true)
-          → begins_equally e (cond b (short_past det s order) (c ∷ short_past det (with_one s c) order)) (short_past det s given) ≡ true
+      go : (b : Bool) → det s c.column ≡ b → Still s order given
+          → (begins_equally e (c ∷ short_past det (with_one s c.column) order) (short_past det s given) ≡ true
+          → begins_equally e (short_past more s (c ∷ order)) (short_past more s given) ≡ true)
+          → begins_equally e (cond b (short_past det s order) (c ∷ short_past det (with_one s c.column) order)) (short_past det s given) ≡ true
           → begins_equally e (short_past more s (c ∷ order)) (short_past more s given) ≡ true
       go true k passed past j =
-          ap (λ b. begins_equally e (cond b (short_past more s order) (c ∷ short_past more (with_one s c) order)) (short_past more s given)) (grows s c (column-below w c order lo) k) ∙ passed j
+          ap (λ b. begins_equally e (cond b (short_past more s order) (c ∷ short_past more (with_one s c.column) order)) (short_past more s given))
+          (grows s c.column (column-below w c order lo) k) ∙ passed j
       go false k passed past j = past j
 
   -- an order that follows still does
-  pub follows-more : (given order : List ℕ) → all_below w given ≡ true → all_below w order ≡ true → order_follows e det given order ≡ true → order_follows e more given order ≡ true
+  pub follows-more : (given order : List OrderEntry) → all_below w (order_columns given) ≡ true → all_below w (order_columns order) ≡ true → order_follows e det given order ≡ true
+      → order_follows e more given order ≡ true
   follows-more given order l m h =
       ap (λ xs. begins_equally e xs (short more given)) (short-starts w e more too none_of order (λ c. refl) m)
       ∙ ap (begins_equally e (short_past more none_of order)) (short-starts w e more too none_of given (λ c. refl) l)
@@ -243,38 +281,40 @@ module _ (w : ℕ) (e : Equality) (det : Columns → Columns) (closes : Closes w
   more-held s x c l h = closes.again s (with_one s x) (λ z m k. closes.holds (with_one s x) z m (or-left (s z) (z == x) k)) c l h
 
   -- what a set determines is not in an order past it
-  not-past : (s : Columns) (c : ℕ) → c < w → det s c ≡ true → (cols : List ℕ) → list_any (λ y. c == y) (short_past det s cols) ≡ false
+  not-past : (s : Columns) (c : ℕ) → c < w → det s c ≡ true → (order : List OrderEntry) → list_any (λ y. c == y) (order_columns (short_past det s order)) ≡ false
   not-past s c l h [] = refl
-  not-past s c l h (x ∷ cols) = go (det s x) refl (not-past s c l h cols) (not-past (with_one s x) c l (more-held s x c l h) cols)
+  not-past s c l h (x ∷ order) = go (det s x.column) refl (not-past s c l h order) (not-past (with_one s x.column) c l (more-held s x.column c l h) order)
     where
-      other : det s x ≡ false → (b : Bool) → (c == x) ≡ b → b ≡ false
-      other out true k = absurd (true≢false (sym h ∙ ap (det s) (eqb-true c x k) ∙ out))
+      other : det s x.column ≡ false → (b : Bool) → (c == x.column) ≡ b → b ≡ false
+      other out true k = absurd (true≢false (sym h ∙ ap (det s) (eqb-true c x.column k) ∙ out))
       other out false k = refl
 
-      go : (b : Bool) → det s x ≡ b → list_any (λ y. c == y) (short_past det s cols) ≡ false → list_any (λ y. c == y) (short_past det (with_one s x) cols) ≡ false
-          → list_any (λ y. c == y) (cond b (short_past det s cols) (x ∷ short_past det (with_one s x) cols)) ≡ false
+      go : (b : Bool) → det s x.column ≡ b → list_any (λ y. c == y) (order_columns (short_past det s order)) ≡ false
+          → list_any (λ y. c == y) (order_columns (short_past det (with_one s x.column) order)) ≡ false
+          → list_any (λ y. c == y) (order_columns (cond b (short_past det s order) (x ∷ short_past det (with_one s x.column) order))) ≡ false
       go true k u v = u
-      go false k u v = ap (λ b. b || list_any (λ y. c == y) (short_past det (with_one s x) cols)) (other k (c == x) refl) ∙ v
+      go false k u v = ap (λ b. b || list_any (λ y. c == y) (order_columns (short_past det (with_one s x.column) order))) (other k (c == x.column) refl) ∙ v
 
-  distinct-past : (s : Columns) (cols : List ℕ) → all_below w cols ≡ true → are_distinct (short_past det s cols) ≡ true
+  distinct-past : (s : Columns) (order : List OrderEntry) → all_below w (order_columns order) ≡ true → are_distinct (order_columns (short_past det s order)) ≡ true
   distinct-past s [] l = refl
-  distinct-past s (x ∷ cols) l = go (det s x) (distinct-past s cols rest) (distinct-past (with_one s x) cols rest)
+  distinct-past s (x ∷ order) l = go (det s x.column) (distinct-past s order rest) (distinct-past (with_one s x.column) order rest)
     where
-      rest : all_below w cols ≡ true
-      rest = rest-below w x cols l
+      rest : all_below w (order_columns order) ≡ true
+      rest = rest-below w x order l
 
-      under : x < w
-      under = column-below w x cols l
+      under : x.column < w
+      under = column-below w x order l
 
-      go : (b : Bool) → are_distinct (short_past det s cols) ≡ true → are_distinct (short_past det (with_one s x) cols) ≡ true
-          → are_distinct (cond b (short_past det s cols) (x ∷ short_past det (with_one s x) cols)) ≡ true
+      go : (b : Bool) → are_distinct (order_columns (short_past det s order)) ≡ true → are_distinct (order_columns (short_past det (with_one s x.column) order)) ≡ true
+          → are_distinct (order_columns (cond b (short_past det s order) (x ∷ short_past det (with_one s x.column) order))) ≡ true
       go true u v = u
       go false u v =
-          let tail : List ℕ = short_past det (with_one s x) cols in
-          and-both (not (list_any (λ y. x == y) tail)) (are_distinct tail)
-          (ap not (not-past (with_one s x) x under (closes.holds (with_one s x) x under (or-right (s x) (x == x) (eq-eqb x x refl))) cols)) v
+          let c : ℕ = x.column in
+          let tail : List ℕ = order_columns (short_past det (with_one s c) order) in
+          and-both (not (list_any (λ y. c == y) tail)) (are_distinct tail)
+          (ap not (not-past (with_one s c) c under (closes.holds (with_one s c) c under (or-right (s c) (c == c) (eq-eqb c c refl))) order)) v
 
   -- nor in an order that is short
-  pub short-distinct : (cols : List ℕ) → all_below w cols ≡ true → short det cols ≡ cols → are_distinct cols ≡ true
-  short-distinct cols l is =
-      ap are_distinct (sym is ∙ short-starts w e det closes none_of cols (λ c. refl) l) ∙ distinct-past none_of cols l
+  pub short-distinct : (order : List OrderEntry) → all_below w (order_columns order) ≡ true → short det order ≡ order → are_distinct (order_columns order) ≡ true
+  short-distinct order l is =
+      ap (λ xs. are_distinct (order_columns xs)) (sym is ∙ short-starts w e det closes none_of order (λ c. refl) l) ∙ distinct-past none_of order l

@@ -1,10 +1,11 @@
 -- The part that a node shows passes the test of its part.
 use Rattle.std.proofs.Common.{◌≡◌, ◌∙◌, ℕ, ◌+◌, Bool, true, false, cond, not, ◌&&◌, ◌||◌, ◌⊎◌, inl, inr, ⊎_elim, List, [], ◌∷◌, Option, Some, None, refl, ap, ap₂, sym, subst, true≢false}
 use Rattle.std.specs.List.{list_any}
+use Rattle.vx_rows_values.specs.declared.order.OrderEntry.{OrderEntry}
 use Rattle.vx_rows_values.proofs.Booleans.{and-left, and-right, and-both}
 use Rattle.vx_catalog_relations.specs.Relation.{Relation}
 use Rattle.vx_catalog_relations.specs.Catalog.{relation_at}
-use Rattle.vx_plan_nodes.specs.Plan.{Route, Part, one, any, all, routed, Claim, claim, Condition, Unary, union, join, semi_join, ExchangeKind, route_to, round, broadcast, gather, concat, Plan, scan, unary, binary, exchange, size, is_one, target}
+use Rattle.vx_plan_nodes.specs.Plan.{Route, Part, one, any, all, routed, Claim, claim, Condition, Unary, JoinMethod, union, join, semi_join, ExchangeKind, route_to, round, broadcast, gather, concat, Plan, scan, unary, binary, exchange, size, is_one, target}
 use Rattle.vx_plan_nodes.specs.Parts.{kind_part}
 use Rattle.vx_plan_nodes.specs.Types.{width}
 use Rattle.vx_plan_nodes.specs.Describe.{Copying, whole_rows, left_of, right_of, described}
@@ -198,7 +199,7 @@ module _ (catalog : List Relation) (n : ℕ) (c : Claim) where
   alike-any e f on all y h = cc
   alike-any e f on (routed r cols) y h = refl
 
-  module _ (m : Bool) (on : List (ℕ × ℕ)) (p q : Plan) (several : is_one (size p) ≡ false) (beside : is_one (size q) ≡ false)
+  module _ (m : JoinMethod) (on : List (ℕ × ℕ)) (p q : Plan) (several : is_one (size p) ≡ false) (beside : is_one (size q) ≡ false)
       (left_spread : is_of_one (claim p).part ≡ false) (right_spread : is_of_one (claim q).part ≡ false) where
     abbrev top : Plan
     top = binary n c (join m on) p q
@@ -339,7 +340,7 @@ module _ (catalog : List Relation) (n : ℕ) (c : Claim) where
 
   -- ---- exchanges and scans
 
-  sent-shown : (k : ExchangeKind) (o : List ℕ) (p : Plan) → is_one (target k) ≡ false
+  sent-shown : (k : ExchangeKind) (o : List OrderEntry) (p : Plan) → is_one (target k) ≡ false
       → passes at (exchange n c k o p) (part_apart (width at p) (equal_at at p) (kind_part k)) ≡ true
   sent-shown (route_to z r cols) o p several =
       apart-made (width at p) (equal_at at p) (equal-equivalence at p) (λ x. passes at (exchange n c (route_to z r cols) o p) x ≡ true) r cols

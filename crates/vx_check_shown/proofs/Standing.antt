@@ -2,13 +2,16 @@
 use Rattle.std.proofs.Common.{◌≡◌, ◌∙◌, ℕ, zero, suc, ◌+◌, ◌<◌, ◌≤◌, ◌==◌, nat_lt, Bool, true, false, cond, ⊎_elim, List, [], ◌∷◌, map, filter, length, slice_index, Some, unwrap_or, refl, sym, ap, arith, true≢false, eqb-true, eq-eqb, ltb-true, lt-ltb, ◌⊎◌, inl, inr, ap₂}
 use Rattle.std.specs.List.{list_all}
 use Rattle.std.proofs.lemmas.Bool.{cases_lt}
+use Rattle.vx_rows_values.specs.declared.order.OrderEntry.{OrderEntry}
+use Rattle.vx_rows_values.specs.Order.{order_columns}
 use Rattle.vx_catalog_relations.specs.Catalog.{all_below}
 use Rattle.vx_rows_values.proofs.Booleans.{and-left, and-right, and-both}
 use Rattle.vx_plan_nodes.specs.Phases.{columns_from}
 use Rattle.vx_plan_facts.specs.Equal.{Equality}
 use Rattle.vx_plan_facts.specs.Facts.{NamesFirsts, Tells}
 use Rattle.vx_check_rules.specs.Derived.{first_of}
-use Rattle.vx_check_shown.specs.Standing.{first_equal, named_first}
+use Rattle.vx_check_rules.specs.Rules.{entry_at}
+use Rattle.vx_check_shown.specs.Standing.{first_equal, named_first, ordered_first}
 use Rattle.vx_check_shown.proofs.Equivalent.{IsEquivalence}
 
 -- of n columns from column i on the first one that passes a test
@@ -118,6 +121,19 @@ module _ (w : ℕ) (e : Equality) (is : IsEquivalence e) where
       (eq-eqb (first_equal w e d) d (first-again c (ltb-true c w (and-left (nat_lt c w) (all_below w cols) h))))
       (named-firsts cols (and-right (nat_lt c w) (all_below w cols) h))
 
+  -- ---- of orders
+
+  ordered-columns : (order : List OrderEntry) → order_columns (ordered_first w e order) ≡ named_first w e (order_columns order)
+  ordered-columns [] = refl
+  ordered-columns (x ∷ order) = ap (λ cols. first_equal w e x.column ∷ cols) (ordered-columns order)
+
+  pub ordered-below : (order : List OrderEntry) → all_below w (order_columns order) ≡ true → all_below w (order_columns (ordered_first w e order)) ≡ true
+  ordered-below order h = ap (all_below w) (ordered-columns order) ∙ named-below (order_columns order) h
+
+  pub ordered-firsts : (order : List OrderEntry) → all_below w (order_columns order) ≡ true
+      → list_all (λ c. first_equal w e c == c) (order_columns (ordered_first w e order)) ≡ true
+  ordered-firsts order h = ap (list_all (λ c. first_equal w e c == c)) (ordered-columns order) ∙ named-firsts (order_columns order) h
+
   -- ---- as the program keeps it
 
   pub first-kept : (firsts : List ℕ) → NamesFirsts firsts → Tells e firsts → length firsts ≡ w → (c : ℕ) → c < w → slice_index firsts c ≡ first_equal w e c
@@ -143,9 +159,10 @@ module _ (w : ℕ) (e : Equality) (is : IsEquivalence e) where
               let same : slice_index firsts d ≡ slice_index firsts c = eqb-true (slice_index firsts d) (slice_index firsts c) (tells d c small (omega (arith, l, wide)) ∙ k) in
               absurd (omega (arith, h, b2, same))
 
-  pub named-kept : (firsts : List ℕ) → NamesFirsts firsts → Tells e firsts → length firsts ≡ w → (cols : List ℕ) → all_below w cols ≡ true
-      → map (slice_index firsts) cols ≡ named_first w e cols
-  named-kept firsts named tells wide [] h = refl
-  named-kept firsts named tells wide (c ∷ cols) h =
-      ap₂ (λ x xs. x ∷ xs) (first-kept firsts named tells wide c (ltb-true c w (and-left (nat_lt c w) (all_below w cols) h)))
-      (named-kept firsts named tells wide cols (and-right (nat_lt c w) (all_below w cols) h))
+  pub ordered-kept : (firsts : List ℕ) → NamesFirsts firsts → Tells e firsts → length firsts ≡ w → (order : List OrderEntry) → all_below w (order_columns order) ≡ true
+      → map (λ x. entry_at (slice_index firsts x.column) x) order ≡ ordered_first w e order
+  ordered-kept firsts named tells wide [] h = refl
+  ordered-kept firsts named tells wide (x ∷ order) h =
+      let here : slice_index firsts x.column ≡ first_equal w e x.column =
+      first-kept firsts named tells wide x.column (ltb-true x.column w (and-left (nat_lt x.column w) (all_below w (order_columns order)) h)) in
+      ap₂ (λ c xs. entry_at c x ∷ xs) here (ordered-kept firsts named tells wide order (and-right (nat_lt x.column w) (all_below w (order_columns order)) h))

@@ -3,6 +3,8 @@ use Rattle.std.proofs.Common.{◌≡◌, ◌∙◌, ℕ, ◌<◌, ◌==◌, nat_
 use Rattle.std.proofs.lemmas.Bool.{and_parts}
 use Rattle.std.specs.List.{list_any, list_all}
 use Rattle.vx_rows_values.specs.declared.value.ColType.{ColType}
+use Rattle.vx_rows_values.specs.declared.order.OrderEntry.{OrderEntry}
+use Rattle.vx_rows_values.specs.Order.{order_columns}
 use Rattle.vx_rows_values.specs.Lists.{is_some_list}
 use Rattle.vx_rows_values.proofs.Booleans.{and-left, and-right, and-both}
 use Rattle.vx_catalog_relations.specs.Relation.{Relation}
@@ -65,7 +67,7 @@ goes-up catalog x p k by formed below_formed reaches s t held c y l there h =
     (or-right (by_rows w (equal_at catalog x) (fixed_at catalog x) (claim x).keys found c) (by_inputs catalog x found c) given)
 
 -- at an exchange more is determined than at its input
-pub exchange-more : (catalog : ℕ → Relation) (n : ℕ) (c : Claim) (kind : ExchangeKind) (m : List ℕ) (p : Plan) → well_formed catalog (exchange n c kind m p) ≡ true
+pub exchange-more : (catalog : ℕ → Relation) (n : ℕ) (c : Claim) (kind : ExchangeKind) (m : List OrderEntry) (p : Plan) → well_formed catalog (exchange n c kind m p) ≡ true
     → well_formed catalog p ≡ true → (s : Columns) → WithinFirst (width catalog p) (determined catalog p s) (determined catalog (exchange n c kind m p) s)
 exchange-more catalog n c kind m p formed below_formed s d l h =
     let x : Plan = exchange n c kind m p in
@@ -105,43 +107,43 @@ claim-named catalog (binary n c (semi_join matched on conditions) p q) h =
     (and-right (well_formed catalog q) (both_closed p q && named) (and-right (well_formed catalog p) (well_formed catalog q && (both_closed p q && named)) h))
 claim-named catalog (exchange n c k m p) h = and-right (well_formed catalog p) (names_columns (width catalog p) c) h
 
-pub order-below : (catalog : ℕ → Relation) (p : Plan) → well_formed catalog p ≡ true → all_below (width catalog p) (claim p).order ≡ true
+pub order-below : (catalog : ℕ → Relation) (p : Plan) → well_formed catalog p ≡ true → all_below (width catalog p) (order_columns (claim p).order) ≡ true
 order-below catalog p h =
     let w : ℕ = width catalog p in
-    let rest : Bool = all_below w (claim p).order && list_all (all_below w) (claim p).keys in
-    and-left (all_below w (claim p).order) (list_all (all_below w) (claim p).keys) (and-right (all_below w (part_columns (claim p).part)) rest (claim-named catalog p h))
+    let rest : Bool = all_below w (order_columns (claim p).order) && list_all (all_below w) (claim p).keys in
+    and-left (all_below w (order_columns (claim p).order)) (list_all (all_below w) (claim p).keys) (and-right (all_below w (part_columns (claim p).part)) rest (claim-named catalog p h))
 
 -- the order that a relation declares
 pub relation-below : (s : Scope) (n : ℕ) (c : Claim) (r : ℕ) (m : Bool) (z : Size) → IsCatalog s.catalog → typed s (scan n c r m z) ≡ true
-    → all_below (width (relation_at s.catalog) (scan n c r m z)) (relation_at s.catalog r).order ≡ true
+    → all_below (width (relation_at s.catalog) (scan n c r m z)) (order_columns (relation_at s.catalog r).order) ≡ true
 relation-below s n c r m z catalog h =
     let rel : Relation = relation_at s.catalog r in
     let fine : IsRelation rel = catalog.each r (and_parts (nat_lt r (length s.catalog)) _ h).0 in
-    let P : ℕ → Type 0 = λ w. all_below w rel.order ≡ true in
-    subst P (sym fine.typed) (and-left (all_below (length rel.names) rel.order) (are_distinct rel.order) fine.order)
+    let P : ℕ → Type 0 = λ w. all_below w (order_columns rel.order) ≡ true in
+    subst P (sym fine.typed) (and-left (all_below (length rel.names) (order_columns rel.order)) (are_distinct (order_columns rel.order)) fine.order)
 
--- the columns of a sort
-pub sorted-below : (s : Scope) (n : ℕ) (c : Claim) (of_parts : Bool) (cols : List ℕ) (p : Plan) → typed s (unary n c (sort of_parts cols) p) ≡ true
-    → all_below (width (relation_at s.catalog) p) cols ≡ true
-sorted-below s n c of_parts cols p h =
+-- the order of a sort
+pub sorted-below : (s : Scope) (n : ℕ) (c : Claim) (of_parts : Bool) (order : List OrderEntry) (p : Plan) → typed s (unary n c (sort of_parts order) p) ≡ true
+    → all_below (width (relation_at s.catalog) p) (order_columns order) ≡ true
+sorted-below s n c of_parts order p h =
     let types : List ColType = types_of (relation_at s.catalog) p in
     let u = and_parts (typed s p) _ h in
-    let v = and_parts (phase_fits (sort of_parts cols) p) _ u.1 in
-    let y = and_parts (is_unary types (sort of_parts cols)) _ v.1 in
-    let P : ℕ → Type 0 = λ w. all_below w cols ≡ true in
+    let v = and_parts (phase_fits (sort of_parts order) p) _ u.1 in
+    let y = and_parts (is_unary types (sort of_parts order)) _ v.1 in
+    let P : ℕ → Type 0 = λ w. all_below w (order_columns order) ≡ true in
     subst P (types-width (relation_at s.catalog) p)
-    (and-left (all_below (length types) cols) (are_distinct cols) (and-right (is_some_list cols) (are_columns (length types) cols) y.0))
+    (and-left (all_below (length types) (order_columns order)) (are_distinct (order_columns order)) (and-right (is_some_list order) (are_columns (length types) (order_columns order)) y.0))
 
 -- those by which an exchange merges
-pub merged-below : (s : Scope) (n : ℕ) (c : Claim) (kind : ExchangeKind) (m : List ℕ) (p : Plan) → typed s (exchange n c kind m p) ≡ true
-    → all_below (width (relation_at s.catalog) p) m ≡ true
+pub merged-below : (s : Scope) (n : ℕ) (c : Claim) (kind : ExchangeKind) (m : List OrderEntry) (p : Plan) → typed s (exchange n c kind m p) ≡ true
+    → all_below (width (relation_at s.catalog) p) (order_columns m) ≡ true
 merged-below s n c kind m p h =
     let types : List ColType = types_of (relation_at s.catalog) p in
     let u = and_parts (typed s p) _ h in
     let v = and_parts (is_kind s types kind) _ u.1 in
-    let y = and_parts (are_columns (length types) m) _ v.1 in
-    let P : ℕ → Type 0 = λ w. all_below w m ≡ true in
-    subst P (types-width (relation_at s.catalog) p) (and-left (all_below (length types) m) (are_distinct m) y.0)
+    let y = and_parts (are_columns (length types) (order_columns m)) _ v.1 in
+    let P : ℕ → Type 0 = λ w. all_below w (order_columns m) ≡ true in
+    subst P (types-width (relation_at s.catalog) p) (and-left (all_below (length types) (order_columns m)) (are_distinct (order_columns m)) y.0)
 
 -- an operator's copies are of columns of its input
 pub copies-reach : (s : Scope) (n : ℕ) (c : Claim) (op : Unary) (p : Plan) → typed s (unary n c op p) ≡ true

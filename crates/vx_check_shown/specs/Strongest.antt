@@ -1,5 +1,7 @@
 -- Claims that tell the most that the second rule table shows.
 use Rattle.std.specs.Prelude.{ℕ, ◌≡◌, ◌<◌, ◌≤◌, Bool, true, false, ◌||◌, List, length}
+use Rattle.vx_rows_values.specs.declared.order.OrderEntry.{OrderEntry}
+use Rattle.vx_rows_values.specs.Order.{order_columns}
 use Rattle.vx_catalog_relations.specs.Relation.{Relation}
 use Rattle.vx_catalog_relations.specs.Catalog.{all_below}
 use Rattle.vx_plan_nodes.specs.Plan.{Part, one, Plan, claim, size, is_one}
@@ -27,6 +29,6 @@ pub record IsStrongestDerived (catalog : ℕ → Relation) (p : Plan) : Type 0 w
   pub alone : is_one (size p) ≡ true → (claim p).part ≡ one
   pub part : is_one (size p) ≡ false → sizes_match p ≡ true → inputs_match_derived catalog p ≡ true → (q : Part) → are_columns (width catalog p) (part_columns q) ≡ true
       → (unless_one (shows catalog p) q || part_derived catalog p q) ≡ true → told (equal_at catalog p) (claim p).part q ≡ true
-  pub order : order_given_derived catalog p ≡ true → (order : List ℕ) → all_below (width catalog p) order ≡ true → (orders catalog p order || order_derived catalog p order) ≡ true
+  pub order : order_given_derived catalog p ≡ true → (order : List OrderEntry) → all_below (width catalog p) (order_columns order) ≡ true → (orders catalog p order || order_derived catalog p order) ≡ true
       → order_follows (equal_at catalog p) (determined catalog p) (claim p).order order ≡ true
   pub keys : HasAllKeysDerived catalog p

@@ -12,6 +12,8 @@ ghost use Rattle.vx_plan_facts.specs.Equal.{equal_at};
 ghost use Rattle.vx_plan_facts.specs.FactsView.{facts_of, width_of};
 ghost use Rattle.vx_plan_facts.specs.Following.{short};
 ghost use Rattle.vx_plan_facts.specs.KnownView.{IsKnownOf};
+ghost use Rattle.vx_rows_values.specs.Order.{order_columns};
+ghost use Rattle.vx_check_rules.specs.Rules.{entry_at};
 ghost use Rattle.vx_check_rules.specs.Derived.{front_copies, goes_on_with};
 ghost use Rattle.vx_check_rules.specs.KnownNode.{IsKnownTyped, AreGivenOf, AreOrdersOf, HasCopies, is_whole, order_by, StaysKnown};
 ghost use Rattle.vx_check_shown.specs.ShownOrder.{HasOrderBelow, are_of_input, shortened, shown_order};
@@ -21,37 +23,41 @@ use vx_catalog_relations::Catalog;
 use vx_check_rules::{carried_order, keeps_order, order_after, order_over, short};
 use vx_plan_facts::{ColumnFacts, KnownColumns};
 use vx_plan_nodes::{Copying, Described, Exchange, Part, TypedNode};
+use vx_rows_values::OrderEntry;
 
-// For each of the columns the first one that is equal to it.
+// The entries of an order, each by the first column that is equal to its own, in its direction.
 fn firsts_of(
     alloc: Global,
     facts: &ColumnFacts<'_>,
-    columns: &[usize],
-) -> Result<Vec<usize>, AllocError>
-    requires { all_below (width_of facts.now) columns.now ≡ true }
-    ensures { IfOk result (λ v. v.items ≡ map (slice_index (facts_of facts.now).firsts) columns.now) }
+    order: &[OrderEntry],
+) -> Result<Vec<OrderEntry>, AllocError>
+    requires { all_below (width_of facts.now) (order_columns order.now) ≡ true }
+    ensures { IfOk result (λ v. v.items ≡ map (λ e. entry_at (slice_index (facts_of facts.now).firsts e.column) e) order.now) }
 {
     let mut firsts = Vec::new(alloc);
-    for column in columns {
-        firsts.push(facts.first_of(*column))?;
+    for entry in order {
+        firsts.push(OrderEntry {
+            column: facts.first_of(entry.column),
+            falling: entry.falling,
+        })?;
     }
     Ok(firsts)
 }
 
-// The columns of an order that earlier ones do not determine, each by the first one that is equal to it.
+// The entries of an order whose columns earlier ones do not determine, each by the first column that is equal to its own.
 fn shortened(
     alloc: Global,
     node: &TypedNode,
     known: &mut KnownColumns<'_>,
-    given: &[usize],
-) -> Result<Vec<usize>, AllocError>
+    given: &[OrderEntry],
+) -> Result<Vec<OrderEntry>, AllocError>
     requires { (catalog : ℕ → Relation) × AreOrdersOf catalog known.old (plan_of node.now) given.now given.now }
     ensures shortened { (catalog : ℕ → Relation) → AreOrdersOf catalog known.old (plan_of node.now) given.now given.now
         → IfOk result (λ v. v.items ≡ shortened catalog (plan_of node.now) given.now) }
     ensures kept { StaysKnown known.old known.new (plan_of node.now) }
 {
-    let columns = short(node, known, given);
-    firsts_of(alloc, known.facts_of(node), columns.as_slice())
+    let order = short(node, known, given);
+    firsts_of(alloc, known.facts_of(node), order.as_slice())
 }
 
 // Whether each output column is the input's own.
@@ -71,12 +77,12 @@ fn shown_carried(
     known: &mut KnownColumns<'_>,
     copying: Copying<'_>,
     input: &TypedNode,
-    below: &[usize],
-) -> Result<Vec<usize>, AllocError>
+    below: &[OrderEntry],
+) -> Result<Vec<OrderEntry>, AllocError>
     requires { (catalog : ℕ → Relation) × HasCopies catalog known.old (plan_of node.now) (plan_of input.now) (copying_of copying)
-        × (all_below (width catalog (plan_of input.now)) below.now ≡ true) }
+        × (all_below (width catalog (plan_of input.now)) (order_columns below.now) ≡ true) }
     ensures shown { (catalog : ℕ → Relation) → HasCopies catalog known.old (plan_of node.now) (plan_of input.now) (copying_of copying.entry)
-        → all_below (width catalog (plan_of input.now)) below.now ≡ true
+        → all_below (width catalog (plan_of input.now)) (order_columns below.now) ≡ true
         → IfOk result (λ v. v.items ≡ shortened catalog (plan_of node.now)
         (front_copies (width catalog (plan_of node.now)) (copying_of copying.entry) (equal_at catalog (plan_of input.now)) (short (determined catalog (plan_of input.now)) below.now))) }
     ensures kept { (catalog : ℕ → Relation) → HasCopies catalog known.old (plan_of node.now) (plan_of input.now) (copying_of copying.entry)
@@ -94,8 +100,8 @@ fn shown_over(
     known: &mut KnownColumns<'_>,
     described: Described<'_>,
     input: &TypedNode,
-    below: &[usize],
-) -> Result<Vec<usize>, AllocError>
+    below: &[OrderEntry],
+) -> Result<Vec<OrderEntry>, AllocError>
     requires { (catalog : ℕ → Relation)
         × HasOrderBelow catalog known.old (plan_of node.now) (plan_of input.now) (copying_of described.copying) (order_after_of described.order) below.now }
     ensures shown { (catalog : ℕ → Relation)
@@ -119,8 +125,8 @@ fn order_passed<'p>(
     input: &TypedNode,
     known: &mut KnownColumns<'_>,
     part: &Part,
-    below: &'p [usize],
-) -> &'p [usize]
+    below: &'p [OrderEntry],
+) -> &'p [OrderEntry]
     requires { (catalog : ℕ → Relation) × AreGivenOf catalog known.old (plan_of input.now) (part_of part.now) below.now }
     ensures passed { (catalog : ℕ → Relation) → AreGivenOf catalog known.old (plan_of input.now) (part_of part.now) below.now
         → result.now ≡ cond (is_one (size (plan_of input.now)) || goes_on_with catalog (kind_of exchange.now.kind) (plan_of input.now) (part_of part.now) below.now)
@@ -141,8 +147,8 @@ pub fn shown_order(
     node: &TypedNode,
     known: &mut KnownColumns<'_>,
     part: &Part,
-    below: &[usize],
-) -> Result<Vec<usize>, AllocError>
+    below: &[OrderEntry],
+) -> Result<Vec<OrderEntry>, AllocError>
     requires known { IsKnownTyped catalog.now known.old (plan_of node.now) }
     requires input { are_of_input (relation_at catalog.now) (plan_of node.now) (part_of part.now) below.now ≡ true }
     ensures shown { IfOk result (λ v. v.items ≡ shown_order (relation_at catalog.now) (plan_of node.now) (part_of part.now) below.now) }

@@ -3,6 +3,7 @@
 ghost use Rattle.std.specs.Prelude.{◌≡◌, ℕ, ◌||◌};
 ghost use Rattle.std.specs.List.{list_all, list_any};
 ghost use Rattle.vx_catalog_relations.specs.Relation.{Relation};
+ghost use Rattle.vx_rows_values.specs.Order.{order_columns};
 ghost use Rattle.vx_plan_nodes.specs.Outline.{claim_of, outline_of, plan_of};
 ghost use Rattle.vx_plan_nodes.specs.Outputs.{HasOutputs};
 ghost use Rattle.vx_plan_nodes.specs.Types.{width};
@@ -28,10 +29,10 @@ fn is_key_within(keys: &[Vec<usize>], set: &ColumnSet) -> bool
 fn does_total_follow(node: &TypedNode, known: &mut KnownColumns<'_>, claim: &Claim) -> bool
     requires { (catalog : ℕ → Relation) × IsClaimOf catalog known.old (plan_of node.now) (claim_of claim.now) }
     ensures { (catalog : ℕ → Relation) → IsClaimOf catalog known.old (plan_of node.now) (claim_of claim.now)
-        → result ≡ total_follows (width catalog (plan_of node.now)) (determined catalog (plan_of node.now)) (claim_of claim.now).keys (claim_of claim.now).order }
+        → result ≡ total_follows (width catalog (plan_of node.now)) (determined catalog (plan_of node.now)) (claim_of claim.now).keys (order_columns (claim_of claim.now).order) }
 {
     let width = known.facts_of(node).width();
-    let found = known.determined(node, &ColumnSet::of(claim.order.as_slice()));
+    let found = known.determined(node, &ColumnSet::of_order(claim.order.as_slice()));
     if is_key_within(claim.keys.as_slice(), &found) {
         return true;
     }
@@ -42,8 +43,8 @@ fn does_total_follow(node: &TypedNode, known: &mut KnownColumns<'_>, claim: &Cla
 pub(crate) fn is_claim_total(node: &TypedNode, known: &mut KnownColumns<'_>, claim: &Claim) -> bool
     requires { (catalog : ℕ → Relation) × IsClaimOf catalog known.old (plan_of node.now) (claim_of claim.now) }
     ensures { (catalog : ℕ → Relation) → IsClaimOf catalog known.old (plan_of node.now) (claim_of claim.now) → HasOutputs catalog (outline_of node.now)
-        → result ≡ ((covers (claim_of claim.now).keys (claim_of claim.now).order || within (numbers_below (width catalog (plan_of node.now))) (claim_of claim.now).order)
-        || total_follows (width catalog (plan_of node.now)) (determined catalog (plan_of node.now)) (claim_of claim.now).keys (claim_of claim.now).order) }
+        → result ≡ ((covers (claim_of claim.now).keys (order_columns (claim_of claim.now).order) || within (numbers_below (width catalog (plan_of node.now))) (order_columns (claim_of claim.now).order))
+        || total_follows (width catalog (plan_of node.now)) (determined catalog (plan_of node.now)) (claim_of claim.now).keys (order_columns (claim_of claim.now).order)) }
 {
     if is_total(claim, output_types(node).len()) {
         return true;

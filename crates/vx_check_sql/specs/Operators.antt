@@ -2,6 +2,7 @@
 use Rattle.std.specs.Prelude.{ℕ, suc, ◌-◌, ◌++◌, ◌==◌, nat_lt, Bool, true, false, cond, List, [], ◌∷◌, map, length, codes, decimal, Option, Some, None}
 use Rattle.vx_rows_values.specs.declared.value.ColType.{ColType}
 use Rattle.vx_rows_values.specs.declared.value.ColType.TheVariants.{Text}
+use Rattle.vx_rows_values.specs.declared.order.OrderEntry.{OrderEntry}
 use Rattle.vx_rows_values.specs.Values.{Name}
 use Rattle.vx_rows_values.specs.Types.{type_at}
 use Rattle.vx_rows_values.specs.Test.{test_text}
@@ -97,13 +98,17 @@ abbrev pub grouping_sql : Alias → List ℕ → List ℕ
 grouping_sql m [] = codes " HAVING count(*) > 0"
 grouping_sql m (c ∷ cs) = codes " GROUP BY " ++ separated (codes ", ") false (map (column_name m) (c ∷ cs))
 
+-- a column of an order, and whether it falls; no value is NULL, so where NULLs would stand is not said
+abbrev pub entry_sql : Alias → OrderEntry → List ℕ
+entry_sql m e = column_of m e.column ++ cond e.falling (codes " DESC") []
+
 -- the rows of node m in this order
-abbrev pub order_sql : Alias → List ℕ → List ℕ
+abbrev pub order_sql : Alias → List OrderEntry → List ℕ
 order_sql m [] = []
-order_sql m (c ∷ cs) = codes " ORDER BY " ++ separated (codes ", ") false (map (column_of m) (c ∷ cs))
+order_sql m (e ∷ order) = codes " ORDER BY " ++ separated (codes ", ") false (map (entry_sql m) (e ∷ order))
 
 -- the first rows in this order, which is total where the checker accepts the plan
-unfoldable pub limit_sql : Alias → List ℕ → ℕ → List ℕ
+unfoldable pub limit_sql : Alias → List OrderEntry → ℕ → List ℕ
 limit_sql m order n = order_sql m order ++ (codes " LIMIT " ++ decimal n)
 
 -- what the SELECT gives
@@ -111,20 +116,20 @@ unfoldable pub unary_columns : Dialect → (m n : Alias) → List ColType → Un
 unary_columns d m n types (select cs) = all_columns m n types
 unary_columns d m n types (project cols) = kept_columns m n cols
 unary_columns d m n types (distinct cols) = codes "DISTINCT " ++ kept_columns m n cols
-unary_columns d m n types (sort of_parts cols) = all_columns m n types
+unary_columns d m n types (sort of_parts keys) = all_columns m n types
 unary_columns d m n types (group phase by aggregates) = group_columns d m n by aggregates
 unary_columns d m n types (limit rows) = all_columns m n types
 
 -- of which rows, and in which groups
-unfoldable pub unary_clause : Dialect → Alias → (order : List ℕ) → Unary → List ℕ
+unfoldable pub unary_clause : Dialect → Alias → (order : List OrderEntry) → Unary → List ℕ
 unary_clause d m order (select cs) = codes " WHERE " ++ separated (codes " AND ") false (map (condition_sql d m) cs)
 unary_clause d m order (project cols) = []
 unary_clause d m order (distinct cols) = []
-unary_clause d m order (sort of_parts cols) = []
+unary_clause d m order (sort of_parts keys) = []
 unary_clause d m order (group phase by aggregates) = grouping_sql m by
 unary_clause d m order (limit rows) = limit_sql m order rows
 
-unfoldable pub unary_sql : Dialect → (m n : Alias) → List ColType → (order : List ℕ) → Unary → (rows : List ℕ) → List ℕ
+unfoldable pub unary_sql : Dialect → (m n : Alias) → List ColType → (order : List OrderEntry) → Unary → (rows : List ℕ) → List ℕ
 unary_sql d m n types order op rows = codes "SELECT " ++ (unary_columns d m n types op ++ (codes " FROM " ++ (rows ++ unary_clause d m order op)))
 
 -- ---- operators over two inputs: node n over the rows of node l, of types ts, and of node r, of types us
@@ -186,19 +191,19 @@ semi_join_clause ClickHouse matching = codes " ON " ++ matching
 -- what the SELECT gives
 unfoldable pub binary_columns : (l r n : Alias) → (ts us : List ColType) → Binary → List ℕ
 binary_columns l r n ts us union = all_columns l n ts
-binary_columns l r n ts us (join merging on) = join_columns l r n ts us on
+binary_columns l r n ts us (join method on) = join_columns l r n ts us on
 binary_columns l r n ts us (semi_join matched on conditions) = all_columns l n ts
 
 -- what stands between the left rows and the right ones
 unfoldable pub binary_word : Dialect → (r n : Alias) → (us : List ColType) → Binary → List ℕ
 binary_word d r n us union = codes " UNION ALL SELECT " ++ (all_columns r n us ++ codes " FROM ")
-binary_word d r n us (join merging on) = join_word d
+binary_word d r n us (join method on) = join_word d
 binary_word d r n us (semi_join matched on conditions) = semi_join_word d matched
 
 -- which rows go together, where the left ones have w columns
 unfoldable pub binary_clause : Dialect → (l r : Alias) (w : ℕ) → Binary → List ℕ
 binary_clause d l r w union = []
-binary_clause d l r w (join merging on) = codes " ON " ++ separated (codes " AND ") false (map (pair_sql l r) on)
+binary_clause d l r w (join method on) = codes " ON " ++ separated (codes " AND ") false (map (pair_sql l r) on)
 binary_clause d l r w (semi_join matched on conditions) = semi_join_clause d (matching_sql d l r w on conditions)
 
 unfoldable pub binary_sql : Dialect → (l r n : Alias) → (ts us : List ColType) → Binary → (lefts rights : List ℕ) → List ℕ

@@ -3,8 +3,8 @@
 ghost use Rattle.std.specs.Prelude.{◌≡◌, ◌++◌, ◌+◌, ◌<◌, ◌^◌, map, length, string_bytes, codes, decimal, OnOk, false, true};
 ghost use Rattle.vx_plan_nodes.specs.Outline.{side_of, condition_of, unary_of, binary_of};
 ghost use Rattle.vx_check.specs.Explain.{separated};
-ghost use Rattle.vx_check_sql.specs.Words.{column_name, column_of};
-ghost use Rattle.vx_check_sql.specs.Operators.{all_columns, scan_sql, side_sql, condition_sql, grouping_sql, order_sql, limit_sql, unary_columns, unary_clause, pair_sql, join_word, column_of_both, side_of_both, condition_of_both, matching_sql, semi_join_word, semi_join_clause, binary_columns, binary_word, binary_clause};
+ghost use Rattle.vx_check_sql.specs.Words.{column_name};
+ghost use Rattle.vx_check_sql.specs.Operators.{all_columns, scan_sql, side_sql, condition_sql, grouping_sql, entry_sql, order_sql, limit_sql, unary_columns, unary_clause, pair_sql, join_word, column_of_both, side_of_both, condition_of_both, matching_sql, semi_join_word, semi_join_clause, binary_columns, binary_word, binary_clause};
 
 use crate::columns::{
     push_all, push_group_columns, push_join_columns, push_projected, push_relation_columns,
@@ -17,7 +17,7 @@ use std::alloc::AllocError;
 use vx_catalog_relations::Relation;
 use vx_check::push_between;
 use vx_plan_nodes::{Binary, Condition, Side, Unary};
-use vx_rows_values::ColType;
+use vx_rows_values::{ColType, OrderEntry};
 
 /// Adds a scan of a relation.
 #[tactic(auto, unfolding(crate::specs::Operators::scan_sql))]
@@ -103,30 +103,48 @@ fn push_grouping(text: &mut String, from: Alias, by: &[usize]) -> Result<(), All
     push_columns(text, from, by)
 }
 
-fn push_order_columns(text: &mut String, from: Alias, order: &[usize]) -> Result<(), AllocError>
-    ensures { OnOk result (string_bytes text.new ≡ string_bytes text.old ++ separated (codes ", ") false (map (column_of from) order.now)) }
+// Adds a column of an order, and whether it falls.
+fn push_entry(text: &mut String, from: Alias, entry: OrderEntry) -> Result<(), AllocError>
+    ensures { OnOk result (string_bytes text.new ≡ string_bytes text.old ++ entry_sql from entry) }
 {
-    for (i, column) in order.iter().enumerate() {
+    push_column_of(text, from, entry.column)?;
+    if entry.falling {
+        text.push_str(" DESC")?;
+    }
+    Ok(())
+}
+
+fn push_entries(text: &mut String, from: Alias, order: &[OrderEntry]) -> Result<(), AllocError>
+    ensures { OnOk result (string_bytes text.new ≡ string_bytes text.old ++ separated (codes ", ") false (map (entry_sql from) order.now)) }
+{
+    for (i, entry) in order.iter().enumerate() {
         push_between(text, ", ", i > 0)?;
-        push_column_of(text, from, *column)?;
+        push_entry(text, from, *entry)?;
     }
     Ok(())
 }
 
 /// Adds the order of the rows of the node `from`, if there is one.
-pub fn push_order(text: &mut String, from: Alias, order: &[usize]) -> Result<(), AllocError>
+///
+/// A column that falls is written with `DESC`. No value is NULL, so it is not said whether NULLs stand first or last.
+pub fn push_order(text: &mut String, from: Alias, order: &[OrderEntry]) -> Result<(), AllocError>
     ensures { OnOk result (string_bytes text.new ≡ string_bytes text.old ++ order_sql from order.now) }
 {
     if order.is_empty() {
         return Ok(());
     }
     text.push_str(" ORDER BY ")?;
-    push_order_columns(text, from, order)
+    push_entries(text, from, order)
 }
 
 // Adds how many first rows in this order a limit takes.
 #[tactic(auto, unfolding(crate::specs::Operators::limit_sql))]
-fn push_limit(text: &mut String, from: Alias, order: &[usize], rows: u32) -> Result<(), AllocError>
+fn push_limit(
+    text: &mut String,
+    from: Alias,
+    order: &[OrderEntry],
+    rows: u32,
+) -> Result<(), AllocError>
     ensures { OnOk result (string_bytes text.new ≡ string_bytes text.old ++ limit_sql from order.now rows) }
 {
     push_order(text, from, order)?;
@@ -174,7 +192,7 @@ pub fn push_unary_clause(
     text: &mut String,
     dialect: Dialect,
     from: Alias,
-    order: &[usize],
+    order: &[OrderEntry],
     operator: &Unary,
 ) -> Result<(), AllocError>
     ensures { OnOk result (string_bytes text.new ≡ string_bytes text.old ++ unary_clause dialect from order.now (unary_of operator.now)) }
@@ -357,7 +375,7 @@ pub fn push_binary_columns(
 {
     match operator {
         Binary::Union => push_all(text, left, to, left_types),
-        Binary::HashJoin(on) | Binary::MergeJoin(on) => {
+        Binary::HashJoin(on) | Binary::MergeJoin(on, _) => {
             push_join_columns(
                 text,
                 left,
@@ -400,7 +418,7 @@ pub fn push_binary_word(
 {
     match operator {
         Binary::Union => push_union_word(text, right, to, right_types),
-        Binary::HashJoin(_) | Binary::MergeJoin(_) => text.push_str(join_word(dialect)),
+        Binary::HashJoin(_) | Binary::MergeJoin(_, _) => text.push_str(join_word(dialect)),
         Binary::SemiJoin(_, _) => text.push_str(semi_join_word(dialect, true)),
         Binary::AntiJoin(_, _) => text.push_str(semi_join_word(dialect, false)),
     }
@@ -420,7 +438,7 @@ pub fn push_binary_clause(
 {
     match operator {
         Binary::Union => Ok(()),
-        Binary::HashJoin(on) | Binary::MergeJoin(on) => {
+        Binary::HashJoin(on) | Binary::MergeJoin(on, _) => {
             text.push_str(" ON ")?;
             push_pairs(text, left, right, on.as_slice())
         }

@@ -3,6 +3,7 @@ use Rattle.std.proofs.Common.{◌≡◌, ℕ, zero, suc, ◌+◌, ◌<◌, ◌�
 use Rattle.vx_rows_values.specs.Values.{Row}
 use Rattle.vx_rows.specs.Lists.{IsBeginning}
 use Rattle.vx_rows_values.specs.Order.{sorted}
+use Rattle.vx_rows_values.specs.declared.order.OrderEntry.{OrderEntry}
 use Rattle.vx_ops.specs.Ledger.{Ledger, ConsumerEnd, receive, Makes}
 use Rattle.vx_plan_nodes.specs.Streams.{Streams, joined, Dealt}
 use Rattle.vx_ports.specs.Packets.{rows_of}
@@ -26,7 +27,7 @@ makes-of : (port : ConsumerEnd) (next : ℕ) (l : Ledger) → StandsInOrder port
 makes-of port next l h =
     let whole : joined port.producers (λ i. rows_of (l.came i)) ≡ l.gave.rows = all-joined port.producers next (λ i. rows_of (l.came i)) h.in_range h.nothing ∙ h.gave in
     let P : List Row → Type 0 = λ xs. Dealt port.producers xs (λ i. rows_of (l.came i)) in
-    let Q : List ℕ → Type 0 = λ cs. sorted cs l.gave.rows ≡ true in
+    let Q : List OrderEntry → Type 0 = λ order. sorted order l.gave.rows ≡ true in
     (subst P whole (joined-dealt port.producers (λ i. rows_of (l.came i))), subst Q (sym h.not_merging) (sorted-on_none l.gave.rows), λ e. whole)
 
 all_of : {X : Type 0} (xs : List X) → IsBeginning xs xs

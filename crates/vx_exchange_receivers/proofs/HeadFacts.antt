@@ -3,9 +3,10 @@ use Rattle.std.proofs.Common.{ℕ, zero, suc, ◌≡◌, ◌≢◌, ◌<◌, ◌
 use Rattle.std.proofs.Math.ListN.{set}
 use Rattle.std.proofs.lemmas.Option.{slice_get-get_or}
 use Rattle.std.specs.Ordering.{ordering_reverse}
-use Rattle.vx_rows_values.specs.Values.{Row, pick}
+use Rattle.vx_rows_values.specs.declared.order.OrderEntry.{OrderEntry}
+use Rattle.vx_rows_values.specs.Values.{Row}
 use Rattle.vx_rows_values.specs.Order.{compare_on}
-use Rattle.vx_rows_values.proofs.Compare.{le-trans, le-other, row_cmp_total}
+use Rattle.vx_rows_values.proofs.Compare.{le-trans, le-other, compare_on_total}
 use Rattle.vx_exchange_receivers.specs.declared.heads.StreamHead.{StreamHead}
 use Rattle.vx_exchange_receivers.specs.Heads.{GoesBefore, Precedes, held_at}
 
@@ -39,49 +40,49 @@ turn Less p e h = ap is_le e
 turn Equal p e h = absurd (true≢false (sym h))
 turn Greater p e h = absurd (true≢false (sym h))
 
-not-le : (cols : List ℕ) (x y : Row) → is_lt (compare_on cols x y) ≡ true → is_le (compare_on cols y x) ≡ false
-not-le cols x y h = turn (compare_on cols x y) (compare_on cols y x) (row_cmp_total.antisymm (pick cols y) (pick cols x)) h
+not-le : (merge : List OrderEntry) (x y : Row) → is_lt (compare_on merge x y) ≡ true → is_le (compare_on merge y x) ≡ false
+not-le merge x y h = turn (compare_on merge x y) (compare_on merge y x) ((compare_on_total merge).antisymm y x) h
 
 -- which goes first, from how the rows compare
-pub less-before : (cols : List ℕ) (x y : Row) (p q : ℕ) → compare_on cols x y ≡ Less → GoesBefore cols x p y q
-less-before cols x y p q e = record {
+pub less-before : (merge : List OrderEntry) (x y : Row) (p q : ℕ) → compare_on merge x y ≡ Less → GoesBefore merge x p y q
+less-before merge x y p q e = record {
   le = ap is_le e;
-  tie = λ h. absurd (true≢false (sym h ∙ not-le cols x y (ap is_lt e)));
+  tie = λ h. absurd (true≢false (sym h ∙ not-le merge x y (ap is_lt e)));
 }
 
-pub equal-before : (cols : List ℕ) (x y : Row) (p q : ℕ) → compare_on cols x y ≡ Equal → p < q → GoesBefore cols x p y q
-equal-before cols x y p q e lt = record { le = ap is_le e; tie = λ h. lt }
+pub equal-before : (merge : List OrderEntry) (x y : Row) (p q : ℕ) → compare_on merge x y ≡ Equal → p < q → GoesBefore merge x p y q
+equal-before merge x y p q e lt = record { le = ap is_le e; tie = λ h. lt }
 
-pub equal-behind : (cols : List ℕ) (x y : Row) (p q : ℕ) → compare_on cols x y ≡ Equal → q < p → GoesBefore cols y q x p
-equal-behind cols x y p q e lt = record { le = flip (compare_on cols x y) (compare_on cols y x) (row_cmp_total.antisymm (pick cols y) (pick cols x)) e; tie = λ h. lt }
+pub equal-behind : (merge : List OrderEntry) (x y : Row) (p q : ℕ) → compare_on merge x y ≡ Equal → q < p → GoesBefore merge y q x p
+equal-behind merge x y p q e lt = record { le = flip (compare_on merge x y) (compare_on merge y x) ((compare_on_total merge).antisymm y x) e; tie = λ h. lt }
   where
     flip : (o r : Ordering) → r ≡ ordering_reverse o → o ≡ Equal → is_le r ≡ true
     flip Less r a b = cc
     flip Equal r a b = ap is_le a
     flip Greater r a b = cc
 
-pub greater-behind : (cols : List ℕ) (x y : Row) (p q : ℕ) → compare_on cols x y ≡ Greater → GoesBefore cols y q x p
-greater-behind cols x y p q e = record { le = le-other cols x y (ap is_le e); tie = λ h. absurd (true≢false (sym h ∙ ap is_le e)) }
+pub greater-behind : (merge : List OrderEntry) (x y : Row) (p q : ℕ) → compare_on merge x y ≡ Greater → GoesBefore merge y q x p
+greater-behind merge x y p q e = record { le = le-other merge x y (ap is_le e); tie = λ h. absurd (true≢false (sym h ∙ ap is_le e)) }
 
-pub before-trans : (cols : List ℕ) (x y z : Row) (p q r : ℕ) → GoesBefore cols x p y q → GoesBefore cols y q z r → GoesBefore cols x p z r
-before-trans cols x y z p q r a b = record {
-  le = le-trans cols x y z a.le b.le;
+pub before-trans : (merge : List OrderEntry) (x y z : Row) (p q r : ℕ) → GoesBefore merge x p y q → GoesBefore merge y q z r → GoesBefore merge x p z r
+before-trans merge x y z p q r a b = record {
+  le = le-trans merge x y z a.le b.le;
   tie = λ h.
-      let s = a.tie (le-trans cols y z x b.le h) in
-      let t = b.tie (le-trans cols z x y h a.le) in
+      let s = a.tie (le-trans merge y z x b.le h) in
+      let t = b.tie (le-trans merge z x y h a.le) in
       omega (arith, s, t);
 }
 
-pub le-refl : (cols : List ℕ) (a : Row) → is_le (compare_on cols a a) ≡ true
-le-refl cols a = go (is_le (compare_on cols a a)) refl
+pub le-refl : (merge : List OrderEntry) (a : Row) → is_le (compare_on merge a a) ≡ true
+le-refl merge a = go (is_le (compare_on merge a a)) refl
   where
-    go : (v : Bool) → is_le (compare_on cols a a) ≡ v → is_le (compare_on cols a a) ≡ true
+    go : (v : Bool) → is_le (compare_on merge a a) ≡ v → is_le (compare_on merge a a) ≡ true
     go true e = e
-    go false e = le-other cols a a e
+    go false e = le-other merge a a e
 
 -- no producer goes before itself
-pub not-itself : (cols : List ℕ) (hs : List StreamHead) (p : ℕ) → Precedes cols hs p p → ⊥
-not-itself cols hs p h = let t = h.tie h.le in omega (arith, t)
+pub not-itself : (merge : List OrderEntry) (hs : List StreamHead) (p : ℕ) → Precedes merge hs p p → ⊥
+not-itself merge hs p h = let t = h.tie h.le in omega (arith, t)
 
 -- where the rows left begin with one, that is the next one
 pub begins-at : (xs : List Row) (i : ℕ) (y : Row) (ys : List Row) → drop i xs ≡ y ∷ ys → (i < length xs) × (y ≡ get_or xs i [])

@@ -9,6 +9,7 @@ use Rattle.std.proofs.lemmas.List.{drop_all}
 use Rattle.std.proofs.lemmas.List.Folds.{drop_split}
 use Rattle.std.proofs.lemmas.Option.{slice_get_within, get_or_from_slice_get}
 use Rattle.std.proofs.lemmas.Bool.Decides.{eqb_tells}
+use Rattle.vx_rows_values.specs.declared.order.OrderEntry.{OrderEntry}
 use Rattle.vx_rows_values.specs.Values.{Row}
 use Rattle.vx_rows_values.specs.declared.value.ColType.{ColType}
 use Rattle.vx_rows_values.specs.Order.{compare_on, sorted}
@@ -42,10 +43,10 @@ there [] p l o e = absurd (omega (arith, l))
 there (x ∷ hs) zero l o e = (x, refl)
 there (x ∷ hs) (suc p) l o e = there hs p (omega (arith, l)) o e
 
-pub nothing-merged : (cols : List ℕ) (types : List ColType) (hs : List StreamHead) → All (IsFresh types) hs → IsMergeOf cols hs (λ p. false) (λ p. []) []
-nothing-merged cols types hs fresh = record {
+pub nothing-merged : (merge : List OrderEntry) (types : List ColType) (hs : List StreamHead) → All (IsFresh types) hs → IsMergeOf merge hs (λ p. false) (λ p. []) []
+nothing-merged merge types hs fresh = record {
   taken = λ p. [];
-  merged = same-merged (length hs) cols (λ p. false) (ended_at hs) (λ p. []) (λ p. []) (λ p. []) (left_at hs) [] (λ j l e. absurd (true≢false (sym e))) (λ j. refl) (λ j. sym (left j)) (nothing-is-merged (length hs) cols);
+  merged = same-merged (length hs) merge (λ p. false) (ended_at hs) (λ p. []) (λ p. []) (λ p. []) (left_at hs) [] (λ j l e. absurd (true≢false (sym e))) (λ j. refl) (λ j. sym (left j)) (nothing-is-merged (length hs) merge);
   parts = left;
   ends = λ p. record { front = []; joined = rows p; edge = λ e. refl };
   are_closed = λ p l e. let t = there hs p l (slice_get hs p) refl in absurd (true≢false (sym (rw t.1 at e) ∙ (head-of (IsFresh types) hs p t.0 fresh t.1).ended));
@@ -57,7 +58,7 @@ nothing-merged cols types hs fresh = record {
     left : (p : ℕ) → left_at hs p ≡ []
     left p = by-head (λ o. left_of o ≡ []) (slice_get hs p) refl (λ h e. let f = head-of (IsFresh types) hs p h fresh e in ap (drop h.at) f.rows ∙ drop_all h.at [] (omega arith))
 
-module _ (cols : List ℕ) (hs : List StreamHead) (closed : ℕ → Bool) (came : Streams) (given : List Row) (m : IsMergeOf cols hs closed came given) (p : ℕ) (h : StreamHead) (at_p : slice_get hs p ≡ Some h) where
+module _ (merge : List OrderEntry) (hs : List StreamHead) (closed : ℕ → Bool) (came : Streams) (given : List Row) (m : IsMergeOf merge hs closed came given) (p : ℕ) (h : StreamHead) (at_p : slice_get hs p ≡ Some h) where
   near : p < length hs
   near = slice_get_within hs p h at_p
 
@@ -80,23 +81,23 @@ module _ (cols : List ℕ) (hs : List StreamHead) (closed : ℕ → Bool) (came 
       ends_p : EndsIn h.rows.rows (came p)
       ends_p = let e = m.ends p in rw at_p at e
 
-      pub put-falls : sorted cols g.rows.rows ≡ false → sorted cols (came p ++ xs) ≡ false
-      put-falls f = last-falls cols h.rows.rows (came p) xs ends_p (sym (ap (sorted cols) rows) ∙ f)
+      pub put-falls : sorted merge g.rows.rows ≡ false → sorted merge (came p ++ xs) ≡ false
+      put-falls f = last-falls merge h.rows.rows (came p) xs ends_p (sym (ap (sorted merge) rows) ∙ f)
 
-      rises_p : sorted cols (came p) ≡ true
-      rises_p = ap (sorted cols) (sym (m.parts p)) ∙ m.merged.inputs p near
+      rises_p : sorted merge (came p) ≡ true
+      rises_p = ap (sorted merge) (sym (m.parts p)) ∙ m.merged.inputs p near
 
-      pub put-rises : sorted cols g.rows.rows ≡ true → IsMergeOf cols (set hs p g) closed (with_more came p xs) given
+      pub put-rises : sorted merge g.rows.rows ≡ true → IsMergeOf merge (set hs p g) closed (with_more came p xs) given
       put-rises f =
-          let whole : sorted cols (m.taken p ++ (left_at hs p ++ xs)) ≡ true =
-          ap (sorted cols) (sym (append_assoc (m.taken p) (left_at hs p) xs) ∙ ap (λ ys. ys ++ xs) (m.parts p)) ∙ last-rises cols h.rows.rows (came p) xs ends_p rises_p (sym (ap (sorted cols) rows) ∙ f) in
+          let whole : sorted merge (m.taken p ++ (left_at hs p ++ xs)) ≡ true =
+          ap (sorted merge) (sym (append_assoc (m.taken p) (left_at hs p) xs) ∙ ap (λ ys. ys ++ xs) (m.parts p)) ∙ last-rises merge h.rows.rows (came p) xs ends_p rises_p (sym (ap (sorted merge) rows) ∙ f) in
           let is_open : ended_at hs p ≡ false = rw at_p lacks.0 in
           let left_g : left_of (Some g) ≡ xs = rw (rows, at) (drop-append_seam (last_of h.rows.rows) xs) in
-          let more = rows-come (length hs) cols (ended_at hs) m.taken (left_at hs) given m.merged p xs is_open whole in
+          let more = rows-come (length hs) merge (ended_at hs) m.taken (left_at hs) given m.merged p xs is_open whole in
           record {
             taken = m.taken;
-            merged = subst (λ n. Merged n cols (ended_at (set hs p g)) m.taken (left_at (set hs p g)) given) (sym (length-set hs p g))
-                (same-merged (length hs) cols (ended_at hs) (ended_at (set hs p g)) m.taken (with_more (left_at hs) p xs) m.taken (left_at (set hs p g)) given
+            merged = subst (λ n. Merged n merge (ended_at (set hs p g)) m.taken (left_at (set hs p g)) given) (sym (length-set hs p g))
+                (same-merged (length hs) merge (ended_at hs) (ended_at (set hs p g)) m.taken (with_more (left_at hs) p xs) m.taken (left_at (set hs p g)) given
                 (λ j l. changed (λ k o. ended_at hs k ≡ true → has_ended o ≡ true) (λ e. absurd (true≢false (sym e ∙ is_open))) (λ k ne e. e) j)
                 (λ j. refl)
                 (changed (λ k o. with_more (left_at hs) p xs k ≡ left_of o) (more-there (left_at hs) p xs ∙ (ap (λ ys. ys ++ xs) none ∙ sym left_g)) (λ k ne. more-other (left_at hs) p k xs ne))
@@ -111,14 +112,14 @@ module _ (cols : List ℕ) (hs : List StreamHead) (closed : ℕ → Bool) (came 
           }
 
     -- a producer ended
-    pub end-merged : (more : ℕ → Bool) → ((j : ℕ) → closed j ≡ true → more j ≡ true) → more p ≡ true → g.rows ≡ h.rows → g.at ≡ h.at → g.ended ≡ true → IsMergeOf cols (set hs p g) more came given
+    pub end-merged : (more : ℕ → Bool) → ((j : ℕ) → closed j ≡ true → more j ≡ true) → more p ≡ true → g.rows ≡ h.rows → g.at ≡ h.at → g.ended ≡ true → IsMergeOf merge (set hs p g) more came given
     end-merged more keeps here rows at flag =
         let left_g : left_at hs p ≡ left_of (Some g) = rw (at_p, rows, at) refl in
         let held_g : held_at hs p ≡ g.rows.rows = rw (at_p, rows) refl in
         record {
           taken = m.taken;
-          merged = subst (λ n. Merged n cols (ended_at (set hs p g)) m.taken (left_at (set hs p g)) given) (sym (length-set hs p g))
-              (same-merged (length hs) cols (ended_at hs) (ended_at (set hs p g)) m.taken (left_at hs) m.taken (left_at (set hs p g)) given
+          merged = subst (λ n. Merged n merge (ended_at (set hs p g)) m.taken (left_at (set hs p g)) given) (sym (length-set hs p g))
+              (same-merged (length hs) merge (ended_at hs) (ended_at (set hs p g)) m.taken (left_at hs) m.taken (left_at (set hs p g)) given
               (λ j l. changed (λ k o. ended_at hs k ≡ true → has_ended o ≡ true) (λ e. flag) (λ k ne e. e) j)
               (λ j. refl)
               (changed (λ k o. left_at hs k ≡ left_of o) left_g (λ k ne. refl))
@@ -129,7 +130,7 @@ module _ (cols : List ℕ) (hs : List StreamHead) (closed : ℕ → Bool) (came 
         }
 
     -- a run of its rows was given
-    module _ (rest : List ℕ) (to : ℕ) (order : AreAll hs (p ∷ rest)) (full : (j : ℕ) → LacksAt hs j → ⊥) (run : IsRun cols hs rest p to) (rows : g.rows ≡ h.rows) (at : g.at ≡ to) (flag : g.ended ≡ h.ended) where
+    module _ (rest : List ℕ) (to : ℕ) (order : AreAll hs (p ∷ rest)) (full : (j : ℕ) → LacksAt hs j → ⊥) (run : IsRun merge hs rest p to) (rows : g.rows ≡ h.rows) (at : g.at ≡ to) (flag : g.ended ≡ h.ended) where
       from : h.at ≤ to
       from = let a = run.more in let b : h.at < to = rw at_p at a in omega (arith, b)
 
@@ -149,7 +150,7 @@ module _ (cols : List ℕ) (hs : List StreamHead) (closed : ℕ → Bool) (came 
               let s : drop t.0.at t.0.rows.rows ≡ [] = rw t.1 at e in
               absurd (full j (t.0, t.1, (f, none-left t.0.rows.rows t.0.at s)))
 
-      least : (j : ℕ) → j < length hs → j ≢ p → (y : Row) (ys : List Row) → left_at hs j ≡ y ∷ ys → AllByRecursion (λ x. is_le (compare_on cols x y) ≡ true) (slice_range h.rows.rows h.at to)
+      least : (j : ℕ) → j < length hs → j ≢ p → (y : Row) (ys : List Row) → left_at hs j ≡ y ∷ ys → AllByRecursion (λ x. is_le (compare_on merge x y) ≡ true) (slice_range h.rows.rows h.at to)
       least j l ne y ys e =
           let t = there hs j l (slice_get hs j) refl in
           let s : drop t.0.at t.0.rows.rows ≡ y ∷ ys = rw t.1 at e in
@@ -159,27 +160,27 @@ module _ (cols : List ℕ) (hs : List StreamHead) (closed : ℕ → Bool) (came 
           let rows_h : held_at hs p ≡ h.rows.rows = rw at_p refl in
           let at_h : position_at hs p ≡ h.at = rw at_p refl in
           let n : h.at + (to - h.at) ≡ to = omega (arith, from) in
-          each-in-range (λ x. is_le (compare_on cols x y) ≡ true) h.rows.rows (to - h.at) h.at (omega (arith, n, within))
+          each-in-range (λ x. is_le (compare_on merge x y) ≡ true) h.rows.rows (to - h.at) h.at (omega (arith, n, within))
           (λ k a z.
           let q = run.least k (rw at_h a) (omega (arith, z, n)) c.0 j c.1 in
-          subst (λ r. is_le (compare_on cols (get_or h.rows.rows k []) r) ≡ true) next_j
-          (subst (λ i. is_le (compare_on cols (get_or h.rows.rows k []) (next_at hs i)) ≡ true) c.2
-          (subst (λ zs. is_le (compare_on cols (get_or zs k []) (next_at hs (get_or rest c.0 j))) ≡ true) rows_h q)))
+          subst (λ r. is_le (compare_on merge (get_or h.rows.rows k []) r) ≡ true) next_j
+          (subst (λ i. is_le (compare_on merge (get_or h.rows.rows k []) (next_at hs i)) ≡ true) c.2
+          (subst (λ zs. is_le (compare_on merge (get_or zs k []) (next_at hs (get_or rest c.0 j))) ≡ true) rows_h q)))
         where
           other : (p ≡ j) ⊎ Contains rest j → Contains rest j
           other (inl f) = absurd (ne (sym f))
           other (inr f) = f
 
-      pub run-merged : IsMergeOf cols (set hs p g) closed came (given ++ slice_range h.rows.rows h.at to)
+      pub run-merged : IsMergeOf merge (set hs p g) closed came (given ++ slice_range h.rows.rows h.at to)
       run-merged =
           let part = slice_range h.rows.rows h.at to in
           let split : left_at hs p ≡ part ++ drop to h.rows.rows = rw at_p (drop_split h.rows.rows h.at to from) in
           let left_g : drop to h.rows.rows ≡ left_of (Some g) = rw (rows, at) refl in
-          let gone = run-goes (length hs) cols (ended_at hs) p near part (drop to h.rows.rows) m.taken (left_at hs) given m.merged split hold least in
+          let gone = run-goes (length hs) merge (ended_at hs) p near part (drop to h.rows.rows) m.taken (left_at hs) given m.merged split hold least in
           record {
             taken = with_more m.taken p part;
-            merged = subst (λ n. Merged n cols (ended_at (set hs p g)) (with_more m.taken p part) (left_at (set hs p g)) (given ++ part)) (sym (length-set hs p g))
-                (same-merged (length hs) cols (ended_at hs) (ended_at (set hs p g)) (with_more m.taken p part) (instead (left_at hs) p (drop to h.rows.rows)) (with_more m.taken p part) (left_at (set hs p g)) (given ++ part)
+            merged = subst (λ n. Merged n merge (ended_at (set hs p g)) (with_more m.taken p part) (left_at (set hs p g)) (given ++ part)) (sym (length-set hs p g))
+                (same-merged (length hs) merge (ended_at hs) (ended_at (set hs p g)) (with_more m.taken p part) (instead (left_at hs) p (drop to h.rows.rows)) (with_more m.taken p part) (left_at (set hs p g)) (given ++ part)
                 (λ j l. changed (λ k o. ended_at hs k ≡ true → has_ended o ≡ true) (λ e. flag ∙ rw at_p at e) (λ k ne e. e) j)
                 (λ j. refl)
                 (changed (λ k o. instead (left_at hs) p (drop to h.rows.rows) k ≡ left_of o) (instead-there (left_at hs) p (drop to h.rows.rows) ∙ left_g) (λ k ne. instead-other (left_at hs) p k (drop to h.rows.rows) ne))
@@ -192,10 +193,10 @@ module _ (cols : List ℕ) (hs : List StreamHead) (closed : ℕ → Bool) (came 
           }
 
 -- no row is left, and no producer lacks one: all were given
-pub all-merged : (cols : List ℕ) (hs : List StreamHead) (closed : ℕ → Bool) (came : Streams) (given : List Row) → IsMergeOf cols hs closed came given → AreAll hs [] → ((j : ℕ) → LacksAt hs j → ⊥)
-    → Dealt (length hs) given came × (sorted cols given ≡ true) × ((p : ℕ) → p < length hs → closed p ≡ true)
-all-merged cols hs closed came given m none full =
-    let d = all-is-merged (length hs) cols (ended_at hs) m.taken (left_at hs) came given m.merged (λ i l. m.parts i) (λ i l. left i (slice_get hs i) refl) in
+pub all-merged : (merge : List OrderEntry) (hs : List StreamHead) (closed : ℕ → Bool) (came : Streams) (given : List Row) → IsMergeOf merge hs closed came given → AreAll hs [] → ((j : ℕ) → LacksAt hs j → ⊥)
+    → Dealt (length hs) given came × (sorted merge given ≡ true) × ((p : ℕ) → p < length hs → closed p ≡ true)
+all-merged merge hs closed came given m none full =
+    let d = all-is-merged (length hs) merge (ended_at hs) m.taken (left_at hs) came given m.merged (λ i l. m.parts i) (λ i l. left i (slice_get hs i) refl) in
     (d.0, d.1, λ p l. m.are_closed p l (let t = there hs p l (slice_get hs p) refl in rw t.1 (ended p t.0 t.1)))
   where
     no-row : (i : ℕ) (h : StreamHead) → slice_get hs i ≡ Some h → length h.rows.rows ≤ h.at

@@ -4,6 +4,7 @@ use Rattle.std.specs.List.{AllWithin, AllPairs, Contains, insert, list_all}
 use Rattle.std.proofs.Math.ListN.{set}
 use Rattle.std.proofs.lemmas.List.{get_or_default}
 use Rattle.std.proofs.lemmas.Option.{get_or_from_slice_get}
+use Rattle.vx_rows_values.specs.declared.order.OrderEntry.{OrderEntry}
 use Rattle.vx_rows_values.specs.Values.{Row}
 use Rattle.vx_rows_values.proofs.Booleans.{and-left, and-right}
 use Rattle.vx_rows_values.specs.Order.{compare_on, sorted}
@@ -18,74 +19,74 @@ pub next-is : (hs : List StreamHead) (q : ℕ) (h : StreamHead) → slice_get hs
 next-is hs q h e = rw e refl
 
 -- all up to one that goes before p go before it
-pub halves-up : (cols : List ℕ) (hs : List StreamHead) (order : List ℕ) (p q middle : ℕ) → AllPairs (Precedes cols hs) order → middle < length order → q ≡ get_or order middle q → Precedes cols hs q p
-    → AllWithin (λ k. Precedes cols hs k p) order 0 (middle + 1)
-halves-up cols hs order p q middle rises l e h k d a b =
+pub halves-up : (merge : List OrderEntry) (hs : List StreamHead) (order : List ℕ) (p q middle : ℕ) → AllPairs (Precedes merge hs) order → middle < length order → q ≡ get_or order middle q → Precedes merge hs q p
+    → AllWithin (λ k. Precedes merge hs k p) order 0 (middle + 1)
+halves-up merge hs order p q middle rises l e h k d a b =
     let same : get_or order middle d ≡ q = get_or_default order middle d q l ∙ sym e in
     by-order k middle
-    (λ lt. before-trans cols (next_at hs (get_or order k d)) (next_at hs q) (next_at hs p) (get_or order k d) q p (subst (Precedes cols hs (get_or order k d)) same (rises k middle d lt l)) h)
-    (λ le. let i : k ≡ middle = omega (arith, le, b) in subst (λ z. Precedes cols hs z p) (sym (ap (λ n. get_or order n d) i ∙ same)) h)
+    (λ lt. before-trans merge (next_at hs (get_or order k d)) (next_at hs q) (next_at hs p) (get_or order k d) q p (subst (Precedes merge hs (get_or order k d)) same (rises k middle d lt l)) h)
+    (λ le. let i : k ≡ middle = omega (arith, le, b) in subst (λ z. Precedes merge hs z p) (sym (ap (λ n. get_or order n d) i ∙ same)) h)
 
 -- p goes before all from one on that it goes before
-pub halves-down : (cols : List ℕ) (hs : List StreamHead) (order : List ℕ) (p q middle : ℕ) → AllPairs (Precedes cols hs) order → middle < length order → q ≡ get_or order middle q → Precedes cols hs p q
-    → AllWithin (λ k. Precedes cols hs p k) order middle (length order)
-halves-down cols hs order p q middle rises l e h k d a b =
+pub halves-down : (merge : List OrderEntry) (hs : List StreamHead) (order : List ℕ) (p q middle : ℕ) → AllPairs (Precedes merge hs) order → middle < length order → q ≡ get_or order middle q → Precedes merge hs p q
+    → AllWithin (λ k. Precedes merge hs p k) order middle (length order)
+halves-down merge hs order p q middle rises l e h k d a b =
     let same : get_or order middle d ≡ q = get_or_default order middle d q l ∙ sym e in
     by-order middle k
-    (λ lt. before-trans cols (next_at hs p) (next_at hs q) (next_at hs (get_or order k d)) p q (get_or order k d) h (subst (λ z. Precedes cols hs z (get_or order k d)) same (rises middle k d lt b)))
-    (λ le. let i : k ≡ middle = omega (arith, le, a) in subst (λ z. Precedes cols hs p z) (sym (ap (λ n. get_or order n d) i ∙ same)) h)
+    (λ lt. before-trans merge (next_at hs p) (next_at hs q) (next_at hs (get_or order k d)) p q (get_or order k d) h (subst (λ z. Precedes merge hs z (get_or order k d)) same (rises middle k d lt b)))
+    (λ le. let i : k ≡ middle = omega (arith, le, a) in subst (λ z. Precedes merge hs p z) (sym (ap (λ n. get_or order n d) i ∙ same)) h)
 
 pub not-in : (order : List ℕ) (p q middle : ℕ) → middle < length order → q ≡ get_or order middle q → (Contains order p → ⊥) → q ≢ p
 not-in order p q middle l e none f = none (middle, l, subst (λ z. get_or order middle z ≡ z) f (sym e))
 
 -- it is an order with one more
-pub added-order : (cols : List ℕ) (hs : List StreamHead) (order : List ℕ) (p place : ℕ) → IsOrder cols hs order → HasRowAt hs p → place ≤ length order
-    → AllWithin (λ q. Precedes cols hs q p) order 0 place → AllWithin (λ q. Precedes cols hs p q) order place (length order) → IsOrder cols hs (insert order place p)
-added-order cols hs order p place o r l a b = record {
+pub added-order : (merge : List OrderEntry) (hs : List StreamHead) (order : List ℕ) (p place : ℕ) → IsOrder merge hs order → HasRowAt hs p → place ≤ length order
+    → AllWithin (λ q. Precedes merge hs q p) order 0 place → AllWithin (λ q. Precedes merge hs p q) order place (length order) → IsOrder merge hs (insert order place p)
+added-order merge hs order p place o r l a b = record {
   there = all-insert (HasRowAt hs) order place p o.there r;
-  rises = pairs-insert (Precedes cols hs) order place p o.rises a b l;
+  rises = pairs-insert (Precedes merge hs) order place p o.rises a b l;
 }
 
 -- what goes before the second of an order goes before all that follow
-pub run-all : (cols : List ℕ) (hs : List StreamHead) (p q : ℕ) (rest : List ℕ) (to : ℕ) → AllPairs (Precedes cols hs) (q ∷ rest) → position_at hs p < to → to ≤ length (held_at hs p)
-    → ((k : ℕ) → position_at hs p ≤ k → k < to → is_le (compare_on cols (get_or (held_at hs p) k []) (next_at hs q)) ≡ true) → IsRun cols hs (q ∷ rest) p to
-run-all cols hs p q rest to rises more within least = record {
+pub run-all : (merge : List OrderEntry) (hs : List StreamHead) (p q : ℕ) (rest : List ℕ) (to : ℕ) → AllPairs (Precedes merge hs) (q ∷ rest) → position_at hs p < to → to ≤ length (held_at hs p)
+    → ((k : ℕ) → position_at hs p ≤ k → k < to → is_le (compare_on merge (get_or (held_at hs p) k []) (next_at hs q)) ≡ true) → IsRun merge hs (q ∷ rest) p to
+run-all merge hs p q rest to rises more within least = record {
   more = more;
   within = within;
   least = λ k a b n d l. go k a b n d l;
 }
   where
-    go : (k : ℕ) → position_at hs p ≤ k → k < to → (n d : ℕ) → n < length (q ∷ rest) → is_le (compare_on cols (get_or (held_at hs p) k []) (next_at hs (get_or (q ∷ rest) n d))) ≡ true
+    go : (k : ℕ) → position_at hs p ≤ k → k < to → (n d : ℕ) → n < length (q ∷ rest) → is_le (compare_on merge (get_or (held_at hs p) k []) (next_at hs (get_or (q ∷ rest) n d))) ≡ true
     go k a b zero d l = least k a b
-    go k a b (suc n) d l = le-trans cols (get_or (held_at hs p) k []) (next_at hs q) (next_at hs (get_or rest n d)) (least k a b) (pairs-head (Precedes cols hs) q rest rises n d (omega (arith, l))).le
+    go k a b (suc n) d l = le-trans merge (get_or (held_at hs p) k []) (next_at hs q) (next_at hs (get_or rest n d)) (least k a b) (pairs-head (Precedes merge hs) q rest rises n d (omega (arith, l))).le
 
 -- what comes after a row is not less than it
-all-at : (cols : List ℕ) (x : Row) (xs : List Row) (k : ℕ) → list_all (λ y. is_le (compare_on cols x y)) xs ≡ true → k < length xs → is_le (compare_on cols x (get_or xs k [])) ≡ true
-all-at cols x [] k h l = absurd (omega (arith, l))
-all-at cols x (y ∷ ys) zero h l = and-left _ _ h
-all-at cols x (y ∷ ys) (suc k) h l = all-at cols x ys k (and-right _ _ h) (omega (arith, l))
+all-at : (merge : List OrderEntry) (x : Row) (xs : List Row) (k : ℕ) → list_all (λ y. is_le (compare_on merge x y)) xs ≡ true → k < length xs → is_le (compare_on merge x (get_or xs k [])) ≡ true
+all-at merge x [] k h l = absurd (omega (arith, l))
+all-at merge x (y ∷ ys) zero h l = and-left _ _ h
+all-at merge x (y ∷ ys) (suc k) h l = all-at merge x ys k (and-right _ _ h) (omega (arith, l))
 
-sorted-at : (cols : List ℕ) (xs : List Row) (i j : ℕ) → sorted cols xs ≡ true → i < j → j < length xs → is_le (compare_on cols (get_or xs i []) (get_or xs j [])) ≡ true
-sorted-at cols [] i j s a b = absurd (omega (arith, b))
-sorted-at cols (x ∷ xs) i zero s a b = absurd (omega (arith, a))
-sorted-at cols (x ∷ xs) zero (suc j) s a b = all-at cols x xs j (and-left _ _ s) (omega (arith, b))
-sorted-at cols (x ∷ xs) (suc i) (suc j) s a b = sorted-at cols xs i j (and-right _ _ s) (omega (arith, a)) (omega (arith, b))
+sorted-at : (merge : List OrderEntry) (xs : List Row) (i j : ℕ) → sorted merge xs ≡ true → i < j → j < length xs → is_le (compare_on merge (get_or xs i []) (get_or xs j [])) ≡ true
+sorted-at merge [] i j s a b = absurd (omega (arith, b))
+sorted-at merge (x ∷ xs) i zero s a b = absurd (omega (arith, a))
+sorted-at merge (x ∷ xs) zero (suc j) s a b = all-at merge x xs j (and-left _ _ s) (omega (arith, b))
+sorted-at merge (x ∷ xs) (suc i) (suc j) s a b = sorted-at merge xs i j (and-right _ _ s) (omega (arith, a)) (omega (arith, b))
 
 -- all rows up to one that is not greater than the next row of q are not greater either
-pub run-up : (cols : List ℕ) (hs : List StreamHead) (p q middle : ℕ) → AllRise cols hs → middle < length (held_at hs p) → is_le (compare_on cols (get_or (held_at hs p) middle []) (next_at hs q)) ≡ true
-    → (k : ℕ) → k ≤ middle → is_le (compare_on cols (get_or (held_at hs p) k []) (next_at hs q)) ≡ true
-run-up cols hs p q middle rise l h k a =
+pub run-up : (merge : List OrderEntry) (hs : List StreamHead) (p q middle : ℕ) → AllRise merge hs → middle < length (held_at hs p) → is_le (compare_on merge (get_or (held_at hs p) middle []) (next_at hs q)) ≡ true
+    → (k : ℕ) → k ≤ middle → is_le (compare_on merge (get_or (held_at hs p) k []) (next_at hs q)) ≡ true
+run-up merge hs p q middle rise l h k a =
     by-order k middle
-    (λ lt. le-trans cols (get_or (held_at hs p) k []) (get_or (held_at hs p) middle []) (next_at hs q) (sorted-at cols (held_at hs p) k middle (rise p) lt l) h)
+    (λ lt. le-trans merge (get_or (held_at hs p) k []) (get_or (held_at hs p) middle []) (next_at hs q) (sorted-at merge (held_at hs p) k middle (rise p) lt l) h)
     (λ le. let e : k ≡ middle = omega (arith, a, le) in rw e h)
 
 -- the first of an order is not among the others
-pub first-once : (cols : List ℕ) (hs : List StreamHead) (p : ℕ) (rest : List ℕ) → IsOrder cols hs (p ∷ rest) → Contains rest p → ⊥
-first-once cols hs p rest o c = not-itself cols hs p (subst (Precedes cols hs p) c.2 (pairs-head (Precedes cols hs) p rest o.rises c.0 p c.1))
+pub first-once : (merge : List OrderEntry) (hs : List StreamHead) (p : ℕ) (rest : List ℕ) → IsOrder merge hs (p ∷ rest) → Contains rest p → ⊥
+first-once merge hs p rest o c = not-itself merge hs p (subst (Precedes merge hs p) c.2 (pairs-head (Precedes merge hs) p rest o.rises c.0 p c.1))
 
 -- an order of producers of which none was changed
-pub order-kept : (cols : List ℕ) (hs : List StreamHead) (p : ℕ) (g : StreamHead) (order : List ℕ) → (Contains order p → ⊥) → IsOrder cols hs order → IsOrder cols (set hs p g) order
-order-kept cols hs p g order none o = record {
+pub order-kept : (merge : List OrderEntry) (hs : List StreamHead) (p : ℕ) (g : StreamHead) (order : List ℕ) → (Contains order p → ⊥) → IsOrder merge hs order → IsOrder merge (set hs p g) order
+order-kept merge hs p g order none o = record {
   there = λ k d l. let h = o.there k d l in (h.0, set-other hs p (get_or order k d) g (other k d l) ∙ h.1, h.2);
   rises = λ i j d a b.
       let h = o.rises i j d a b in
@@ -106,16 +107,16 @@ place-at hs q d r = let e = get_or_from_slice_get hs q r.0 d r.1 in rw (e, r.1) 
 pub place-count : (hs : List StreamHead) (q : ℕ) (d : StreamHead) → HasRowAt hs q → length (get_or hs q d).rows.rows ≡ length (held_at hs q)
 place-count hs q d r = let e = get_or_from_slice_get hs q r.0 d r.1 in rw (e, r.1) refl
 
-pub read-before : (cols : List ℕ) (hs : List StreamHead) (p q : ℕ) (d : StreamHead) → HasRowAt hs q → GoesBefore cols (get_or (held_at hs q) (get_or hs q d).at []) q (next_at hs p) p → Precedes cols hs q p
-read-before cols hs p q d r g =
-    subst (λ x. GoesBefore cols x q (next_at hs p) p) (ap (λ (y : StreamHead). get_or (held_at hs q) y.at []) (get_or_from_slice_get hs q r.0 d r.1) ∙ next-is hs q r.0 r.1) g
+pub read-before : (merge : List OrderEntry) (hs : List StreamHead) (p q : ℕ) (d : StreamHead) → HasRowAt hs q → GoesBefore merge (get_or (held_at hs q) (get_or hs q d).at []) q (next_at hs p) p → Precedes merge hs q p
+read-before merge hs p q d r g =
+    subst (λ x. GoesBefore merge x q (next_at hs p) p) (ap (λ (y : StreamHead). get_or (held_at hs q) y.at []) (get_or_from_slice_get hs q r.0 d r.1) ∙ next-is hs q r.0 r.1) g
 
-pub read-behind : (cols : List ℕ) (hs : List StreamHead) (p q : ℕ) (d : StreamHead) → HasRowAt hs q → GoesBefore cols (next_at hs p) p (get_or (held_at hs q) (get_or hs q d).at []) q → Precedes cols hs p q
-read-behind cols hs p q d r g =
-    subst (λ x. GoesBefore cols (next_at hs p) p x q) (ap (λ (y : StreamHead). get_or (held_at hs q) y.at []) (get_or_from_slice_get hs q r.0 d r.1) ∙ next-is hs q r.0 r.1) g
+pub read-behind : (merge : List OrderEntry) (hs : List StreamHead) (p q : ℕ) (d : StreamHead) → HasRowAt hs q → GoesBefore merge (next_at hs p) p (get_or (held_at hs q) (get_or hs q d).at []) q → Precedes merge hs p q
+read-behind merge hs p q d r g =
+    subst (λ x. GoesBefore merge (next_at hs p) p x q) (ap (λ (y : StreamHead). get_or (held_at hs q) y.at []) (get_or_from_slice_get hs q r.0 d r.1) ∙ next-is hs q r.0 r.1) g
 
-pub run-rest : (cols : List ℕ) (hs : List StreamHead) (order : List ℕ) (to : ℕ) → IsOrder cols hs order → 1 < length order → position_at hs (get_or order 0 0) < to → to ≤ length (held_at hs (get_or order 0 0))
-    → ((k : ℕ) → position_at hs (get_or order 0 0) ≤ k → k < to → is_le (compare_on cols (get_or (held_at hs (get_or order 0 0)) k []) (next_at hs (get_or order 1 0))) ≡ true) → IsRun cols hs (drop 1 order) (get_or order 0 0) to
-run-rest cols hs [] to o l more within least = absurd (omega (arith, l))
-run-rest cols hs (p ∷ []) to o l more within least = absurd (omega (arith, l))
-run-rest cols hs (p ∷ q ∷ rest) to o l more within least = run-all cols hs p q rest to (pairs-tail (Precedes cols hs) p (q ∷ rest) o.rises) more within least
+pub run-rest : (merge : List OrderEntry) (hs : List StreamHead) (order : List ℕ) (to : ℕ) → IsOrder merge hs order → 1 < length order → position_at hs (get_or order 0 0) < to → to ≤ length (held_at hs (get_or order 0 0))
+    → ((k : ℕ) → position_at hs (get_or order 0 0) ≤ k → k < to → is_le (compare_on merge (get_or (held_at hs (get_or order 0 0)) k []) (next_at hs (get_or order 1 0))) ≡ true) → IsRun merge hs (drop 1 order) (get_or order 0 0) to
+run-rest merge hs [] to o l more within least = absurd (omega (arith, l))
+run-rest merge hs (p ∷ []) to o l more within least = absurd (omega (arith, l))
+run-rest merge hs (p ∷ q ∷ rest) to o l more within least = run-all merge hs p q rest to (pairs-tail (Precedes merge hs) p (q ∷ rest) o.rises) more within least

@@ -1,7 +1,8 @@
 -- Rows that rise behind others of which the last are among them.
-use Rattle.std.proofs.Common.{◌≡◌, ℕ, ◌-◌, Bool, true, false, List, [], ◌∷◌, ◌++◌, length, take, refl, sym, ap, ◌∙◌, arith, true≢false, is_le, append_assoc}
+use Rattle.std.proofs.Common.{◌≡◌, ◌-◌, Bool, true, false, List, [], ◌∷◌, ◌++◌, length, take, refl, sym, ap, ◌∙◌, arith, true≢false, is_le, append_assoc}
 use Rattle.std.specs.List.{list_all}
 use Rattle.std.proofs.lemmas.List.{take-append-drop, nil_from_length}
+use Rattle.vx_rows_values.specs.declared.order.OrderEntry.{OrderEntry}
 use Rattle.vx_rows_values.specs.Values.{Row}
 use Rattle.vx_rows_values.specs.Order.{compare_on, sorted}
 use Rattle.vx_rows_values.proofs.Booleans.{and-left, and-right, and-both}
@@ -11,31 +12,31 @@ use Rattle.vx_exchange_receivers.proofs.HeadFacts.{none-left}
 use Rattle.vx_exchange_receivers.proofs.Merging.{sorted-left, all-left, all-right, all-append, all-up}
 
 -- rows that rise up to one, and from it on, rise
-rise-meet : (cols : List ℕ) (xs : List Row) (y : Row) (ys : List Row) → sorted cols (xs ++ y ∷ []) ≡ true → sorted cols (y ∷ ys) ≡ true → sorted cols (xs ++ y ∷ ys) ≡ true
-rise-meet cols [] y ys h k = k
-rise-meet cols (x ∷ xs) y ys h k =
-    let above = λ (r : Row). is_le (compare_on cols x r) in
+rise-meet : (merge : List OrderEntry) (xs : List Row) (y : Row) (ys : List Row) → sorted merge (xs ++ y ∷ []) ≡ true → sorted merge (y ∷ ys) ≡ true → sorted merge (xs ++ y ∷ ys) ≡ true
+rise-meet merge [] y ys h k = k
+rise-meet merge (x ∷ xs) y ys h k =
+    let above = λ (r : Row). is_le (compare_on merge x r) in
     let all : list_all above (xs ++ y ∷ []) ≡ true = and-left _ _ h in
     let here : above y ≡ true = and-left (above y) true (all-right above xs (y ∷ []) all) in
-    and-both (list_all above (xs ++ y ∷ ys)) (sorted cols (xs ++ y ∷ ys))
-    (all-append above xs (y ∷ ys) (all-left above xs (y ∷ []) all) (and-both (above y) (list_all above ys) here (all-up cols x y ys here (and-left _ _ k))))
-    (rise-meet cols xs y ys (and-right _ _ h) k)
+    and-both (list_all above (xs ++ y ∷ ys)) (sorted merge (xs ++ y ∷ ys))
+    (all-append above xs (y ∷ ys) (all-left above xs (y ∷ []) all) (and-both (above y) (list_all above ys) here (all-up merge x y ys here (and-left _ _ k))))
+    (rise-meet merge xs y ys (and-right _ _ h) k)
 
-pub rise-behind : (cols : List ℕ) (ps ws bs : List Row) → (ws ≡ [] → ps ≡ []) → sorted cols (ps ++ ws) ≡ true → sorted cols (ws ++ bs) ≡ true → sorted cols (ps ++ (ws ++ bs)) ≡ true
-rise-behind cols ps [] bs edge h k = ap (λ xs. sorted cols (xs ++ bs)) (edge refl) ∙ k
-rise-behind cols ps (w ∷ ws) bs edge h k =
-    rise-meet cols ps w (ws ++ bs) (sorted-left cols (ps ++ w ∷ []) ws (ap (sorted cols) (append_assoc ps (w ∷ []) ws) ∙ h)) k
+pub rise-behind : (merge : List OrderEntry) (ps ws bs : List Row) → (ws ≡ [] → ps ≡ []) → sorted merge (ps ++ ws) ≡ true → sorted merge (ws ++ bs) ≡ true → sorted merge (ps ++ (ws ++ bs)) ≡ true
+rise-behind merge ps [] bs edge h k = ap (λ xs. sorted merge (xs ++ bs)) (edge refl) ∙ k
+rise-behind merge ps (w ∷ ws) bs edge h k =
+    rise-meet merge ps w (ws ++ bs) (sorted-left merge (ps ++ w ∷ []) ws (ap (sorted merge) (append_assoc ps (w ∷ []) ws) ∙ h)) k
 
-rise-back : (cols : List ℕ) (xs ys : List Row) → sorted cols (xs ++ ys) ≡ true → sorted cols ys ≡ true
-rise-back cols [] ys h = h
-rise-back cols (x ∷ xs) ys h = rise-back cols xs ys (and-right _ _ h)
+rise-back : (merge : List OrderEntry) (xs ys : List Row) → sorted merge (xs ++ ys) ≡ true → sorted merge ys ≡ true
+rise-back merge [] ys h = h
+rise-back merge (x ∷ xs) ys h = rise-back merge xs ys (and-right _ _ h)
 
 -- where the last rows fall, so do all
-pub fall-back : (cols : List ℕ) (xs ys : List Row) → sorted cols ys ≡ false → sorted cols (xs ++ ys) ≡ false
-fall-back cols xs ys h = go (sorted cols (xs ++ ys)) refl
+pub fall-back : (merge : List OrderEntry) (xs ys : List Row) → sorted merge ys ≡ false → sorted merge (xs ++ ys) ≡ false
+fall-back merge xs ys h = go (sorted merge (xs ++ ys)) refl
   where
-    go : (b : Bool) → sorted cols (xs ++ ys) ≡ b → sorted cols (xs ++ ys) ≡ false
-    go true e = absurd (true≢false (sym (rise-back cols xs ys e) ∙ h))
+    go : (b : Bool) → sorted merge (xs ++ ys) ≡ b → sorted merge (xs ++ ys) ≡ false
+    go true e = absurd (true≢false (sym (rise-back merge xs ys e) ∙ h))
     go false e = e
 
 last-edge : (xs : List Row) → last_of xs ≡ [] → xs ≡ []
@@ -70,13 +71,13 @@ ends-last xs ys more h = record {
 }
 
 -- what ends in some rows rises with more behind exactly where the last of them do
-pub last-rises : (cols : List ℕ) (xs ys more : List Row) → EndsIn xs ys → sorted cols ys ≡ true → sorted cols (last_of xs ++ more) ≡ true → sorted cols (ys ++ more) ≡ true
+pub last-rises : (merge : List OrderEntry) (xs ys more : List Row) → EndsIn xs ys → sorted merge ys ≡ true → sorted merge (last_of xs ++ more) ≡ true → sorted merge (ys ++ more) ≡ true
 unfolding ends-last before_last
-last-rises cols xs ys more h s t =
+last-rises merge xs ys more h s t =
     let j = last-joined xs ys h in
-    let front : sorted cols (before_last xs h ++ last_of xs) ≡ true = ap (sorted cols) j ∙ s in
-    ap (sorted cols) (sym (ends-last xs ys more h).joined) ∙ rise-behind cols (before_last xs h) (last_of xs) more (none-before xs ys h) front t
+    let front : sorted merge (before_last xs h ++ last_of xs) ≡ true = ap (sorted merge) j ∙ s in
+    ap (sorted merge) (sym (ends-last xs ys more h).joined) ∙ rise-behind merge (before_last xs h) (last_of xs) more (none-before xs ys h) front t
 
-pub last-falls : (cols : List ℕ) (xs ys more : List Row) → EndsIn xs ys → sorted cols (last_of xs ++ more) ≡ false → sorted cols (ys ++ more) ≡ false
+pub last-falls : (merge : List OrderEntry) (xs ys more : List Row) → EndsIn xs ys → sorted merge (last_of xs ++ more) ≡ false → sorted merge (ys ++ more) ≡ false
 unfolding ends-last before_last
-last-falls cols xs ys more h t = ap (sorted cols) (sym (ends-last xs ys more h).joined) ∙ fall-back cols (before_last xs h) (last_of xs ++ more) t
+last-falls merge xs ys more h t = ap (sorted merge) (sym (ends-last xs ys more h).joined) ∙ fall-back merge (before_last xs h) (last_of xs ++ more) t

@@ -2,9 +2,10 @@
 use Rattle.std.specs.Prelude.{ℕ, ◌≡◌, ◌<◌, ◌≤◌, ◌-◌, Bool, List, [], drop, length, sum_by, get_or, slice_get, Option, Some, None, true, false, All}
 use Rattle.std.specs.List.{AllPairs, Contains}
 use Rattle.std.specs.Ordering.{is_le}
+use Rattle.vx_rows_values.specs.declared.order.OrderEntry.{OrderEntry}
 use Rattle.vx_rows_values.specs.Values.{Row}
 use Rattle.vx_rows_values.specs.declared.value.ColType.{ColType}
-use Rattle.vx_rows_values.specs.Order.{compare_on, sorted}
+use Rattle.vx_rows_values.specs.Order.{order_columns, compare_on, sorted}
 use Rattle.vx_rows.specs.View.{row, AreColumns}
 use Rattle.vx_exchange_receivers.specs.declared.heads.StreamHead.{StreamHead}
 
@@ -76,18 +77,18 @@ abbrev pub last_of : List Row → List Row
 last_of xs = drop (length xs - 1) xs
 
 -- a row of one producer goes before one of another: it is less, or equal and of the lower producer
-pub record GoesBefore (cols : List ℕ) (x : Row) (p : ℕ) (y : Row) (q : ℕ) : Type 0 where
-  pub le : is_le (compare_on cols x y) ≡ true
-  pub tie : is_le (compare_on cols y x) ≡ true → p < q
+pub record GoesBefore (merge : List OrderEntry) (x : Row) (p : ℕ) (y : Row) (q : ℕ) : Type 0 where
+  pub le : is_le (compare_on merge x y) ≡ true
+  pub tie : is_le (compare_on merge y x) ≡ true → p < q
 
 -- so do the next rows of two producers
-abbrev pub Precedes : List ℕ → List StreamHead → ℕ → ℕ → Type 0
-Precedes cols hs p q = GoesBefore cols (next_at hs p) p (next_at hs q) q
+abbrev pub Precedes : List OrderEntry → List StreamHead → ℕ → ℕ → Type 0
+Precedes merge hs p q = GoesBefore merge (next_at hs p) p (next_at hs q) q
 
 -- producers that have rows, in the order in which their next rows go
-pub record IsOrder (cols : List ℕ) (hs : List StreamHead) (order : List ℕ) : Type 0 where
+pub record IsOrder (merge : List OrderEntry) (hs : List StreamHead) (order : List ℕ) : Type 0 where
   pub there : All (HasRowAt hs) order
-  pub rises : AllPairs (Precedes cols hs) order
+  pub rises : AllPairs (Precedes merge hs) order
 
 -- these are all that have rows
 abbrev pub AreAll : List StreamHead → List ℕ → Type 0
@@ -98,19 +99,19 @@ abbrev pub AreOf : List ColType → List StreamHead → Type 0
 AreOf types hs = (p : ℕ) (h : StreamHead) → slice_get hs p ≡ Some h → h.rows.types ≡ types
 
 -- the rows at hand of each producer are sorted
-abbrev pub AllRise : List ℕ → List StreamHead → Type 0
-AllRise cols hs = (p : ℕ) → sorted cols (held_at hs p) ≡ true
+abbrev pub AllRise : List OrderEntry → List StreamHead → Type 0
+AllRise merge hs = (p : ℕ) → sorted merge (held_at hs p) ≡ true
 
--- rows that can be compared on these columns
-pub record AreAlike (cols : List ℕ) (hs : List StreamHead) : Type 0 where
+-- rows that can be compared in this order
+pub record AreAlike (merge : List OrderEntry) (hs : List StreamHead) : Type 0 where
   pub types : (p q : ℕ) (h g : StreamHead) → slice_get hs p ≡ Some h → slice_get hs q ≡ Some g → h.rows.types ≡ g.rows.types
-  pub columns : (p : ℕ) (h : StreamHead) → slice_get hs p ≡ Some h → AreColumns (length h.rows.types) cols
+  pub columns : (p : ℕ) (h : StreamHead) → slice_get hs p ≡ Some h → AreColumns (length h.rows.types) (order_columns merge)
 
 -- the rows of producer p up to here go before the next rows of others
-pub record IsRun (cols : List ℕ) (hs : List StreamHead) (others : List ℕ) (p to : ℕ) : Type 0 where
+pub record IsRun (merge : List OrderEntry) (hs : List StreamHead) (others : List ℕ) (p to : ℕ) : Type 0 where
   pub more : position_at hs p < to
   pub within : to ≤ length (held_at hs p)
-  pub least : (k : ℕ) → position_at hs p ≤ k → k < to → All (λ q. is_le (compare_on cols (get_or (held_at hs p) k []) (next_at hs q)) ≡ true) others
+  pub least : (k : ℕ) → position_at hs p ≤ k → k < to → All (λ q. is_le (compare_on merge (get_or (held_at hs p) k []) (next_at hs q)) ≡ true) others
 
 -- a producer that lacks a row, if one does
 abbrev pub IsMissing : List StreamHead → Option ℕ → Type 0

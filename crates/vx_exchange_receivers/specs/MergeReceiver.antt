@@ -28,7 +28,7 @@ pub record IsMerging (port : ConsumerEnd) (m : MergeView) (over : StreamState) (
   pub abides : Abides (receive port) l
 
 abbrev pub merge_end : MergeReceiver → ConsumerEnd
-merge_end s = end_at s.port (length s.kernel.heads) s.kernel.columns false
+merge_end s = end_at s.port (length s.kernel.heads) s.kernel.merge false
 
 abbrev pub MergeReceiverStands : MergeReceiver → Ledger → Type 0
 MergeReceiverStands s l = IsMerging (merge_end s) s.kernel s.over l

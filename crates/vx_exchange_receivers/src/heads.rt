@@ -11,7 +11,7 @@ ghost use Rattle.vx_exchange_receivers.specs.Heads.{HasRow, Lacks, HasRowAt, hel
 use std::alloc::{AllocError, Global};
 use std::cmp::Ordering;
 use vx_match_keys::compare_rows;
-use vx_rows_values::ColType;
+use vx_rows_values::{ColType, OrderEntry};
 use vx_rows_views::Rows;
 
 // What is at hand of a producer's stream: the rows from a position on, and whether it has ended. Of the rows before, the
@@ -68,16 +68,16 @@ impl StreamHead {
 }
 
 // Whether row i of producer p goes before the next row of producer q: the lower one first among equals.
-fn goes_before(heads: &[StreamHead], columns: &[usize], p: usize, i: usize, q: usize) -> bool
-    requires alike { AreAlike columns.now heads.now }
+fn goes_before(heads: &[StreamHead], merge: &[OrderEntry], p: usize, i: usize, q: usize) -> bool
+    requires alike { AreAlike merge.now heads.now }
     requires row { i < length (held_at heads.now p) }
     requires other { HasRowAt heads.now q }
-    ensures before { result ≡ true → GoesBefore columns.now (get_or (held_at heads.now p) i []) p (next_at heads.now q) q }
-    ensures behind { result ≡ false → p ≢ q → GoesBefore columns.now (next_at heads.now q) q (get_or (held_at heads.now p) i []) p }
+    ensures before { result ≡ true → GoesBefore merge.now (get_or (held_at heads.now p) i []) p (next_at heads.now q) q }
+    ensures behind { result ≡ false → p ≢ q → GoesBefore merge.now (next_at heads.now q) q (get_or (held_at heads.now p) i []) p }
 {
     let a = &heads[p];
     let b = &heads[q];
-    match compare_rows(columns, &a.rows, i, &b.rows, b.at) {
+    match compare_rows(merge, &a.rows, i, &b.rows, b.at) {
         Ordering::Less => true,
         Ordering::Equal => p < q,
         Ordering::Greater => false,
@@ -85,21 +85,21 @@ fn goes_before(heads: &[StreamHead], columns: &[usize], p: usize, i: usize, q: u
 }
 
 // The place of producer p, which has a row, in an order of others.
-fn place_of(heads: &[StreamHead], columns: &[usize], order: &[usize], p: usize) -> usize
-    requires alike { AreAlike columns.now heads.now }
-    requires order { IsOrder columns.now heads.now order.now }
+fn place_of(heads: &[StreamHead], merge: &[OrderEntry], order: &[usize], p: usize) -> usize
+    requires alike { AreAlike merge.now heads.now }
+    requires order { IsOrder merge.now heads.now order.now }
     requires row { HasRowAt heads.now p }
     requires other { Contains order.now p → ⊥ }
     ensures bound { result ≤ length order.now }
-    ensures before { AllWithin (λ q. Precedes columns.now heads.now q p) order.now 0 result }
-    ensures behind { AllWithin (λ q. Precedes columns.now heads.now p q) order.now result (length order.now) }
+    ensures before { AllWithin (λ q. Precedes merge.now heads.now q p) order.now 0 result }
+    ensures behind { AllWithin (λ q. Precedes merge.now heads.now p q) order.now result (length order.now) }
 {
     let mut low = 0;
     let mut high = order.len();
     'halves: while low < high {
         let middle = low + (high - low) / 2;
         let q = order[middle];
-        if goes_before(heads, columns, q, heads[q].at, p) {
+        if goes_before(heads, merge, q, heads[q].at, p) {
             low = middle + 1;
         } else {
             high = middle;
@@ -111,20 +111,20 @@ fn place_of(heads: &[StreamHead], columns: &[usize], order: &[usize], p: usize) 
 // Puts producer p, which has a row, in its place in an order of others that has room for it.
 pub(crate) fn add_to_order(
     heads: &[StreamHead],
-    columns: &[usize],
+    merge: &[OrderEntry],
     order: &mut Vec<usize>,
     p: usize,
 )
-    requires alike { AreAlike columns.now heads.now }
-    requires order { IsOrder columns.now heads.now order.old.items }
+    requires alike { AreAlike merge.now heads.now }
+    requires order { IsOrder merge.now heads.now order.old.items }
     requires row { HasRowAt heads.now p }
     requires other { Contains order.old.items p → ⊥ }
     requires room { vec_len order.old < vec_capacity order.old }
-    ensures order { IsOrder columns.now heads.now order.new.items }
+    ensures order { IsOrder merge.now heads.now order.new.items }
     ensures kept { (q : ℕ) → Contains order.old.items q → Contains order.new.items q }
     ensures added { Contains order.new.items p }
 {
-    let place = place_of(heads, columns, order.as_slice(), p);
+    let place = place_of(heads, merge, order.as_slice(), p);
     match order.insert(place, p) {
         Ok(()) => {}
         Err(_) => unreachable!(),
@@ -133,23 +133,23 @@ pub(crate) fn add_to_order(
 
 // Between which two places the rows of producer p that go before the next row of producer q end, by steps that double: those
 // up to the first place go before it, and none from the second on. Fewer rows lie between the two than go before the first.
-fn gallop(heads: &[StreamHead], columns: &[usize], p: usize, q: usize) -> (usize, usize)
-    requires alike { AreAlike columns.now heads.now }
-    requires rises { AllRise columns.now heads.now }
+fn gallop(heads: &[StreamHead], merge: &[OrderEntry], p: usize, q: usize) -> (usize, usize)
+    requires alike { AreAlike merge.now heads.now }
+    requires rises { AllRise merge.now heads.now }
     requires row { HasRowAt heads.now p }
     requires other { HasRowAt heads.now q }
-    requires order { Precedes columns.now heads.now p q }
+    requires order { Precedes merge.now heads.now p q }
     ensures more { position_at heads.now p < result.0 }
     ensures order { result.0 ≤ result.1 }
     ensures within { result.1 ≤ length (held_at heads.now p) }
-    ensures least { (k : ℕ) → position_at heads.now p ≤ k → k < result.0 → is_le (compare_on columns.now (get_or (held_at heads.now p) k []) (next_at heads.now q)) ≡ true }
+    ensures least { (k : ℕ) → position_at heads.now p ≤ k → k < result.0 → is_le (compare_on merge.now (get_or (held_at heads.now p) k []) (next_at heads.now q)) ≡ true }
 {
     let at = heads[p].at;
     let count = heads[p].rows.len();
     let mut low = at + 1;
     'doubles: while low - at <= count - low {
         let next = low + (low - at);
-        if !goes_before(heads, columns, p, next - 1, q) {
+        if !goes_before(heads, merge, p, next - 1, q) {
             return (low, next - 1);
         }
         low = next;
@@ -158,20 +158,20 @@ fn gallop(heads: &[StreamHead], columns: &[usize], p: usize, q: usize) -> (usize
 }
 
 // Up to which of its rows producer p goes before the next row of producer q: by galloping, and then by halving.
-fn run_before(heads: &[StreamHead], columns: &[usize], p: usize, q: usize) -> usize
-    requires alike { AreAlike columns.now heads.now }
-    requires rises { AllRise columns.now heads.now }
+fn run_before(heads: &[StreamHead], merge: &[OrderEntry], p: usize, q: usize) -> usize
+    requires alike { AreAlike merge.now heads.now }
+    requires rises { AllRise merge.now heads.now }
     requires row { HasRowAt heads.now p }
     requires other { HasRowAt heads.now q }
-    requires order { Precedes columns.now heads.now p q }
+    requires order { Precedes merge.now heads.now p q }
     ensures more { position_at heads.now p < result }
     ensures within { result ≤ length (held_at heads.now p) }
-    ensures least { (k : ℕ) → position_at heads.now p ≤ k → k < result → is_le (compare_on columns.now (get_or (held_at heads.now p) k []) (next_at heads.now q)) ≡ true }
+    ensures least { (k : ℕ) → position_at heads.now p ≤ k → k < result → is_le (compare_on merge.now (get_or (held_at heads.now p) k []) (next_at heads.now q)) ≡ true }
 {
-    let (mut low, mut high) = gallop(heads, columns, p, q);
+    let (mut low, mut high) = gallop(heads, merge, p, q);
     'halves: while low < high {
         let middle = low + (high - low) / 2;
-        if goes_before(heads, columns, p, middle, q) {
+        if goes_before(heads, merge, p, middle, q) {
             low = middle + 1;
         } else {
             high = middle;
@@ -181,18 +181,18 @@ fn run_before(heads: &[StreamHead], columns: &[usize], p: usize, q: usize) -> us
 }
 
 // Up to which of its rows the first producer of an order goes before all others.
-pub(crate) fn run_end(heads: &[StreamHead], columns: &[usize], order: &[usize]) -> usize
-    requires alike { AreAlike columns.now heads.now }
-    requires rises { AllRise columns.now heads.now }
-    requires order { IsOrder columns.now heads.now order.now }
+pub(crate) fn run_end(heads: &[StreamHead], merge: &[OrderEntry], order: &[usize]) -> usize
+    requires alike { AreAlike merge.now heads.now }
+    requires rises { AllRise merge.now heads.now }
+    requires order { IsOrder merge.now heads.now order.now }
     requires some { 0 < length order.now }
-    ensures { IsRun columns.now heads.now (drop 1 order.now) (get_or order.now 0 0) result }
+    ensures { IsRun merge.now heads.now (drop 1 order.now) (get_or order.now 0 0) result }
 {
     let p = order[0];
     if order.len() == 1 {
         return heads[p].rows.len();
     }
-    run_before(heads, columns, p, order[1])
+    run_before(heads, merge, p, order[1])
 }
 
 // The first producer that lacks a row.

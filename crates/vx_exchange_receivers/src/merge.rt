@@ -2,7 +2,7 @@
 
 ghost use Rattle.std.specs.Prelude.{◌≡◌, ◌≢◌, ◌≤◌, ◌<◌, ◌+◌, ◌++◌, [], ℕ, Bool, List, length, Some, None, true, false, OnOk, IfOk, IfSome};
 ghost use Rattle.vx_rows_values.specs.Values.{Row as Cells};
-ghost use Rattle.vx_rows_values.specs.Order.{sorted};
+ghost use Rattle.vx_rows_values.specs.Order.{order_columns, sorted};
 ghost use Rattle.vx_rows.specs.View.{AreColumns};
 ghost use Rattle.vx_plan_nodes.specs.Streams.{Streams};
 ghost use Rattle.vx_exchange_receivers.specs.Heads.{SameEnds, ended_at, all_left};
@@ -13,7 +13,7 @@ use crate::heads::{StreamHead, add_to_order, first_lacking, new_heads, run_end};
 use std::alloc::{AllocError, Global};
 use std::marker::Model;
 use vx_match_keys::rises;
-use vx_rows_values::ColType;
+use vx_rows_values::{ColType, OrderEntry};
 use vx_rows_views::Rows;
 
 // Rows are given until there are `MOST` or more.
@@ -31,7 +31,7 @@ const RUN: usize = 16;
 // these costs less than a comparison of rows, and a tree of losers would compare as often.
 pub(crate) struct StreamMerge {
     alloc: Global,
-    columns: Vec<usize>,
+    merge: Vec<OrderEntry>,
     types: Vec<ColType>,
     heads: Vec<StreamHead>,
     order: Vec<usize>,
@@ -42,7 +42,7 @@ impl Drop for StreamMerge {
     fn drop(self) {
         let StreamMerge {
             alloc: _,
-            columns: _,
+            merge: _,
             types: _,
             heads: _,
             order: _,
@@ -56,9 +56,9 @@ impl Model for StreamMerge {
 
     ghost Value = { MergeView };
 
-    ghost view = { λ m. record { columns = m.columns.items; types = m.types.items; heads = m.heads.items; order = m.order.items; missing = m.missing } };
+    ghost view = { λ m. record { merge = m.merge.items; types = m.types.items; heads = m.heads.items; order = m.order.items; missing = m.missing } };
 
-    ghost invariant = { λ m. MergeFits (record { columns = m.columns.items; types = m.types.items; heads = m.heads.items; order = m.order.items; missing = m.missing }) };
+    ghost invariant = { λ m. MergeFits (record { merge = m.merge.items; types = m.types.items; heads = m.heads.items; order = m.order.items; missing = m.missing }) };
 }
 
 // The same rows. Where they lie in runs of a few rows each, as those of streams that take turns do, they are copied into one
@@ -73,15 +73,15 @@ fn with_few_chunks(alloc: Global, rows: Rows) -> Result<Rows, AllocError>
 }
 
 impl StreamMerge {
-    // A merge of the streams of `producers` producers on `columns`, with rows of `types`. Nothing of them has come yet.
+    // A merge of the streams of `producers` producers by the order `merge`, with rows of `types`. Nothing of them has come yet.
     pub(crate) fn new(
         alloc: Global,
         producers: usize,
-        columns: Vec<usize>,
+        merge: Vec<OrderEntry>,
         types: &[ColType],
     ) -> Result<StreamMerge, AllocError>
-        requires { AreColumns (length types.now) columns.items }
-        ensures columns { IfOk result (λ m. m.columns ≡ columns.items) }
+        requires { AreColumns (length types.now) (order_columns merge.items) }
+        ensures merge { IfOk result (λ m. m.merge ≡ merge.items) }
         ensures types { IfOk result (λ m. m.types ≡ types.now) }
         ensures many { IfOk result (λ m. length m.heads ≡ producers) }
         ensures nothing { IfOk result (λ m. HasMerged m (λ p. false) (λ p. []) []) }
@@ -91,7 +91,7 @@ impl StreamMerge {
         let missing = first_lacking(heads.as_slice());
         Ok(StreamMerge {
             alloc,
-            columns,
+            merge,
             types: Vec::from_slice(alloc, types)?,
             heads,
             order: Vec::new(alloc),
@@ -117,15 +117,15 @@ impl StreamMerge {
         ensures ends { SameEnds self.old.heads self.new.heads }
         ensures left { IfOk result (λ b. b ≡ true → all_left self.new.heads ≤ all_left self.old.heads + length rows.rows) }
         ensures rises { IfOk result (λ b. b ≡ true → (closed : ℕ → Bool) (came : Streams) (given : List Cells) → HasMerged self.old closed came given → HasMerged self.new closed (with_more came from rows.rows) given) }
-        ensures falls { IfOk result (λ b. b ≡ false → (closed : ℕ → Bool) (came : Streams) (given : List Cells) → HasMerged self.old closed came given → sorted self.old.columns (came from ++ rows.rows) ≡ false) }
+        ensures falls { IfOk result (λ b. b ≡ false → (closed : ℕ → Bool) (came : Streams) (given : List Cells) → HasMerged self.old closed came given → sorted self.old.merge (came from ++ rows.rows) ≡ false) }
     {
         let next = self.heads[from].followed_by(self.alloc, rows)?;
-        if !rises(&next.rows, &self.columns) {
+        if !rises(&next.rows, &self.merge) {
             return Ok(false);
         }
         self.order.reserve(1)?;
         self.heads[from] = next;
-        add_to_order(&self.heads, &self.columns, &mut self.order, from);
+        add_to_order(&self.heads, &self.merge, &mut self.order, from);
         self.missing = first_lacking(&self.heads);
         Ok(true)
     }
@@ -186,7 +186,7 @@ impl StreamMerge {
         ensures merged { OnOk result ((closed : ℕ → Bool) (came : Streams) (given : List Cells) → HasMerged self.old closed came (given ++ found.old.rows) → HasMerged self.new closed came (given ++ found.new.rows)) }
     {
         let p = self.order[0];
-        let to = run_end(&self.heads, &self.columns, &self.order);
+        let to = run_end(&self.heads, &self.merge, &self.order);
         let head = &self.heads[p];
         let run = head.rows.slice(self.alloc, head.at, to)?;
         found.append(run)?;
@@ -194,7 +194,7 @@ impl StreamMerge {
         self.heads[p].at = to;
         let moved = &self.heads[p];
         if moved.has_row() {
-            add_to_order(&self.heads, &self.columns, &mut self.order, p);
+            add_to_order(&self.heads, &self.merge, &mut self.order, p);
         } else if !moved.ended {
             self.missing = Some(p);
         }

@@ -2,19 +2,20 @@
 
 ghost use Rattle.std.specs.Prelude.{◌≡◌, ◌≤◌, length};
 ghost use Rattle.vx_rows_values.specs.Limits.{max_group_workers};
+ghost use Rattle.vx_rows_values.specs.Order.{order_columns};
 
 use crate::merge::StreamMerge;
 use crate::place::ReceiverPlace;
 use std::alloc::{AllocError, Global};
 use vx_ops::{Code, Fault, Got, Polled, Source, StreamState, Want};
 use vx_ports::{Body, Packet, StreamEnd};
-use vx_rows_values::ColType;
+use vx_rows_values::{ColType, OrderEntry};
 use vx_rows_views::Rows;
 
 /// Calls: `new (wants turn)*`.
 ///
 /// The consumer end of an exchange at one of its places: it returns the rows of its producers, each of which sends sorted
-/// rows, merged on the same columns, the rows of the lower producer first among equals.
+/// rows, merged in the same order, the rows of the lower producer first among equals.
 ///
 /// It asks a producer that has not ended and of which no row is at hand, until there is none, and then returns the least rows
 /// a batch at a time.
@@ -49,18 +50,18 @@ impl MergeReceiver {
     ghost use Rattle.vx_exchange_receivers.specs.MergeReceiver.{MergeReceiverStands, merge_end, merge_receiver_op, merge_receiver_types, merge_receiver_want, merge_receiver_most, merge_receiver_meaning};
 
     /// A consumer end at a place of an exchange, by its node number, for this many producers of rows of these types, each of
-    /// which sends them sorted on the columns `merge`: 1 to 64. Nothing came yet.
+    /// which sends them in the order `merge`: 1 to 64. Nothing came yet.
     pub fn new(
         alloc: Global,
         exchange: u32,
         place: u32,
         producers: u32,
         types: Vec<ColType>,
-        merge: Vec<usize>,
+        merge: Vec<OrderEntry>,
     ) -> Result<MergeReceiver, AllocError>
         requires some { 1 ≤ producers }
         requires few { producers ≤ max_group_workers }
-        requires columns { AreColumns (length types.items) merge.items }
+        requires columns { AreColumns (length types.items) (order_columns merge.items) }
         ensures stands { IfOk result (λ r. MergeReceiverStands r fresh_ledger) }
         ensures op { IfOk result (λ r. merge_receiver_op r ≡ receive (record { exchange = exchange; place = place; producers = producers; types = types.items; merge = merge.items; in_order = false })) }
         ensures types { IfOk result (λ r. merge_receiver_types r ≡ record { left = types.items; right = types.items; out = types.items }) }

@@ -1,6 +1,7 @@
 //! The place of an exchange at which a consumer end takes packets.
 
 ghost use Rattle.std.specs.Prelude.{◌↔◌, ℕ, List, Bool, IsTrue};
+ghost use Rattle.vx_rows_values.specs.declared.order.OrderEntry.{OrderEntry};
 ghost use Rattle.vx_ports.specs.Packets.{FitsContent};
 ghost use Rattle.vx_ops.specs.Ledger.{IsFor};
 ghost use Rattle.vx_exchange_receivers.specs.Ends.{end_at};
@@ -28,7 +29,7 @@ impl Drop for ReceiverPlace {
 impl ReceiverPlace {
     // Whether a packet is one of this exchange, from this producer to this place, with rows of these types.
     pub(crate) fn expects(&self, from: u32, packet: &Packet) -> bool
-        ensures ours { (producers : ℕ) (merge : List ℕ) (in_order : Bool) → (IsTrue result ↔ IsFor (end_at self.now producers merge in_order) from packet.now) }
+        ensures ours { (producers : ℕ) (merge : List OrderEntry) (in_order : Bool) → (IsTrue result ↔ IsFor (end_at self.now producers merge in_order) from packet.now) }
         ensures fit { IsTrue result → FitsContent packet.now.types packet.now.content }
     {
         packet.exchange() == self.exchange

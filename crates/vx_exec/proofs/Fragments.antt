@@ -2,6 +2,8 @@
 use Rattle.std.proofs.Common.{Box, Global, Result, Ok, Err, ◌≡◌, ℕ, suc, ◌+◌, ◌≤◌, ◌<◌, ◌==◌, ◌&&◌, true, Bool, List, length, refl, sym, ap, ◌∙◌, arith, eqb-true}
 use Rattle.std.specs.Prelude.{IfOk}
 use Rattle.vx_rows_values.specs.declared.value.ColType.{ColType}
+use Rattle.vx_rows_values.specs.declared.order.OrderEntry.{OrderEntry}
+use Rattle.vx_rows_values.specs.Order.{order_columns}
 use Rattle.vx_rows.specs.View.{AreColumns}
 use Rattle.vx_catalog_relations.specs.Catalog.{relation_at, all_below, are_distinct}
 use Rattle.vx_plan_nodes.specs.Plan.{Plan, Claim, Size, Unary, Binary, ExchangeKind, scan, unary, binary, exchange, size}
@@ -52,7 +54,7 @@ scan-tree j place n c r shared z o h = record {
   typed = λ leaves fit. h.takes ∙ fit;
 }
 
-pub exchange-tree : (j : Job) (place n : ℕ) (c : Claim) (kind : ExchangeKind) (merge : List ℕ) (p : Plan) (o : Operator)
+pub exchange-tree : (j : Job) (place n : ℕ) (c : Claim) (kind : ExchangeKind) (merge : List OrderEntry) (p : Plan) (o : Operator)
     → IsOperatorOf j place (exchange n c kind merge p) o → IsTreeOf j place (exchange n c kind merge p) (Leaf n o)
 exchange-tree j place n c kind merge p o h = record {
   shape_is = λ hash. ap (λ x. alone n x) (h.op_is hash);
@@ -107,20 +109,21 @@ scan-operator j place n c r shared z s o types is stands starts shape e = record
 }
 
 -- the columns on which an exchange merges are columns of its rows
-pub exchange-columns : (s : Scope) (n : ℕ) (c : Claim) (kind : ExchangeKind) (merge : List ℕ) (p : Plan) → typed s (exchange n c kind merge p) ≡ true
-    → AreColumns (length (types_of (relation_at s.catalog) p)) merge
+pub exchange-columns : (s : Scope) (n : ℕ) (c : Claim) (kind : ExchangeKind) (merge : List OrderEntry) (p : Plan) → typed s (exchange n c kind merge p) ≡ true
+    → AreColumns (length (types_of (relation_at s.catalog) p)) (order_columns merge)
 exchange-columns s n c kind merge p h =
     let w = length (types_of (relation_at s.catalog) p) in
-    let merges = and-right (is_kind s (types_of (relation_at s.catalog) p) kind) (are_columns w merge && (may_merge kind merge && is_output s (types_of (relation_at s.catalog) p) c))
-    (and-right (typed s p) (is_kind s (types_of (relation_at s.catalog) p) kind && (are_columns w merge && (may_merge kind merge && is_output s (types_of (relation_at s.catalog) p) c))) h) in
-    columns-below w merge (and-left (all_below w merge) (are_distinct merge) (and-left (are_columns w merge) (may_merge kind merge && is_output s (types_of (relation_at s.catalog) p) c) merges))
+    let cols = order_columns merge in
+    let merges = and-right (is_kind s (types_of (relation_at s.catalog) p) kind) (are_columns w cols && (may_merge kind merge && is_output s (types_of (relation_at s.catalog) p) c))
+    (and-right (typed s p) (is_kind s (types_of (relation_at s.catalog) p) kind && (are_columns w cols && (may_merge kind merge && is_output s (types_of (relation_at s.catalog) p) c))) h) in
+    columns-below w cols (and-left (all_below w cols) (are_distinct cols) (and-left (are_columns w cols) (may_merge kind merge && is_output s (types_of (relation_at s.catalog) p) c) merges))
 
 -- the consumer end of an exchange
-abbrev consumes : (number place producers : ℕ) → List ColType → List ℕ → Bool → Op
+abbrev consumes : (number place producers : ℕ) → List ColType → List OrderEntry → Bool → Op
 consumes number place producers types merge in_order = receive (record { exchange = number; place = place; producers = producers; types = types; merge = merge; in_order = in_order })
 
 -- one that was made for an exchange
-pub consumer-made : {E : Type 0} (j : Job) (place n : ℕ) (c : Claim) (kind : ExchangeKind) (merge : List ℕ) (p : Plan) (types : List ColType) (producers : ℕ) (made : Result Operator E)
+pub consumer-made : {E : Type 0} (j : Job) (place n : ℕ) (c : Claim) (kind : ExchangeKind) (merge : List OrderEntry) (p : Plan) (types : List ColType) (producers : ℕ) (made : Result Operator E)
     → IfOk made (λ o. operator_op o ≡ consumes n place producers types merge (is_concat kind))
     → IfOk made (λ o. OperatorStands o fresh_ledger) → IfOk made (λ o. StartsWithin (operator_op o) (operator_most o) (operator_idle o))
     → IfOk made (λ o. (operator_types o).left ≡ types) → IfOk made (λ o. (operator_types o).out ≡ types)

@@ -3,6 +3,7 @@ use Rattle.std.proofs.Common.{◌≡◌, ◌≢◌, ℕ, zero, suc, ◌+◌, ◌
 use Rattle.std.specs.List.{list_all}
 use Rattle.std.specs.Ordering.{ordering_reverse}
 use Rattle.std.proofs.lemmas.Bool.{eqb-false}
+use Rattle.vx_rows_values.specs.declared.order.OrderEntry.{OrderEntry}
 use Rattle.vx_rows_values.specs.Values.{Val, num, Row, val_cmp, row_eq, value_at, pick}
 use Rattle.vx_rows_values.specs.Order.{agree, sorted, compare_on}
 use Rattle.vx_rows_values.specs.Bags.{total, count, SameRows}
@@ -182,13 +183,13 @@ firsts-joined goes rt cols kept n s s' base sub run same apart = same-from-count
         (find-in (λ row. goes rt (pick cols row) n == j) (λ y. row_eq r (pick kept y)) (s j) (apart j b)))
         (find-in (λ row. goes rt (pick cols row) n == i) (λ y. row_eq r (pick kept y)) (s i) (apart i a))
 
-pub firsts-sorted : (cs : List ℕ) (xs : List Row) → sorted cs xs ≡ true → sorted cs (firsts xs) ≡ true
-firsts-sorted cs [] h = refl
-firsts-sorted cs (x ∷ xs) h =
-    and-both (list_all (λ y. is_le (compare_on cs x y)) (filter (λ y. not (row_eq x y)) (firsts xs))) _
-    (list_all-filter (λ y. is_le (compare_on cs x y)) (λ y. not (row_eq x y)) (firsts xs)
-    (firsts-all (λ y. is_le (compare_on cs x y)) xs (and-left (list_all (λ y. is_le (compare_on cs x y)) xs) (sorted cs xs) h)))
-    (sorted-filter cs (λ y. not (row_eq x y)) (firsts xs) (firsts-sorted cs xs (and-right (list_all (λ y. is_le (compare_on cs x y)) xs) (sorted cs xs) h)))
+pub firsts-sorted : (order : List OrderEntry) (xs : List Row) → sorted order xs ≡ true → sorted order (firsts xs) ≡ true
+firsts-sorted order [] h = refl
+firsts-sorted order (x ∷ xs) h =
+    and-both (list_all (λ y. is_le (compare_on order x y)) (filter (λ y. not (row_eq x y)) (firsts xs))) _
+    (list_all-filter (λ y. is_le (compare_on order x y)) (λ y. not (row_eq x y)) (firsts xs)
+    (firsts-all (λ y. is_le (compare_on order x y)) xs (and-left (list_all (λ y. is_le (compare_on order x y)) xs) (sorted order xs) h)))
+    (sorted-filter order (λ y. not (row_eq x y)) (firsts xs) (firsts-sorted order xs (and-right (list_all (λ y. is_le (compare_on order x y)) xs) (sorted order xs) h)))
 
 -- rows of one width that agree on all columns are equal
 pub rows-equal : (a b : Row) → length a ≡ length b → ((c : ℕ) → c < length a → value_at a c ≡ value_at b c) → a ≡ b

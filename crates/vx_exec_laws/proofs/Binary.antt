@@ -1,17 +1,20 @@
 -- Union and join keep the parts that the rule table shows.
-use Rattle.std.proofs.Common.{◌≡◌, ℕ, ◌+◌, ◌-◌, ◌<◌, ◌==◌, nat_lt, nat_le, Bool, true, false, cond, List, [], ◌∷◌, ◌++◌, map, refl, sym, ap, ◌∙◌, subst, arith, true≢false, Some, None, eqb-true, ltb-true, lt-ltb}
+use Rattle.std.proofs.Common.{◌≡◌, ℕ, ◌+◌, ◌-◌, ◌<◌, nat_lt, nat_le, Bool, true, false, cond, List, [], ◌∷◌, ◌++◌, map, refl, sym, ap, ◌∙◌, subst, arith, true≢false, Some, None, ltb-true, lt-ltb}
 use Rattle.std.specs.List.{list_all}
+use Rattle.vx_rows_values.specs.declared.order.OrderEntry.{OrderEntry}
 use Rattle.vx_rows_values.specs.Values.{Row}
+use Rattle.vx_rows_values.specs.Order.{order_columns, entry_eq}
 use Rattle.vx_rows_values.specs.Bags.{total, SameRows}
 use Rattle.vx_plan_nodes.specs.Plan.{Route, Part, one, any, all, routed}
 use Rattle.vx_catalog_relations.specs.Catalog.{all_below}
 use Rattle.vx_plan_nodes.specs.Serial.{join_rows}
 use Rattle.vx_plan_nodes.specs.Streams.{Streams, joined, across}
 use Rattle.vx_plan_nodes.specs.Routes.{Routing}
-use Rattle.vx_check_rules.specs.Rules.{part_gives, route_eq, all_pairs, routed_alike, right_columns, left_columns, is_prefix}
+use Rattle.vx_check_rules.specs.Rules.{part_gives, route_eq, all_pairs, routed_alike, right_columns, left_columns, is_front}
 use Rattle.vx_check_rules.specs.Claims.{PartHolds, InItsStream}
 use Rattle.vx_exec_laws.proofs.Bags.{and-left, and-right, and-both, total-append, total-joined, across-ext, across-add, stream-all, SameRows-all, SameRows-sym}
 use Rattle.vx_exec_laws.proofs.Parts.{route_eq-is}
+use Rattle.vx_exec_laws.proofs.OrderFacts.{entry-same}
 use Rattle.vx_exec_laws.proofs.Join.{join-alike}
 
 -- what holds of the serial rows holds of each stream's
@@ -78,10 +81,11 @@ join-met goes on (routed r ls) (routed u rs) n s t s' base rbase ra run hp hq =
     let same : r ≡ u = route_eq-is r u (and-left (route_eq r u) (all_pairs on ls rs) ra) in
     (join-alike goes r on ls rs n s t s' base rbase (and-right (route_eq r u) (all_pairs on ls rs) ra) run hp.0 hp.1 hq.0 (subst U (sym same) hq.1), refl, refl)
 
-pub front-below : (w : ℕ) (cs ds : List ℕ) → is_prefix cs ds ≡ true → all_below w ds ≡ true → all_below w cs ≡ true
+pub front-below : (w : ℕ) (cs ds : List OrderEntry) → is_front cs ds ≡ true → all_below w (order_columns ds) ≡ true → all_below w (order_columns cs) ≡ true
 front-below w [] ds f h = refl
 front-below w (c ∷ cs) [] f h = absurd (true≢false (sym f))
 front-below w (c ∷ cs) (d ∷ ds) f h =
-    let e : c ≡ d = eqb-true c d (and-left (c == d) (is_prefix cs ds) f) in
-    let b : d < w = ltb-true d w (and-left (nat_lt d w) (all_below w ds) h) in
-    and-both (nat_lt c w) (all_below w cs) (lt-ltb c w (omega arith)) (front-below w cs ds (and-right (c == d) (is_prefix cs ds) f) (and-right (nat_lt d w) (all_below w ds) h))
+    let e : c.column ≡ d.column = ap (λ (v : OrderEntry). v.column) (entry-same c d (and-left (entry_eq c d) (is_front cs ds) f)) in
+    let b : d.column < w = ltb-true d.column w (and-left (nat_lt d.column w) (all_below w (order_columns ds)) h) in
+    and-both (nat_lt c.column w) (all_below w (order_columns cs)) (lt-ltb c.column w (omega (arith, e, b)))
+    (front-below w cs ds (and-right (entry_eq c d) (is_front cs ds) f) (and-right (nat_lt d.column w) (all_below w (order_columns ds)) h))

@@ -1,5 +1,6 @@
 -- A fault for which no node of a plan is to blame comes from no worker: each fault is one of an input, or a node's own.
 use Rattle.std.proofs.Common.{◌≡◌, ⊎_elim, ℕ, ◌<◌, true, List, sym, ap, ◌∙◌, subst}
+use Rattle.vx_rows_values.specs.declared.order.OrderEntry.{OrderEntry}
 use Rattle.vx_plan_nodes.specs.Plan.{ExchangeKind, Plan, scan, unary, binary, exchange, size}
 use Rattle.vx_plan_nodes.specs.Types.{types_of}
 use Rattle.vx_plan_nodes.specs.Numbering.{is_fit}
@@ -17,7 +18,7 @@ use Rattle.vx_exec_laws.specs.CutRows.{Output}
 use Rattle.vx_exec_laws.proofs.CutOrigins.{under, on-left, on-right, same-size, fit-left, fit-right}
 
 -- the consumer end of an exchange at a place
-abbrev pub port_of : RunModel → ℕ → ℕ → ExchangeKind → List ℕ → Plan → ConsumerEnd
+abbrev pub port_of : RunModel → ℕ → ℕ → ExchangeKind → List OrderEntry → Plan → ConsumerEnd
 port_of S n w k merge p = record { exchange = n; place = w; producers = workers S.sizes (size p); types = types_of S.catalog p; merge = merge; in_order = is_concat k }
 
 module _ (S : RunModel) where

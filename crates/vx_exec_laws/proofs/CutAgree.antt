@@ -190,7 +190,7 @@ module _ (S : RunModel) (giv : Given S.catalog S.db S.sizes (goes S)) (some_rows
   are-given n c (select cs) p f ts run x y alike a b oa ob = tt
   are-given n c (project cols) p f ts run x y alike a b oa ob = tt
   are-given n c (distinct cols) p f ts run x y alike a b oa ob = tt
-  are-given n c (sort of_parts cols) p f ts run x y alike a b oa ob = tt
+  are-given n c (sort of_parts order) p f ts run x y alike a b oa ob = tt
   are-given n c (group plain by aggregates) p f ts run x y alike a b oa ob =
       let node : Plan = unary n c (group plain by aggregates) p in
       groups-tell n c plain by aggregates p f (λ xs ys e. e) (derived-tests S.catalog node (here S node f)).2 ts run x y alike a b oa ob

@@ -1,10 +1,11 @@
 -- What each node has been given so far is in the order that it asks for, by the rule table with what is known of columns.
-use Rattle.std.proofs.Common.{◌≡◌, ◌⊎◌, inl, inr, ⊎_elim, ℕ, ◌<◌, Bool, true, false, List, map}
-use Rattle.vx_plan_nodes.specs.Plan.{Claim, Binary, union, join, Plan, scan, unary, binary, exchange, claim, semi_join}
+use Rattle.std.proofs.Common.{◌≡◌, ◌⊎◌, inl, inr, ⊎_elim, ℕ, ◌<◌, Bool, true, List}
+use Rattle.vx_rows_values.specs.declared.order.OrderEntry.{OrderEntry}
+use Rattle.vx_plan_nodes.specs.Plan.{by_hashing, by_merging, Claim, Binary, union, join, Plan, scan, unary, binary, exchange, claim, semi_join, left_order, right_order}
 use Rattle.vx_plan_facts.specs.Equal.{equal_at}
 use Rattle.vx_plan_facts.specs.Determined.{determined}
 use Rattle.vx_plan_facts.specs.Following.{order_follows}
-use Rattle.vx_check_rules.specs.Rules.{is_prefix, order_given}
+use Rattle.vx_check_rules.specs.Rules.{is_front, order_given}
 use Rattle.vx_check_rules.specs.Derived.{needed_follows, order_given_derived}
 use Rattle.vx_check_rules.specs.Claims.{Given}
 use Rattle.vx_worker.specs.Fragment.{RunModel, goes}
@@ -21,8 +22,8 @@ use Rattle.vx_exec_laws.proofs.NeededOrders.{NeededOf, NeededSoFar}
 
 module _ (S : RunModel) (giv : Given S.catalog S.db S.sizes (goes S)) (some_rows : 0 < S.morsel) (meet : Meeting S) where
   -- an order that begins the claimed one, or follows from it
-  asked-so : (p : Plan) → Fine S p → (ts : ℕ → Trace) → RunOf S (Ends S) p ts → (order : List ℕ)
-      → (is_prefix order (claim p).order ≡ true) ⊎ (order_follows (equal_at S.catalog p) (determined S.catalog p) (claim p).order order ≡ true) → SortedSoFar S p ts order
+  asked-so : (p : Plan) → Fine S p → (ts : ℕ → Trace) → RunOf S (Ends S) p ts → (order : List OrderEntry)
+      → (is_front order (claim p).order ≡ true) ⊎ (order_follows (equal_at S.catalog p) (determined S.catalog p) (claim p).order order ≡ true) → SortedSoFar S p ts order
   asked-so p f ts run order why x =
       let up = cut-sorted S giv some_rows meet p f ts run x in
       ⊎_elim (λ h. sorted-front order (claim p).order h x.out.rows up) (λ h. follows-so S giv some_rows meet p f ts run x (claim p).order order h up) why
@@ -30,14 +31,14 @@ module _ (S : RunModel) (giv : Given S.catalog S.db S.sizes (goes S)) (some_rows
   both-asked : (n : ℕ) (c : Claim) (op : Binary) (p q : Plan) → Fine S p → Fine S q → order_given_derived S.catalog (binary n c op p q) ≡ true
       → (ts : ℕ → Trace) → RunOf S (Ends S) p ts → RunOf S (Ends S) q ts → NeededOf S op p q ts
   both-asked n c union p q fp fq t ts run more = tt
-  both-asked n c (join false on) p q fp fq t ts run more = tt
+  both-asked n c (join by_hashing on) p q fp fq t ts run more = tt
   both-asked n c (semi_join matched on conditions) p q fp fq t ts run more = tt
-  both-asked n c (join true on) p q fp fq t ts run more =
-      let node : Plan = binary n c (join true on) p q in
-      let lefts : List ℕ = map (λ x. x.0) on in
-      let rights : List ℕ = map (λ x. x.1) on in
-      let lp : Bool = is_prefix lefts (claim p).order in
-      let rp : Bool = is_prefix rights (claim q).order in
+  both-asked n c (join (by_merging falls) on) p q fp fq t ts run more =
+      let node : Plan = binary n c (join (by_merging falls) on) p q in
+      let lefts : List OrderEntry = left_order falls on in
+      let rights : List OrderEntry = right_order falls on in
+      let lp : Bool = is_front lefts (claim p).order in
+      let rp : Bool = is_front rights (claim q).order in
       let lf : Bool = order_follows (equal_at S.catalog p) (determined S.catalog p) (claim p).order lefts in
       let rf : Bool = order_follows (equal_at S.catalog q) (determined S.catalog q) (claim q).order rights in
       let why = or-cases (order_given node) (needed_follows S.catalog node) t in (

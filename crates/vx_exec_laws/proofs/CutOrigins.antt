@@ -2,10 +2,11 @@
 use Rattle.std.proofs.Common.{◌≡◌, ◌⊎◌, inl, inr, ⊎_elim, ℕ, ◌+◌, ◌<◌, ◌≤◌, ◌==◌, Bool, true, false, cond, ◌&&◌, List, ◌++◌, map, filter, refl, sym, ap, ◌∙◌, subst, arith, append-nil, Some, not, take}
 use Rattle.std.specs.List.{list_all, AllByRecursion}
 use Rattle.std.proofs.lemmas.Bool.{cases_lt}
+use Rattle.vx_rows_values.specs.declared.order.OrderEntry.{OrderEntry}
 use Rattle.vx_rows_values.specs.Values.{Row, row_eq, pick}
 use Rattle.vx_rows_values.specs.Order.{sort_on}
 use Rattle.vx_rows_values.specs.Bags.{count}
-use Rattle.vx_plan_nodes.specs.Plan.{Size, Claim, Unary, select, project, distinct, sort, group, plain, partial, final, Aggregate, Phase, Binary, union, join, ExchangeKind, route_to, round, broadcast, gather, concat, target, Plan, scan, unary, binary, exchange, size, size_eq, limit, semi_join, Condition}
+use Rattle.vx_plan_nodes.specs.Plan.{JoinMethod, Size, Claim, Unary, select, project, distinct, sort, group, plain, partial, final, Aggregate, Phase, Binary, union, join, ExchangeKind, route_to, round, broadcast, gather, concat, target, Plan, scan, unary, binary, exchange, size, size_eq, limit, semi_join, Condition}
 use Rattle.vx_plan_nodes.specs.Parts.{kind_part}
 use Rattle.vx_plan_nodes.specs.Serial.{passes, firsts, matches, joined_with, join_rows, aggregate_of, of_key, group_keys, group_row, group_fits, group_rows, unary_rows, is_matched, matched_rows}
 use Rattle.vx_plan_nodes.specs.Streams.{Streams, workers}
@@ -77,9 +78,9 @@ each-comes (project cols) xs ys e =
 each-comes (distinct cols) xs ys e =
     subst (AllByRecursion (Comes (distinct cols) xs)) (some-is (firsts (map (pick cols) xs)) ys e)
     (each-firsts (Comes (distinct cols) xs) (map (pick cols) xs) (each-map (λ row. Occurs row xs) (Comes (distinct cols) xs) (pick cols) (λ x o. (x, o, refl)) xs (each-occurs xs)))
-each-comes (sort of_parts cols) xs ys e =
-    subst (AllByRecursion (Comes (sort of_parts cols) xs)) (some-is (sort_on cols xs) ys e)
-    (each-weaken (λ row. Occurs row xs) (Comes (sort of_parts cols) xs) (λ x o. (x, o, refl)) (sort_on cols xs) (each-sort (λ row. Occurs row xs) cols xs (each-occurs xs)))
+each-comes (sort of_parts order) xs ys e =
+    subst (AllByRecursion (Comes (sort of_parts order) xs)) (some-is (sort_on order xs) ys e)
+    (each-weaken (λ row. Occurs row xs) (Comes (sort of_parts order) xs) (λ x o. (x, o, refl)) (sort_on order xs) (each-sort (λ row. Occurs row xs) order xs (each-occurs xs)))
 each-comes (limit m) xs ys e =
     subst (AllByRecursion (Comes (limit m) xs)) (some-is (take m xs) ys e)
     (each-take (Comes (limit m) xs) m xs (each-weaken (λ row. Occurs row xs) (Comes (limit m) xs) (λ x o. (x, o, refl)) xs (each-occurs xs)))
@@ -208,7 +209,7 @@ module _ (S : RunModel) where
   begins-rows ps qs b = record { rest = rows_of b.rest; joined = sym (rows_of-append ps b.rest) ∙ ap rows_of b.joined }
 
   -- a row of a consumer comes of a row that some producer put for it
-  pub exchange-comes : (n : ℕ) (c : Claim) (k : ExchangeKind) (merge : List ℕ) (p : Plan) (ts : ℕ → Trace) (run : RunOf S (Ends S) (exchange n c k merge p) ts)
+  pub exchange-comes : (n : ℕ) (c : Claim) (k : ExchangeKind) (merge : List OrderEntry) (p : Plan) (ts : ℕ → Trace) (run : RunOf S (Ends S) (exchange n c k merge p) ts)
       → (x : Output S (exchange n c k merge p) ts) (a : Row) → Occurs a x.out.rows
       → (i : ℕ) × (i < workers S.sizes (size p)) × Occurs a (rows_of ((run.0 i).sent x.place))
   exchange-comes n c k merge p ts run x a o =
@@ -256,7 +257,7 @@ module _ (S : RunModel) where
       (λ r. inr (occurs-begins a b.inputs.right.rows led.right.rows b.begins.right r))
       (occurs-either a b.inputs.left.rows b.inputs.right.rows (subst P (sym b.makes) (occurs-begins a led.gave.rows b.whole b.gave (subst G (sym x.abides.4) o))))
 
-  pub joined-comes : (n : ℕ) (c : Claim) (m : Bool) (on : List (ℕ × ℕ)) (p q : Plan) (ts : ℕ → Trace) (same : size p ≡ size q)
+  pub joined-comes : (n : ℕ) (c : Claim) (m : JoinMethod) (on : List (ℕ × ℕ)) (p q : Plan) (ts : ℕ → Trace) (same : size p ≡ size q)
       (x : Output S (binary n c (join m on) p q) ts) (a : Row) → Occurs a x.out.rows
       → (l r : Row) × Occurs l (on-left n c (join m on) p q ts x).out.rows
       × Occurs r (on-right n c (join m on) p q ts same x).out.rows × (a ≡ l ++ r) × (matches on l r ≡ true)

@@ -2,10 +2,11 @@
 use Rattle.std.proofs.Common.{◌≡◌, ℕ, ◌+◌, ◌<◌, ◌≤◌, ◌==◌, Bool, true, not, ◌&&◌, ◌||◌, ⊎_elim, List, [], ◌∷◌, ◌++◌, map, length, refl, sym, ap, ◌∙◌, subst, arith, true≢false, eqb-true, eq-eqb, nat_le}
 use Rattle.std.specs.List.{list_all, list_any}
 use Rattle.std.proofs.lemmas.Bool.{cases_lt}
+use Rattle.vx_rows_values.specs.declared.order.OrderEntry.{OrderEntry}
 use Rattle.vx_rows_values.specs.Values.{Row, value_at, pick}
 use Rattle.vx_rows_values.proofs.Compare.{row_eq-same}
 use Rattle.vx_catalog_relations.specs.Relation.{Relation, KeysHold}
-use Rattle.vx_plan_nodes.specs.Plan.{Size, Claim, ExchangeKind, Unary, select, project, distinct, sort, group, plain, partial, final, union, join, Plan, scan, unary, binary, exchange, claim, limit, semi_join, Condition}
+use Rattle.vx_plan_nodes.specs.Plan.{JoinMethod, Size, Claim, ExchangeKind, Unary, select, project, distinct, sort, group, plain, partial, final, union, join, Plan, scan, unary, binary, exchange, claim, limit, semi_join, Condition}
 use Rattle.vx_plan_nodes.specs.Types.{width}
 use Rattle.vx_plan_nodes.specs.Phases.{first_columns}
 use Rattle.vx_plan_nodes.specs.Describe.{Copying, whole_rows, columns_kept, left_of, right_of, described}
@@ -58,7 +59,7 @@ abbrev pub StemOf : Unary → Row → Row → Type 0
 StemOf (select cs) a x = a ≡ x
 StemOf (project cols) a x = a ≡ pick cols x
 StemOf (distinct cols) a x = a ≡ pick cols x
-StemOf (sort of_parts cols) a x = a ≡ x
+StemOf (sort of_parts order) a x = a ≡ x
 StemOf (group phase by aggregates) a x = (tail : Row) × (a ≡ pick by x ++ tail)
 StemOf (limit m) a x = a ≡ x
 
@@ -69,7 +70,7 @@ pub stem-copies : (op : Unary) (a x : Row) → StemOf op a x → HasCopies (desc
 stem-copies (select cs) a x e = copies-of whole_rows x a x e (whole-copies x)
 stem-copies (project cols) a x e = copies-of (columns_kept cols) x a (pick cols x) e (kept-alone cols x)
 stem-copies (distinct cols) a x e = copies-of (columns_kept cols) x a (pick cols x) e (kept-alone cols x)
-stem-copies (sort of_parts cols) a x e = copies-of whole_rows x a x e (whole-copies x)
+stem-copies (sort of_parts order) a x e = copies-of whole_rows x a x e (whole-copies x)
 stem-copies (group plain by aggregates) a x e = copies-of (columns_kept by) x a (pick by x ++ e.0) e.1 (kept-copies by x e.0)
 stem-copies (group partial by aggregates) a x e = copies-of (columns_kept by) x a (pick by x ++ e.0) e.1 (kept-copies by x e.0)
 stem-copies (group final by aggregates) a x e = copies-of (columns_kept by) x a (pick by x ++ e.0) e.1 (kept-copies by x e.0)
@@ -183,7 +184,7 @@ module _ (catalog : ℕ → Relation) where
   unary-shown (project cols) n c p a b x y ma mb h sa sb given k e g = project-tells cols p a b x y h sa sb k e g
   unary-shown (distinct cols) n c p a b x y ma mb h sa sb given k e g =
       agree-all (length cols) k a b (and-left (within (numbers_below (length cols)) k) (within k (numbers_below (length cols))) e) ma.wide mb.wide (agree-of k a b (on-pick k a b g))
-  unary-shown (sort of_parts cols) n c p a b x y ma mb h sa sb given k e g =
+  unary-shown (sort of_parts order) n c p a b x y ma mb h sa sb given k e g =
       whole-same a b x y sa sb (h.keyed (set_of k) (whole-on x y a b sa sb (set_of k) g) (and-right (not of_parts) (covers (claim p).keys k) e))
   unary-shown (group plain by aggregates) n c p a b x y ma mb h sa sb given k e g = given k e g
   unary-shown (group partial by aggregates) n c p a b x y ma mb h sa sb given k e g = absurd (true≢false (sym e))
@@ -197,7 +198,7 @@ module _ (catalog : ℕ → Relation) where
   unary-below (select cs) n c p a b x y h sa sb k e g = absurd (true≢false (sym e))
   unary-below (project cols) n c p a b x y h sa sb k e g = below-tells n c cols p a b x y h sa sb k e g
   unary-below (distinct cols) n c p a b x y h sa sb k e g = absurd (true≢false (sym e))
-  unary-below (sort of_parts cols) n c p a b x y h sa sb k e g = absurd (true≢false (sym e))
+  unary-below (sort of_parts order) n c p a b x y h sa sb k e g = absurd (true≢false (sym e))
   unary-below (group phase by aggregates) n c p a b x y h sa sb k e g = absurd (true≢false (sym e))
   unary-below (limit m) n c p a b x y h sa sb k e g = absurd (true≢false (sym e))
 
@@ -246,7 +247,7 @@ module _ (catalog : ℕ → Relation) where
           and-both (set_of x (v + c)) (list_all (λ c. set_of x (v + c)) k) (and-left (contains x (v + c)) (within (shifted v k) x) h)
           (all k (and-right (contains x (v + c)) (within (shifted v k) x) h))
 
-  join-tells : (on : List (ℕ × ℕ)) (n : ℕ) (c : Claim) (m : Bool) (p q : Plan) (a b l r j k : Row) → Agreed catalog p l j → Agreed catalog q r k
+  join-tells : (on : List (ℕ × ℕ)) (n : ℕ) (c : Claim) (m : JoinMethod) (p q : Plan) (a b l r j k : Row) → Agreed catalog p l j → Agreed catalog q r k
       → Paired on (width catalog p) a l r → Paired on (width catalog p) b j k → Tells (keys_of catalog (binary n c (join m on) p q)) a b
   join-tells on n c m p q a b l r j k hl hr pa pb x t g =
       let v : ℕ = width catalog p in
@@ -274,7 +275,7 @@ module _ (catalog : ℕ → Relation) where
       both (hl.keyed (set_of (map (λ p. p.0) on)) (pick-on (map (λ p. p.0) on) l j (left_pairs ∙ (ap (pick (map (λ p. p.1) on)) f ∙ sym right_pairs))) (and-right B D h)) f)
       (or-cases ((A && B) || (A && C)) (B && D) t)
 
-  pub join-agreed : (on : List (ℕ × ℕ)) (n : ℕ) (c : Claim) (m : Bool) (p q : Plan) (a b l r j k : Row) → MeetsAt catalog (binary n c (join m on) p q) a → MeetsAt catalog (binary n c (join m on) p q) b
+  pub join-agreed : (on : List (ℕ × ℕ)) (n : ℕ) (c : Claim) (m : JoinMethod) (p q : Plan) (a b l r j k : Row) → MeetsAt catalog (binary n c (join m on) p q) a → MeetsAt catalog (binary n c (join m on) p q) b
       → keys_shown_derived catalog (binary n c (join m on) p q) ≡ true → Agreed catalog p l j → Agreed catalog q r k
       → Paired on (width catalog p) a l r → Paired on (width catalog p) b j k → Agreed catalog (binary n c (join m on) p q) a b
   join-agreed on n c m p q a b l r j k ma mb t hl hr pa pb =
@@ -300,7 +301,7 @@ module _ (catalog : ℕ → Relation) where
 
   -- ---- exchanges
 
-  pub exchange-agreed : (n : ℕ) (c : Claim) (kind : ExchangeKind) (merge : List ℕ) (p : Plan) (a b : Row) → MeetsAt catalog (exchange n c kind merge p) a → MeetsAt catalog (exchange n c kind merge p) b
+  pub exchange-agreed : (n : ℕ) (c : Claim) (kind : ExchangeKind) (merge : List OrderEntry) (p : Plan) (a b : Row) → MeetsAt catalog (exchange n c kind merge p) a → MeetsAt catalog (exchange n c kind merge p) b
       → keys_shown_derived catalog (exchange n c kind merge p) ≡ true → Agreed catalog p a b → Agreed catalog (exchange n c kind merge p) a b
   exchange-agreed n c kind merge p a b ma mb t h =
       agreed-from (exchange n c kind merge p) a b ma mb (λ s g. input-pair (width catalog p) whole_rows (determined catalog p) a b a b (whole-copies a) (whole-copies b) h.determined_in s g) (λ x e g. h.keyed (set_of x) g e) (λ x e g. absurd (true≢false (sym e))) t

@@ -1,9 +1,10 @@
 -- Each row that a worker has given so far stands where the claimed part of its node says, by what is known of columns too.
 use Rattle.std.proofs.Common.{◌≡◌, ⊎_elim, ℕ, ◌<◌, ◌==◌, Bool, true, false, ◌&&◌, ◌||◌, List, [], ◌∷◌, ◌++◌, refl, sym, ap, ap₂, ◌∙◌, subst, true≢false, Option, Some, None}
 use Rattle.std.specs.List.{list_all, AllByRecursion}
+use Rattle.vx_rows_values.specs.declared.order.OrderEntry.{OrderEntry}
 use Rattle.vx_rows_values.specs.Values.{Row, pick}
 use Rattle.vx_catalog_relations.specs.Catalog.{all_below}
-use Rattle.vx_plan_nodes.specs.Plan.{Route, Part, one, any, all, routed, Size, Claim, Unary, select, project, distinct, sort, group, plain, partial, final, Binary, union, join, ExchangeKind, route_to, round, broadcast, gather, concat, target, Plan, scan, unary, binary, exchange, claim, size, is_one, limit, semi_join, Condition}
+use Rattle.vx_plan_nodes.specs.Plan.{JoinMethod, Route, Part, one, any, all, routed, Size, Claim, Unary, select, project, distinct, sort, group, plain, partial, final, Binary, union, join, ExchangeKind, route_to, round, broadcast, gather, concat, target, Plan, scan, unary, binary, exchange, claim, size, is_one, limit, semi_join, Condition}
 use Rattle.vx_plan_nodes.specs.Parts.{kind_part}
 use Rattle.vx_plan_nodes.specs.Types.{width, well_formed, names_columns, part_columns}
 use Rattle.vx_plan_nodes.specs.Describe.{Copying, source, left_of, right_of, described, whole_rows}
@@ -163,7 +164,7 @@ module _ (S : RunModel) where
         (and-right (allowed_derived S.catalog p) (allowed_derived S.catalog q && allowed_here_derived S.catalog (binary n c op p q)) f.allowed);
   }
 
-  pub fine-below : (n : ℕ) (c : Claim) (k : ExchangeKind) (merge : List ℕ) (p : Plan) → Fine S (exchange n c k merge p) → Fine S p
+  pub fine-below : (n : ℕ) (c : Claim) (k : ExchangeKind) (merge : List OrderEntry) (p : Plan) → Fine S (exchange n c k merge p) → Fine S p
   fine-below n c k merge p f = record {
     fit = f.fit;
     formed = and-left (well_formed S.catalog p) (names_columns (width S.catalog p) c) f.formed;
@@ -219,7 +220,7 @@ module _ (S : RunModel) (giv : Given S.catalog S.db S.sizes (goes S)) (meet : Me
       derived r cols (and-left e f h) (and-right e f h))
       t
 
-  join-stands : (n : ℕ) (c : Claim) (m : Bool) (on : List (ℕ × ℕ)) (p q : Plan) → size p ≡ size q → all_below (width S.catalog p) (part_columns (claim p).part) ≡ true
+  join-stands : (n : ℕ) (c : Claim) (m : JoinMethod) (on : List (ℕ × ℕ)) (p q : Plan) → size p ≡ size q → all_below (width S.catalog p) (part_columns (claim p).part) ≡ true
       → (w : ℕ) → w < workers S.sizes (size p) → part_shown_derived S.catalog (binary n c (join m on) p q) ≡ true → (a l r : Row) → a ≡ l ++ r
       → MeetsAt S.catalog (binary n c (join m on) p q) a → MeetsAt S.catalog p l → MeetsAt S.catalog q r → StandsAt p w l → StandsAt q w r → StandsAt (binary n c (join m on) p q) w a
   join-stands n c m on p q same below w b t a l r is ma ml mr at_left at_right =
@@ -293,7 +294,7 @@ module _ (S : RunModel) (giv : Given S.catalog S.db S.sizes (goes S)) (meet : Me
       routed-row (goes S) (width S.catalog p) whole_rows e (equal_at S.catalog node) (claim p).part r cols m w a a (and-right met as_left h) ml.alike ma.alike (whole-copies a) at)
       t
 
-  exchange-stands : (n : ℕ) (c : Claim) (k : ExchangeKind) (merge : List ℕ) (p : Plan) (w : ℕ) → w < workers S.sizes (target k) → part_shown_derived S.catalog (exchange n c k merge p) ≡ true
+  exchange-stands : (n : ℕ) (c : Claim) (k : ExchangeKind) (merge : List OrderEntry) (p : Plan) (w : ℕ) → w < workers S.sizes (target k) → part_shown_derived S.catalog (exchange n c k merge p) ≡ true
       → (a : Row) → MeetsAt S.catalog (exchange n c k merge p) a → At (goes S) (kind_part k) (workers S.sizes (target k)) w a → StandsAt (exchange n c k merge p) w a
   exchange-stands n c k merge p w l t a ma at =
       let node : Plan = exchange n c k merge p in

@@ -1,6 +1,7 @@
 -- What a node has given so far is sorted on its claimed order, by the rule table with what is known of columns.
 use Rattle.std.proofs.Common.{◌≡◌, ⊎_elim, inl, ℕ, ◌<◌, ◌==◌, Bool, true, false, ◌&&◌, ◌||◌, List, [], length, refl, sym, subst, arith, true≢false, eq-eqb}
 use Rattle.std.specs.List.{list_all, AllByRecursion}
+use Rattle.vx_rows_values.specs.declared.order.OrderEntry.{OrderEntry}
 use Rattle.vx_rows_values.specs.Values.{Row}
 use Rattle.vx_rows_values.specs.Order.{sorted}
 use Rattle.vx_plan_nodes.specs.Plan.{Size, Claim, Unary, Binary, union, join, ExchangeKind, route_to, round, broadcast, gather, concat, target, Plan, scan, unary, binary, exchange, claim, size, is_one, semi_join}
@@ -36,7 +37,8 @@ use Rattle.vx_exec_laws.proofs.Concat.{ranged, goes-on-is, exchange-sorted}
 use Rattle.vx_exec_laws.proofs.Tidy.{sends-all, all-begins, scan-so}
 use Rattle.vx_exec_laws.proofs.DerivedPairs.{Pairs, pairs-among, order-from}
 use Rattle.vx_exec_laws.proofs.DerivedOpen.{derived-tests}
-use Rattle.vx_exec_laws.proofs.DerivedOrders.{unary-given, prefix-self, each-all, ranged-equally}
+use Rattle.vx_exec_laws.proofs.OrderFacts.{front-self}
+use Rattle.vx_exec_laws.proofs.DerivedOrders.{unary-given, each-all, ranged-equally}
 use Rattle.vx_exec_laws.proofs.Blameless.{port_of}
 use Rattle.vx_exec_laws.proofs.CutOrigins.{occurs-begins, under, on-left, producer}
 use Rattle.vx_exec_laws.proofs.Received.{sorted-begins, SortedSoFar, came-here, came-among, one-or-apart, lists, lists-sorted}
@@ -44,17 +46,17 @@ use Rattle.vx_exec_laws.proofs.CutPlaces.{Meeting, Fine, fine-under, fine-left, 
 use Rattle.vx_exec_laws.proofs.CutAgree.{pairs-so-far}
 
 -- the claim with another order
-abbrev with_order : Claim → List ℕ → Claim
-with_order c cols = record { part = c.part; order = cols; keys = c.keys }
+abbrev with_order : Claim → List OrderEntry → Claim
+with_order c order = record { part = c.part; order = order; keys = c.keys }
 
 -- what both inputs give in order, in the order that the table says
 both-order : (S : RunModel) (n : ℕ) (c : Claim) (op : Binary) (p q : Plan) → Fine S p → (ls rs : List Row) → wide (width S.catalog p) ls ≡ true → sorted (claim p).order ls ≡ true
     → sorted (binary_order op (claim p).order) (binary_rows op ls rs) ≡ true
 both-order S n c union p q h ls rs v u = both-ordered S.catalog n (with_order c []) union p q (names S.catalog p h.formed) refl ls rs v u
 both-order S n c (join m on) p q h ls rs v u =
-    both-ordered S.catalog n (with_order c (claim p).order) (join m on) p q (names S.catalog p h.formed) (prefix-self (claim p).order) ls rs v u
+    both-ordered S.catalog n (with_order c (claim p).order) (join m on) p q (names S.catalog p h.formed) (front-self (claim p).order) ls rs v u
 both-order S n c (semi_join matched on conditions) p q h ls rs v u =
-    both-ordered S.catalog n (with_order c (claim p).order) (semi_join matched on conditions) p q (names S.catalog p h.formed) (prefix-self (claim p).order) ls rs v u
+    both-ordered S.catalog n (with_order c (claim p).order) (semi_join matched on conditions) p q (names S.catalog p h.formed) (front-self (claim p).order) ls rs v u
 
 goes-on-derived-is : (S : RunModel) (k : ExchangeKind) (p : Plan) → goes_on_derived S.catalog k p ≡ true
     → (is_concat k ≡ true) × (rises_equally (equal_at S.catalog p) (determined S.catalog p) (claim p).part (claim p).order ≡ true)
@@ -69,8 +71,8 @@ meets-wide S p xs h =
     each-all (MeetsAt S.catalog p) (λ row. length row == width S.catalog p) (λ row t. eq-eqb (length row) (width S.catalog p) t.wide) xs h
 
 -- a beginning of what an operator makes
-gave-sorted : (op : Op) (l : Ledger) (b : Begun op l) (out : Stream) → l.gave ≡ out → (cols : List ℕ) → sorted cols b.whole ≡ true → sorted cols out.rows ≡ true
-gave-sorted op l b out e cols up = let Q : Stream → Type 0 = λ s. sorted cols s.rows ≡ true in subst Q e (sorted-begins cols l.gave.rows b.whole b.gave up)
+gave-sorted : (op : Op) (l : Ledger) (b : Begun op l) (out : Stream) → l.gave ≡ out → (order : List OrderEntry) → sorted order b.whole ≡ true → sorted order out.rows ≡ true
+gave-sorted op l b out e order up = let Q : Stream → Type 0 = λ s. sorted order s.rows ≡ true in subst Q e (sorted-begins order l.gave.rows b.whole b.gave up)
 
 module _ (S : RunModel) (giv : Given S.catalog S.db S.sizes (goes S)) (some_rows : 0 < S.morsel) (meet : Meeting S) where
   -- ---- two rows of what workers gave
@@ -83,12 +85,12 @@ module _ (S : RunModel) (giv : Given S.catalog S.db S.sizes (goes S)) (some_rows
 
   -- an order that follows from one that a node's rows so far have
   pub follows-so : (p : Plan) → Fine S p → (ts : ℕ → Trace) → RunOf S (Ends S) p ts → (x : Output S p ts)
-      → (given order : List ℕ) → order_follows (equal_at S.catalog p) (determined S.catalog p) given order ≡ true → sorted given x.out.rows ≡ true → sorted order x.out.rows ≡ true
+      → (given order : List OrderEntry) → order_follows (equal_at S.catalog p) (determined S.catalog p) given order ≡ true → sorted given x.out.rows ≡ true → sorted order x.out.rows ≡ true
   follows-so p f ts run x given order t up =
       order-from (width S.catalog p) (equal_at S.catalog p) (fixed_at S.catalog p) (determined S.catalog p) x.out.rows (own-pairs p f ts run x) given order t up
 
   -- rows of two producers, or of one
-  lists-pairs : (n : ℕ) (c : Claim) (k : ExchangeKind) (merge : List ℕ) (p : Plan) → Fine S p → (ts : ℕ → Trace) (run : RunOf S (Ends S) (exchange n c k merge p) ts)
+  lists-pairs : (n : ℕ) (c : Claim) (k : ExchangeKind) (merge : List OrderEntry) (p : Plan) → Fine S p → (ts : ℕ → Trace) (run : RunOf S (Ends S) (exchange n c k merge p) ts)
       → (x : Output S (exchange n c k merge p) ts) → PairsSoFar p (joined (workers S.sizes (size p)) (lists S giv n c k merge p ts run x))
   lists-pairs n c k merge p f ts run x a b oa ob =
       let m : ℕ = workers S.sizes (size p) in
@@ -102,7 +104,7 @@ module _ (S : RunModel) (giv : Given S.catalog S.db S.sizes (goes S)) (some_rows
       pairs-so-far S giv some_rows meet p f run.0 run.1 (producer S n y.0 k p run.0 y.1 (run.2 y.0 y.1)) (producer S n z.0 k p run.0 z.1 (run.2 z.0 z.1))
       (one-or-apart S giv n c k merge p ts run x y.0 z.0 y.1 z.1) a b y.2 z.2
 
-  lists-placed : (n : ℕ) (c : Claim) (k : ExchangeKind) (merge : List ℕ) (p : Plan) → Fine S p → (ts : ℕ → Trace) (run : RunOf S (Ends S) (exchange n c k merge p) ts)
+  lists-placed : (n : ℕ) (c : Claim) (k : ExchangeKind) (merge : List OrderEntry) (p : Plan) → Fine S p → (ts : ℕ → Trace) (run : RunOf S (Ends S) (exchange n c k merge p) ts)
       → (x : Output S (exchange n c k merge p) ts) (i : ℕ) → i < workers S.sizes (size p)
       → Placed (goes S) (claim p).part (workers S.sizes (size p)) i (lists S giv n c k merge p ts run x i)
   lists-placed n c k merge p f ts run x i a =
@@ -119,8 +121,8 @@ module _ (S : RunModel) (giv : Given S.catalog S.db S.sizes (goes S)) (some_rows
       → (x : Output S (scan n c r m z) ts) (i : ℕ) → Drawn S.morsel (S.db r) i ((ts x.place).drew n).numbers → sorted c.order x.out.rows ≡ true
   scan-cut n c r m z f ts run x i d =
       let node : Plan = scan n c r m z in
-      let in_order : (cols : List ℕ) → sorted cols (S.db r) ≡ true → sorted cols x.out.rows ≡ true
-      = λ cols up. scan-so S giv (λ xs. sorted cols xs ≡ true) (sorted-begins cols) (sorted-bearing cols) n r i (ts x.place) f.fit up d x.reads x.begins x.out x.abides in
+      let in_order : (order : List OrderEntry) → sorted order (S.db r) ≡ true → sorted order x.out.rows ≡ true
+      = λ order up. scan-so S giv (λ xs. sorted order xs ≡ true) (sorted-begins order) (sorted-bearing order) n r i (ts x.place) f.fit up d x.reads x.begins x.out x.abides in
       ⊎_elim
       (λ h. in_order c.order (sorted-front c.order (S.catalog r).order h (S.db r) (giv.meets r).order))
       (λ h. follows-so node f ts run x (S.catalog r).order c.order h (in_order (S.catalog r).order (giv.meets r).order))
@@ -137,8 +139,8 @@ module _ (S : RunModel) (giv : Given S.catalog S.db S.sizes (goes S)) (some_rows
       let from : sorted (claim p).order xs ≡ true = sorted-begins (claim p).order xs h.0.left.rows b.begins.left (up input) in
       let pairs : PairsSoFar p xs = pairs-among (width S.catalog p) (equal_at S.catalog p) (fixed_at S.catalog p) (determined S.catalog p) xs h.0.left.rows
       (λ row o. occurs-begins row xs h.0.left.rows b.begins.left o) (own-pairs p (fine-under S n c op p f) ts run input) in
-      let made : (cols : List ℕ) → sorted cols b.whole ≡ true → sorted cols x.out.rows ≡ true = gave-sorted (one_op n op) h.0 b x.out h.3 in
-      let order : List ℕ = unary_order (width S.catalog node) op (equal_at S.catalog p) (determined S.catalog p) (claim p).order in
+      let made : (by : List OrderEntry) → sorted by b.whole ≡ true → sorted by x.out.rows ≡ true = gave-sorted (one_op n op) h.0 b x.out h.3 in
+      let order : List OrderEntry = unary_order (width S.catalog node) op (equal_at S.catalog p) (determined S.catalog p) (claim p).order in
       let u = unary-given (width S.catalog node) op (equal_at S.catalog p) (fixed_at S.catalog p) (determined S.catalog p) (claim p).order in
       ⊎_elim
       (λ s. made c.order (unary-ordered S.catalog n c op p s xs b.whole b.makes from))
@@ -158,26 +160,26 @@ module _ (S : RunModel) (giv : Given S.catalog S.db S.sizes (goes S)) (some_rows
       let rs : List Row = b.inputs.right.rows in
       let from : sorted (claim p).order ls ≡ true = sorted-begins (claim p).order ls h.0.left.rows b.begins.left (up left) in
       let ws : wide (width S.catalog p) ls ≡ true = all-begins (λ row. length row == width S.catalog p) ls h.0.left.rows b.begins.left (meets-wide S p h.0.left.rows (meet p fp.fit fp.inputs ts run.0 left)) in
-      let P : List ℕ → List Row → Type 0 = λ cols xs. sorted cols xs ≡ true in
-      let made : (cols : List ℕ) → P cols (binary_rows op ls rs) → P cols x.out.rows = λ cols e. gave-sorted (two_op n op) h.0 b x.out h.4 cols (subst (P cols) b.makes e) in
+      let P : List OrderEntry → List Row → Type 0 = λ order xs. sorted order xs ≡ true in
+      let made : (order : List OrderEntry) → P order (binary_rows op ls rs) → P order x.out.rows = λ order e. gave-sorted (two_op n op) h.0 b x.out h.4 order (subst (P order) b.makes e) in
       ⊎_elim
       (λ s. made c.order (both-ordered S.catalog n c op p q (names S.catalog p fp.formed) s ls rs ws from))
       (λ s. follows-so node f ts run x (binary_order op (claim p).order) c.order s (made (binary_order op (claim p).order) (both-order S n c op p q fp ls rs ws from)))
       (or-cases (order_shown S.catalog node) (order_derived S.catalog node c.order) (derived-tests S.catalog node (here S node f)).5)
 
-  exchange-cut : (n : ℕ) (c : Claim) (k : ExchangeKind) (merge : List ℕ) (p : Plan) → Fine S (exchange n c k merge p) → (ts : ℕ → Trace) (run : RunOf S (Ends S) (exchange n c k merge p) ts)
+  exchange-cut : (n : ℕ) (c : Claim) (k : ExchangeKind) (merge : List OrderEntry) (p : Plan) → Fine S (exchange n c k merge p) → (ts : ℕ → Trace) (run : RunOf S (Ends S) (exchange n c k merge p) ts)
       → SortedSoFar S p run.0 (claim p).order → SortedSoFar S (exchange n c k merge p) ts c.order
   exchange-cut n c k merge p f ts run up x =
       let node : Plan = exchange n c k merge p in
       let fp : Fine S p = fine-below S n c k merge p f in
-      let order : List ℕ = (claim p).order in
+      let order : List OrderEntry = (claim p).order in
       let m : ℕ = workers S.sizes (size p) in
       let b = x.abides.2.before in
       let s : Streams = lists S giv n c k merge p ts run x in
       let sorted_lists = lists-sorted S giv n c k merge p ts run x order up in
       let placed_lists = lists-placed n c k merge p fp ts run x in
       let Q : List Row → Type 0 = λ xs. sorted order xs ≡ true in
-      let made : (cols : List ℕ) → sorted cols b.whole ≡ true → sorted cols x.out.rows ≡ true = gave-sorted (receive (port_of S n x.place k merge p)) x.abides.0 b x.out x.abides.3 in
+      let made : (by : List OrderEntry) → sorted by b.whole ≡ true → sorted by x.out.rows ≡ true = gave-sorted (receive (port_of S n x.place k merge p)) x.abides.0 b x.out x.abides.3 in
       let single : is_one (size p) ≡ true → Q b.whole = λ o.
       let e = one-worker S.sizes (size p) o in
       let D : ℕ → Type 0 = λ a. Dealt a b.whole s in

@@ -1,5 +1,6 @@
 -- Where the claimed part is all, two workers whose streams have ended gave the same rows.
 use Rattle.std.proofs.Common.{◌≡◌, ⊎_elim, ℕ, ◌<◌, Bool, true, false, ◌&&◌, ◌||◌, List, refl, sym, ap, ◌∙◌, subst, arith, true≢false, eqb-true, Some}
+use Rattle.vx_rows_values.specs.declared.order.OrderEntry.{OrderEntry}
 use Rattle.vx_rows_values.specs.Values.{Row}
 use Rattle.vx_rows_values.specs.Bags.{total, SameRows}
 use Rattle.vx_catalog_relations.specs.Relation.{Relation}
@@ -99,7 +100,7 @@ unary-all : (op : Unary) (p : Plan) → unary_shows op p all ≡ true → has p 
 unary-all (select cs) p h = h
 unary-all (project cols) p h = h
 unary-all (distinct cols) p h = h
-unary-all (sort of_parts cols) p h = h
+unary-all (sort of_parts order) p h = h
 unary-all (group plain by aggregates) p h = h
 unary-all (group partial by aggregates) p h = h
 unary-all (group final by aggregates) p h = h
@@ -155,7 +156,7 @@ bags goes op other xs ys us vs s e f = go op other e f
     go (select cs) other e f = by (select cs) refl refl e f
     go (project cols) other e f = by (project cols) refl refl e f
     go (distinct cols) other e f = by (distinct cols) refl refl e f
-    go (sort of_parts cols) other e f = by (sort of_parts cols) refl refl e f
+    go (sort of_parts order) other e f = by (sort of_parts order) refl refl e f
     go (group plain by_columns aggregates) other e f = by (group plain by_columns aggregates) refl refl e f
     go (group partial by_columns aggregates) other e f = by (group plain by_columns aggregates) refl refl e f
     go (group final by_columns aggregates) other e f = by (group plain by_columns aggregates) refl refl e f
@@ -187,7 +188,7 @@ module _ (S : RunModel) (some_rows : 0 < S.morsel) where
   -- ---- an exchange that sends all rows to all
 
   -- a consumer that has ended took all that each producer put
-  took-all : (n : ℕ) (c : Claim) (k : ExchangeKind) (merge : List ℕ) (p : Plan) (ts : ℕ → Trace) (run : RunOf S (Ends S) (exchange n c k merge p) ts) (x : Output S (exchange n c k merge p) ts)
+  took-all : (n : ℕ) (c : Claim) (k : ExchangeKind) (merge : List OrderEntry) (p : Plan) (ts : ℕ → Trace) (run : RunOf S (Ends S) (exchange n c k merge p) ts) (x : Output S (exchange n c k merge p) ts)
       → x.out.over ≡ Ended → (i : ℕ) → i < workers S.sizes (size p) → (x.abides.0.came i ≡ (run.0 i).sent x.place) × (has_last ((run.0 i).sent x.place) ≡ true)
   took-all n c k merge p ts run x e i l =
       let led = x.abides.0 in
@@ -207,7 +208,7 @@ module _ (S : RunModel) (some_rows : 0 < S.morsel) where
       port-rows s j (h.finished.sent j) (u.sent j) (h.finished.ports j lj)
       ∙ (sym (h.finished.sends j lj) ∙ (h.finished.sends m lm ∙ sym (port-rows s m (h.finished.sent m) (u.sent m) (h.finished.ports m lm))))
 
-  broadcast-same : (n : ℕ) (c : Claim) (z : Size) (merge : List ℕ) (p : Plan) (ts : ℕ → Trace) (run : RunOf S (Ends S) (exchange n c (broadcast z) merge p) ts)
+  broadcast-same : (n : ℕ) (c : Claim) (z : Size) (merge : List OrderEntry) (p : Plan) (ts : ℕ → Trace) (run : RunOf S (Ends S) (exchange n c (broadcast z) merge p) ts)
       → (x y : Output S (exchange n c (broadcast z) merge p) ts) → x.out.over ≡ Ended → y.out.over ≡ Ended → SameRows x.out.rows y.out.rows
   broadcast-same n c z merge p ts run x y ex ey =
       let m : ℕ = workers S.sizes (size p) in

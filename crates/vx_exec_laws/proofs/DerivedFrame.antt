@@ -1,6 +1,7 @@
 -- The theorems on the rule table with what is known of columns.
 use Rattle.std.proofs.Common.{◌≡◌, ℕ, ◌<◌, Bool, true, false, not, ◌&&◌, ◌||◌, List, refl, sym, ap, subst, true≢false}
 use Rattle.std.proofs.lemmas.Bool.{not-true}
+use Rattle.vx_rows_values.specs.declared.order.OrderEntry.{OrderEntry}
 use Rattle.vx_rows_values.specs.Values.{Row}
 use Rattle.vx_rows_values.specs.Order.{sorted}
 use Rattle.vx_catalog_relations.specs.Relation.{Relation}
@@ -92,7 +93,7 @@ module _ (catalog : ℕ → Relation) (db : ℕ → List Row) (sizes : ℕ → �
       (all-sure p s well.0 fit ok_p run) (meet-at p s fit ok_p run)
 
   -- those below an exchange are sorted as it merges them
-  pub merges-streams : (k : ℕ) (c : Claim) (kind : ExchangeKind) (merge : List ℕ) (p : Plan) (s : Streams) → well_formed catalog (exchange k c kind merge p) ≡ true → all_inputs_fit catalog p ≡ true
+  pub merges-streams : (k : ℕ) (c : Claim) (kind : ExchangeKind) (merge : List OrderEntry) (p : Plan) (s : Streams) → well_formed catalog (exchange k c kind merge p) ≡ true → all_inputs_fit catalog p ≡ true
       → allowed_derived catalog (exchange k c kind merge p) ≡ true → Runs db sizes goes p s → (w : ℕ) → w < workers sizes (size p) → sorted merge (s w) ≡ true
   merges-streams k c kind merge p s wf fit ok run =
       let here : Bool = allowed_here_derived catalog (exchange k c kind merge p) in

@@ -66,7 +66,7 @@ module _ (catalog : ℕ → Relation) (db : ℕ → List Row) (meets : (r : ℕ)
       subst (HasKey x) same
       (some-copied-key cols x p (width catalog (unary n c (project cols) p)) made.0 (serial-pairs catalog db meets p fit keys made.0 made.1) (claim p).keys (keys-here db p keys made.0 made.1) t)
   below-key (unary n c (distinct cols) p) fit keys base is x t = absurd (true≢false (sym t))
-  below-key (unary n c (sort of_parts cols) p) fit keys base is x t = absurd (true≢false (sym t))
+  below-key (unary n c (sort of_parts order) p) fit keys base is x t = absurd (true≢false (sym t))
   below-key (unary n c (group phase by aggregates) p) fit keys base is x t = absurd (true≢false (sym t))
   below-key (unary n c (limit m) p) fit keys base is x t = absurd (true≢false (sym t))
   below-key (binary n c op p q) fit keys base is x t = absurd (true≢false (sym t))

@@ -1,12 +1,13 @@
 -- The claims of nodes by the rule table with what is known of columns.
 use Rattle.std.proofs.Common.{◌≡◌, ⊎_elim, inl, inr, ℕ, ◌<◌, ◌==◌, Bool, true, false, cond, ◌&&◌, ◌||◌, List, [], ◌++◌, refl, sym, ◌∙◌, subst, arith, true≢false, Some}
 use Rattle.std.specs.List.{list_all}
+use Rattle.vx_rows_values.specs.declared.order.OrderEntry.{OrderEntry}
 use Rattle.vx_rows_values.specs.Values.{Row, row_eq, pick}
 use Rattle.vx_rows_values.specs.Order.{sorted}
 use Rattle.vx_rows_values.specs.Bags.{count, SameRows}
 use Rattle.vx_rows_values.specs.Keys.{HasKey}
 use Rattle.vx_catalog_relations.specs.Relation.{Relation}
-use Rattle.vx_plan_nodes.specs.Plan.{Size, Part, one, any, all, routed, Claim, Plan, scan, unary, binary, exchange, claim, size, is_one, target, Unary, Binary, union, join, ExchangeKind, route_to, round, broadcast, gather, concat, semi_join, Condition}
+use Rattle.vx_plan_nodes.specs.Plan.{JoinMethod, Size, Part, one, any, all, routed, Claim, Plan, scan, unary, binary, exchange, claim, size, is_one, target, Unary, Binary, union, join, ExchangeKind, route_to, round, broadcast, gather, concat, semi_join, Condition}
 use Rattle.vx_plan_nodes.specs.Parts.{kind_part}
 use Rattle.vx_plan_nodes.specs.Types.{width, names_columns, well_formed}
 use Rattle.vx_plan_nodes.specs.Phases.{phase_fits, phased, spoken, Gives, listed}
@@ -46,7 +47,8 @@ use Rattle.vx_exec_laws.proofs.DerivedPairs.{pairs-among, order-from}
 use Rattle.vx_exec_laws.proofs.DerivedSerial.{KeysBelow, keys-with, serial-pairs}
 use Rattle.vx_exec_laws.proofs.DerivedOpen.{derived-tests, Stems, gives-each, listed-each, part-each, PairsAt, stem-pairs}
 use Rattle.vx_exec_laws.proofs.DerivedParts.{EqualIn, matches-part, matches-routed, meets-equally, routed-part, left-stems, right-stems, alike-equally, whole-stems, matched-alike-equally}
-use Rattle.vx_exec_laws.proofs.DerivedOrders.{unary-given, prefix-self, ranged-equally}
+use Rattle.vx_exec_laws.proofs.OrderFacts.{front-self}
+use Rattle.vx_exec_laws.proofs.DerivedOrders.{unary-given, ranged-equally}
 use Rattle.vx_exec_laws.proofs.DerivedKeys.{keys-derived, keys-at}
 use Rattle.vx_exec_laws.proofs.DerivedTotal.{order-tells-derived}
 
@@ -58,7 +60,7 @@ stream-occurs n s w l row o =
     omega (arith, a, b, o)
 
 -- where a part is shown at a node with two inputs, these match
-shown-match : (catalog : ℕ → Relation) (k : ℕ) (c : Claim) (m : Bool) (on : List (ℕ × ℕ)) (p q : Plan) → part_shown catalog (binary k c (join m on) p q) ≡ true
+shown-match : (catalog : ℕ → Relation) (k : ℕ) (c : Claim) (m : JoinMethod) (on : List (ℕ × ℕ)) (p q : Plan) → part_shown catalog (binary k c (join m on) p q) ≡ true
     → inputs_match (binary k c (join m on) p q) ≡ true
 shown-match catalog k c m on p q h = ⊎_elim
     (λ o. or-left (is_one (size p)) (routed_alike on (claim p).part (claim q).part || has q all || has p all) o)
@@ -141,7 +143,7 @@ module _ (catalog : ℕ → Relation) (db : ℕ → List Row) (sizes : ℕ → �
   stream-pairs : (p : Plan) (n : ℕ) (s : Streams) → PairsOf p (joined n s) → (w : ℕ) → w < n → PairsOf p (s w)
   stream-pairs p n s h w l = pairs-among (width catalog p) (equal_at catalog p) (fixed_at catalog p) (determined catalog p) (s w) (joined n s) (stream-occurs n s w l) h
 
-  follows : (p : Plan) (xs : List Row) → PairsOf p xs → (order asked : List ℕ) → order_follows (equal_at catalog p) (determined catalog p) order asked ≡ true → sorted order xs ≡ true → sorted asked xs ≡ true
+  follows : (p : Plan) (xs : List Row) → PairsOf p xs → (order asked : List OrderEntry) → order_follows (equal_at catalog p) (determined catalog p) order asked ≡ true → sorted order xs ≡ true → sorted asked xs ≡ true
   follows p xs h order asked t up = order-from (width catalog p) (equal_at catalog p) (fixed_at catalog p) (determined catalog p) xs h order asked t up
 
   -- keys hold first, and then orders, which follow by keys
@@ -239,7 +241,7 @@ module _ (catalog : ℕ → Relation) (db : ℕ → List Row) (sizes : ℕ → �
         r.ordered c.order o.0 (claim p).order o.1 o.2 r.list_sorted,
       ))
       (λ h.
-      let order : List ℕ = unary_order (width catalog node) op e det (claim p).order in
+      let order : List OrderEntry = unary_order (width catalog node) op e det (claim p).order in
       let g = unary-given (width catalog node) op e (fixed_at catalog p) det (claim p).order in (
         (λ w l. follows node (out w) (stream-pairs node n out pairs w l) order c.order h
             ((keeps op).ordered order g.sources_are g.under g.are_sources g.in_front (s w) (out w) (run w l)
@@ -275,7 +277,7 @@ module _ (catalog : ℕ → Relation) (db : ℕ → List Row) (sizes : ℕ → �
             subst Q (run w l) (all-append test (s w) (t w) (a.1 w l) (b.1 w l)),
       )) left right
 
-  join-derived : (k : ℕ) (c : Claim) (m : Bool) (on : List (ℕ × ℕ)) (p q : Plan) (s t out : Streams) (base rbase : List Row) (both : Both catalog db sizes goes given p q s t base rbase) (x : Part)
+  join-derived : (k : ℕ) (c : Claim) (m : JoinMethod) (on : List (ℕ × ℕ)) (p q : Plan) (s t out : Streams) (base rbase : List Row) (both : Both catalog db sizes goes given p q s t base rbase) (x : Part)
       → part_derived catalog (binary k c (join m on) p q) x ≡ true
       → EqualIn (equal_at catalog p) (workers sizes (size p)) s → EqualIn (equal_at catalog q) (workers sizes (size p)) t
       → EqualIn (equal_at catalog (binary k c (join m on) p q)) (workers sizes (size p)) out
@@ -362,7 +364,7 @@ module _ (catalog : ℕ → Relation) (db : ℕ → List Row) (sizes : ℕ → �
       let both = both-have catalog db sizes goes given p q s t ih jh wf ts.0 in
       let made = binary-over catalog db sizes goes given k c op p q s t out ih jh names run both in
       let base : List Row = binary_rows op ih.base jh.base in
-      let order : List ℕ = binary_order op (claim p).order in
+      let order : List OrderEntry = binary_order op (claim p).order in
       let ordered : (ls rs : List Row) → wide (width catalog p) ls ≡ true → sorted (claim p).order ls ≡ true → sorted order (binary_rows op ls rs) ≡ true
       = both-order op in
       finish node out ok here (keys, keys_right) base (binary-serial catalog db sizes goes given k c op p q s t ih jh)
@@ -383,14 +385,14 @@ module _ (catalog : ℕ → Relation) (db : ℕ → List Row) (sizes : ℕ → �
       ))
       (or-cases (order_shown catalog node) (order_derived catalog node c.order) ts.5))
     where
-      with_order : List ℕ → Claim
-      with_order cols = record { part = c.part; order = cols; keys = c.keys }
+      with_order : List OrderEntry → Claim
+      with_order order = record { part = c.part; order = order; keys = c.keys }
 
       both-order : (op : Binary) (ls rs : List Row) → wide (width catalog p) ls ≡ true → sorted (claim p).order ls ≡ true → sorted (binary_order op (claim p).order) (binary_rows op ls rs) ≡ true
       both-order union ls rs v u = both-ordered catalog k (with_order []) union p q names refl ls rs v u
-      both-order (join m on) ls rs v u = both-ordered catalog k (with_order (claim p).order) (join m on) p q names (prefix-self (claim p).order) ls rs v u
+      both-order (join m on) ls rs v u = both-ordered catalog k (with_order (claim p).order) (join m on) p q names (front-self (claim p).order) ls rs v u
       both-order (semi_join matched on conditions) ls rs v u =
-          both-ordered catalog k (with_order (claim p).order) (semi_join matched on conditions) p q names (prefix-self (claim p).order) ls rs v u
+          both-ordered catalog k (with_order (claim p).order) (semi_join matched on conditions) p q names (front-self (claim p).order) ls rs v u
 
       followed : (op : Binary) → order_derived catalog (binary k c op p q) c.order ≡ true
           → order_follows (equal_at catalog (binary k c op p q)) (determined catalog (binary k c op p q)) (binary_order op (claim p).order) c.order ≡ true
@@ -411,7 +413,7 @@ module _ (catalog : ℕ → Relation) (db : ℕ → List Row) (sizes : ℕ → �
 
   -- ---- exchanges
 
-  concat-equally : (kind : ExchangeKind) (merge : List ℕ) (p : Plan) (s : Streams) (ih : HoldingAt db sizes goes p s) (out : Streams)
+  concat-equally : (kind : ExchangeKind) (merge : List OrderEntry) (p : Plan) (s : Streams) (ih : HoldingAt db sizes goes p s) (out : Streams)
       → Exchanges goes kind merge (workers sizes (size p)) (workers sizes (target kind)) s out → PairsOf p (joined (workers sizes (size p)) s)
       → goes_on_derived catalog kind p ≡ true → (w : ℕ) → w < workers sizes (target kind) → sorted (claim p).order (out w) ≡ true
   concat-equally (route_to z r cols) merge p s ih out x pairs e w l = absurd (true≢false (sym e))
@@ -427,7 +429,7 @@ module _ (catalog : ℕ → Relation) (db : ℕ → List Row) (sizes : ℕ → �
       (part-placed goes (claim p).part m s (λ xs. Gives p ih.base xs) ih.holds.part))
 
   -- rows that are sorted on the input's order are sorted as an exchange merges them
-  merged-as : (k : ℕ) (c : Claim) (kind : ExchangeKind) (merge : List ℕ) (p : Plan) (xs : List Row) → order_given_derived catalog (exchange k c kind merge p) ≡ true → PairsOf p xs
+  merged-as : (k : ℕ) (c : Claim) (kind : ExchangeKind) (merge : List OrderEntry) (p : Plan) (xs : List Row) → order_given_derived catalog (exchange k c kind merge p) ≡ true → PairsOf p xs
       → sorted (claim p).order xs ≡ true → sorted merge xs ≡ true
   merged-as k c kind merge p xs t pairs up = ⊎_elim
       (λ h. sorted-front merge (claim p).order h xs up)
@@ -435,7 +437,7 @@ module _ (catalog : ℕ → Relation) (db : ℕ → List Row) (sizes : ℕ → �
       (or-cases (order_given (exchange k c kind merge p)) (needed_follows catalog (exchange k c kind merge p)) t)
 
   -- and so are the streams below it
-  pub streams-merged : (k : ℕ) (c : Claim) (kind : ExchangeKind) (merge : List ℕ) (p : Plan) (s : Streams) → allowed_here_derived catalog (exchange k c kind merge p) ≡ true → Allowed p → Sure p s
+  pub streams-merged : (k : ℕ) (c : Claim) (kind : ExchangeKind) (merge : List OrderEntry) (p : Plan) (s : Streams) → allowed_here_derived catalog (exchange k c kind merge p) ≡ true → Allowed p → Sure p s
       → (w : ℕ) → w < workers sizes (size p) → sorted merge (s w) ≡ true
   streams-merged k c kind merge p s here ok_p sure w l =
       let ih = sure.0 in
@@ -443,7 +445,7 @@ module _ (catalog : ℕ → Relation) (db : ℕ → List Row) (sizes : ℕ → �
       let in_pairs : PairsOf p (joined m s) = part-pairs p ok_p sure.1 ih.base ih.is_serial (claim p).part m s ih.holds.part in
       merged-as k c kind merge p (s w) (derived-tests catalog (exchange k c kind merge p) here).3 (stream-pairs p m s in_pairs w l) (ih.holds.order.0 w l)
 
-  pub exchange-sure : (k : ℕ) (c : Claim) (kind : ExchangeKind) (merge : List ℕ) (p : Plan) (s out : Streams) → Allowed (exchange k c kind merge p) → Allowed p → Sure p s
+  pub exchange-sure : (k : ℕ) (c : Claim) (kind : ExchangeKind) (merge : List OrderEntry) (p : Plan) (s out : Streams) → Allowed (exchange k c kind merge p) → Allowed p → Sure p s
       → ((w : ℕ) → w < workers sizes (target kind) → EachMeets catalog (exchange k c kind merge p) (out w))
       → Exchanges goes kind merge (workers sizes (size p)) (workers sizes (target kind)) s out → Sure (exchange k c kind merge p) out
   exchange-sure k c kind merge p s out ok ok_p sure meets_out x =

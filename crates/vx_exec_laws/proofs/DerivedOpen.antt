@@ -47,7 +47,7 @@ derived-tests catalog p h =
 -- a row of a closed node is one of its serial list; one of an open node has the values of a row of the input of its partial in the columns that are copied
 abbrev pub UnaryStems : ℕ → Unary → Type 0 → List Row → Row → Type 0
 UnaryStems w (group partial by aggregates) below base row = (x : Row) × Occurs x base × HasCopies (columns_kept by) x row × (length row ≤ w)
-UnaryStems w (sort true cols) below base row = below
+UnaryStems w (sort true order) below base row = below
 UnaryStems w op below base row = Occurs row base
 
 abbrev pub Stems : (ℕ → Relation) → Plan → List Row → Row → Type 0
@@ -61,8 +61,8 @@ stems-occur catalog (scan n c r m z) fit e base row h = h
 stems-occur catalog (unary n c (select cs) p) fit e base row h = h
 stems-occur catalog (unary n c (project cols) p) fit e base row h = h
 stems-occur catalog (unary n c (distinct cols) p) fit e base row h = h
-stems-occur catalog (unary n c (sort false cols) p) fit e base row h = h
-stems-occur catalog (unary n c (sort true cols) p) fit e base row h = absurd (true≢false (sym (and-right (phased p) (is_open p) fit) ∙ e))
+stems-occur catalog (unary n c (sort false order) p) fit e base row h = h
+stems-occur catalog (unary n c (sort true order) p) fit e base row h = absurd (true≢false (sym (and-right (phased p) (is_open p) fit) ∙ e))
 stems-occur catalog (unary n c (group plain by aggregates) p) fit e base row h = h
 stems-occur catalog (unary n c (group partial by aggregates) p) fit e base row h = absurd (true≢false e)
 stems-occur catalog (unary n c (group final by aggregates) p) fit e base row h = h
@@ -111,8 +111,8 @@ gives-each catalog (scan n c r m z) base xs h = same-each base xs h
 gives-each catalog (unary n c (select cs) p) base xs h = same-each base xs h
 gives-each catalog (unary n c (project cols) p) base xs h = same-each base xs h
 gives-each catalog (unary n c (distinct cols) p) base xs h = same-each base xs h
-gives-each catalog (unary n c (sort false cols) p) base xs h = same-each base xs h
-gives-each catalog (unary n c (sort true cols) p) base xs h = gives-each catalog p base xs h
+gives-each catalog (unary n c (sort false order) p) base xs h = same-each base xs h
+gives-each catalog (unary n c (sort true order) p) base xs h = gives-each catalog p base xs h
 gives-each catalog (unary n c (group plain by aggregates) p) base xs h = same-each base xs h
 gives-each catalog (unary n c (group partial by aggregates) p) base xs h =
     let S : Row → Type 0 = λ row. (x : Row) × Occurs x base × HasCopies (columns_kept by) x row × (length row ≤ length by + length aggregates) in
@@ -129,8 +129,8 @@ listed-each catalog (scan n c r m z) base = each-occurs base
 listed-each catalog (unary n c (select cs) p) base = each-occurs base
 listed-each catalog (unary n c (project cols) p) base = each-occurs base
 listed-each catalog (unary n c (distinct cols) p) base = each-occurs base
-listed-each catalog (unary n c (sort false cols) p) base = each-occurs base
-listed-each catalog (unary n c (sort true cols) p) base = each-sort (Stems catalog p base) cols (listed p base) (listed-each catalog p base)
+listed-each catalog (unary n c (sort false order) p) base = each-occurs base
+listed-each catalog (unary n c (sort true order) p) base = each-sort (Stems catalog p base) order (listed p base) (listed-each catalog p base)
 listed-each catalog (unary n c (group plain by aggregates) p) base = each-occurs base
 listed-each catalog (unary n c (group partial by aggregates) p) base =
     let S : Row → Type 0 = λ row. (x : Row) × Occurs x base × HasCopies (columns_kept by) x row × (length row ≤ length by + length aggregates) in
@@ -161,10 +161,10 @@ open-keys catalog (scan n c r m z) ok e = absurd (true≢false (sym e))
 open-keys catalog (unary n c (select cs) p) ok e = absurd (true≢false (sym e))
 open-keys catalog (unary n c (project cols) p) ok e = absurd (true≢false (sym e))
 open-keys catalog (unary n c (distinct cols) p) ok e = absurd (true≢false (sym e))
-open-keys catalog (unary n c (sort false cols) p) ok e = absurd (true≢false (sym e))
-open-keys catalog (unary n c (sort true cols) p) ok e =
-    let t = derived-tests catalog (unary n c (sort true cols) p) (and-right (allowed_derived catalog p) (allowed_here_derived catalog (unary n c (sort true cols) p)) ok) in
-    none-pass (key_derived catalog (unary n c (sort true cols) p)) c.keys (λ k. refl) t.6
+open-keys catalog (unary n c (sort false order) p) ok e = absurd (true≢false (sym e))
+open-keys catalog (unary n c (sort true order) p) ok e =
+    let t = derived-tests catalog (unary n c (sort true order) p) (and-right (allowed_derived catalog p) (allowed_here_derived catalog (unary n c (sort true order) p)) ok) in
+    none-pass (key_derived catalog (unary n c (sort true order) p)) c.keys (λ k. refl) t.6
 open-keys catalog (unary n c (group plain by aggregates) p) ok e = absurd (true≢false (sym e))
 open-keys catalog (unary n c (group partial by aggregates) p) ok e =
     let node : Plan = unary n c (group partial by aggregates) p in
@@ -195,9 +195,9 @@ module _ (catalog : ℕ → Relation) (db : ℕ → List Row) (meets : (r : ℕ)
   open-pair (unary n c (select cs) p) fit ok e keys base is a b sa sb = absurd (true≢false (sym e))
   open-pair (unary n c (project cols) p) fit ok e keys base is a b sa sb = absurd (true≢false (sym e))
   open-pair (unary n c (distinct cols) p) fit ok e keys base is a b sa sb = absurd (true≢false (sym e))
-  open-pair (unary n c (sort false cols) p) fit ok e keys base is a b sa sb = absurd (true≢false (sym e))
-  open-pair (unary n c (sort true cols) p) fit ok e keys base is a b sa sb =
-      let node : Plan = unary n c (sort true cols) p in
+  open-pair (unary n c (sort false order) p) fit ok e keys base is a b sa sb = absurd (true≢false (sym e))
+  open-pair (unary n c (sort true order) p) fit ok e keys base is a b sa sb =
+      let node : Plan = unary n c (sort true order) p in
       let k = open-pair p fit (and-left (allowed_derived catalog p) (allowed_here_derived catalog node) ok) e keys.1 base is a b sa sb in
       let w : ℕ = width catalog p in
       let ea = equal-lifted whole_rows (equal_at catalog p) a a (whole-copies a) k.equal_left in

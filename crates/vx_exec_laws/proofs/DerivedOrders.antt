@@ -1,10 +1,11 @@
 -- Orders that follow from those that the table shows: by copies of equal columns, and of lists one behind the other.
-use Rattle.std.proofs.Common.{◌≡◌, ℕ, zero, suc, ◌<◌, ◌==◌, Bool, true, false, cond, ◌&&◌, List, [], ◌∷◌, filter, refl, sym, ap, subst, arith, true≢false, eq-eqb, eqb-true, is_le, Ordering, Less, Equal, Greater, Option, Some, None}
+use Rattle.std.proofs.Common.{◌≡◌, ℕ, zero, suc, ◌<◌, ◌==◌, Bool, true, false, cond, not, ◌&&◌, List, [], ◌∷◌, filter, refl, sym, ap, ap₂, subst, arith, true≢false, eqb-true, is_le, Ordering, Less, Equal, Greater, Option, Some, None}
 use Rattle.std.specs.List.{list_all, AllByRecursion}
 use Rattle.std.specs.Ordering.{ordering_then, ordering_reverse}
+use Rattle.vx_rows_values.specs.declared.order.OrderEntry.{OrderEntry}
 use Rattle.vx_rows_values.specs.Values.{Row, val_cmp, value_at, pick}
 use Rattle.vx_rows_values.specs.Order.{compare_on, sorted}
-use Rattle.vx_rows_values.proofs.Compare.{row_cmp_total}
+use Rattle.vx_rows_values.proofs.Compare.{compare_on_total}
 use Rattle.vx_plan_nodes.specs.Plan.{by_hash, by_range, Part, one, any, all, routed, Unary, select, project, distinct, sort, group, plain, partial, final, limit}
 use Rattle.vx_plan_nodes.specs.Phases.{first_columns}
 use Rattle.vx_plan_nodes.specs.Describe.{Copying, columns_kept, source, described}
@@ -13,18 +14,19 @@ use Rattle.vx_plan_nodes.specs.Routes.{Routing}
 use Rattle.vx_plan_facts.specs.Equal.{Equality}
 use Rattle.vx_plan_facts.specs.Fixed.{Values}
 use Rattle.vx_plan_facts.specs.Determined.{Columns, column_in}
-use Rattle.vx_plan_facts.specs.Following.{begins_equally, short}
+use Rattle.vx_plan_facts.specs.Following.{equal_entries, begins_equally, short}
 use Rattle.vx_plan_facts.specs.FollowLaws.{Occurs}
 use Rattle.vx_plan_facts.proofs.EachRow.{each-weaken, each-has, each-joined}
-use Rattle.vx_check_rules.specs.Rules.{is_prefix}
-use Rattle.vx_check_rules.specs.Behaviour.{sources, order_after}
+use Rattle.vx_check_rules.specs.Rules.{is_front, entry_at, entry_both}
+use Rattle.vx_check_rules.specs.Behaviour.{order_sources, order_after}
 use Rattle.vx_check_rules.specs.Derived.{first_of, copy_of, copies_then, front_copies, rises_equally, unary_order}
-use Rattle.vx_check_rules.proofs.Exact.{sources-whole}
+use Rattle.vx_check_rules.proofs.Exact.{order-whole_rows}
 use Rattle.vx_exec_laws.proofs.Bags.{and-left, and-right, and-both}
+use Rattle.vx_exec_laws.proofs.OrderFacts.{rise, way-self, front-self}
 use Rattle.vx_exec_laws.proofs.Concat.{sorted-two, Rising}
 use Rattle.vx_exec_laws.proofs.Places.{Placed}
 use Rattle.vx_exec_laws.proofs.DerivedPairs.{Pairs, pairs-among, order-from, begins-from}
-use Rattle.vx_exec_laws.proofs.DerivedParts.{column-is, sources-cons}
+use Rattle.vx_exec_laws.proofs.DerivedParts.{column-is}
 
 -- ---- copies of equal columns
 
@@ -37,51 +39,50 @@ first-is p (x ∷ xs) c e = go (p x) refl e (first-is p xs c)
     go false t e more = more e
 
 -- the copies in front are of columns that begin the order, up to equal ones
-front-stand : (w : ℕ) (k : Copying) (e : Equality) (xs : List ℕ) → (ys : List ℕ) × (sources k (front_copies w k e xs) ≡ Some ys) × (begins_equally e ys xs ≡ true)
+front-stand : (w : ℕ) (k : Copying) (e : Equality) (xs : List OrderEntry) → (ys : List OrderEntry) × (order_sources k (front_copies w k e xs) ≡ Some ys) × (begins_equally e ys xs ≡ true)
 front-stand w k e [] = ([], refl, refl)
-front-stand w k e (x ∷ xs) = go (copy_of w k e x) refl (front-stand w k e xs)
+front-stand w k e (x ∷ xs) = go (copy_of w k e x.column) refl (front-stand w k e xs)
   where
-    go : (o : Option ℕ) → copy_of w k e x ≡ o → (ys : List ℕ) × (sources k (front_copies w k e xs) ≡ Some ys) × (begins_equally e ys xs ≡ true)
-        → (ys : List ℕ) × (sources k (copies_then o (front_copies w k e xs)) ≡ Some ys) × (begins_equally e ys (x ∷ xs) ≡ true)
+    go : (o : Option ℕ) → copy_of w k e x.column ≡ o → (ys : List OrderEntry) × (order_sources k (front_copies w k e xs) ≡ Some ys) × (begins_equally e ys xs ≡ true)
+        → (ys : List OrderEntry) × (order_sources k (copies_then o x.falling (front_copies w k e xs)) ≡ Some ys) × (begins_equally e ys (x ∷ xs) ≡ true)
     go None h r = ([], refl, refl)
     go (Some c) h r =
-        let y = column-is e x (source k c) (first-is (λ d. column_in (λ y. e y x) (source k d)) (first_columns w) c h) in
-        (y.0 ∷ r.0, sources-cons k c (front_copies w k e xs) y.0 r.0 y.1 r.1, and-both (e y.0 x) (begins_equally e r.0 xs) y.2 r.2)
-
-pub prefix-self : (xs : List ℕ) → is_prefix xs xs ≡ true
-prefix-self [] = refl
-prefix-self (x ∷ xs) = and-both (x == x) (is_prefix xs xs) (eq-eqb x x refl) (prefix-self xs)
+        let y = column-is e x.column (source k c) (first-is (λ d. column_in (λ y. e y x.column) (source k d)) (first_columns w) c h) in (
+          entry_at y.0 x ∷ r.0,
+          ap₂ (λ o more. entry_both o (entry_at c x) more) y.1 r.1,
+          and-both (equal_entries e (entry_at y.0 x) x) (begins_equally e r.0 xs) (and-both (e y.0 x.column) (cond x.falling x.falling (not x.falling)) y.2 (way-self x.falling)) r.2,
+        )
 
 -- an order of the input in which rows are that are in order there, and the order that the operator gives of it
-pub record GivenBy (op : Unary) (e : Equality) (f : Values) (det : Columns → Columns) (below order : List ℕ) : Type 0 where
-  pub sources_are : List ℕ
-  pub under : List ℕ
-  pub are_sources : sources (described op).copying order ≡ Some sources_are
-  pub in_front : is_prefix sources_are (order_after (described op).order under) ≡ true
+pub record GivenBy (op : Unary) (e : Equality) (f : Values) (det : Columns → Columns) (below order : List OrderEntry) : Type 0 where
+  pub sources_are : List OrderEntry
+  pub under : List OrderEntry
+  pub are_sources : order_sources (described op).copying order ≡ Some sources_are
+  pub in_front : is_front sources_are (order_after (described op).order under) ≡ true
   pub in_order : (v : ℕ) (xs : List Row) → Pairs v e f det xs → sorted below xs ≡ true → sorted under xs ≡ true
 
-copies-given : (op : Unary) (w : ℕ) (k : Copying) (e : Equality) (f : Values) (det : Columns → Columns) (below : List ℕ)
-    → ((ys : List ℕ) → sources k (front_copies w k e (short det below)) ≡ Some ys → begins_equally e ys (short det below) ≡ true
+copies-given : (op : Unary) (w : ℕ) (k : Copying) (e : Equality) (f : Values) (det : Columns → Columns) (below : List OrderEntry)
+    → ((ys : List OrderEntry) → order_sources k (front_copies w k e (short det below)) ≡ Some ys → begins_equally e ys (short det below) ≡ true
     → GivenBy op e f det below (front_copies w k e (short det below))) → GivenBy op e f det below (front_copies w k e (short det below))
 copies-given op w k e f det below by = let r = front-stand w k e (short det below) in by r.0 r.1 r.2
 
-pub unary-given : (w : ℕ) (op : Unary) (e : Equality) (f : Values) (det : Columns → Columns) (below : List ℕ) → GivenBy op e f det below (unary_order w op e det below)
+pub unary-given : (w : ℕ) (op : Unary) (e : Equality) (f : Values) (det : Columns → Columns) (below : List OrderEntry) → GivenBy op e f det below (unary_order w op e det below)
 unary-given w (select cs) e f det below =
-    record { sources_are = below; under = below; are_sources = sources-whole below; in_front = prefix-self below; in_order = λ v xs h u. u }
-unary-given w (sort of_parts cols) e f det below =
-    record { sources_are = cols; under = below; are_sources = sources-whole cols; in_front = prefix-self cols; in_order = λ v xs h u. u }
+    record { sources_are = below; under = below; are_sources = order-whole_rows below; in_front = front-self below; in_order = λ v xs h u. u }
+unary-given w (sort of_parts order) e f det below =
+    record { sources_are = order; under = below; are_sources = order-whole_rows order; in_front = front-self order; in_order = λ v xs h u. u }
 unary-given w (limit m) e f det below =
-    record { sources_are = below; under = below; are_sources = sources-whole below; in_front = prefix-self below; in_order = λ v xs h u. u }
+    record { sources_are = below; under = below; are_sources = order-whole_rows below; in_front = front-self below; in_order = λ v xs h u. u }
 unary-given w (project cols) e f det below = copies-given (project cols) w (columns_kept cols) e f det below
-    (λ ys s b. record { sources_are = ys; under = ys; are_sources = s; in_front = prefix-self ys; in_order = λ v xs h u. begins-from v e f det xs h below ys b u })
+    (λ ys s b. record { sources_are = ys; under = ys; are_sources = s; in_front = front-self ys; in_order = λ v xs h u. begins-from v e f det xs h below ys b u })
 unary-given w (distinct cols) e f det below = copies-given (distinct cols) w (columns_kept cols) e f det below
-    (λ ys s b. record { sources_are = ys; under = ys; are_sources = s; in_front = prefix-self ys; in_order = λ v xs h u. begins-from v e f det xs h below ys b u })
+    (λ ys s b. record { sources_are = ys; under = ys; are_sources = s; in_front = front-self ys; in_order = λ v xs h u. begins-from v e f det xs h below ys b u })
 unary-given w (group plain by aggregates) e f det below = copies-given (group plain by aggregates) w (columns_kept by) e f det below
-    (λ ys s b. record { sources_are = ys; under = ys; are_sources = s; in_front = prefix-self ys; in_order = λ v xs h u. begins-from v e f det xs h below ys b u })
+    (λ ys s b. record { sources_are = ys; under = ys; are_sources = s; in_front = front-self ys; in_order = λ v xs h u. begins-from v e f det xs h below ys b u })
 unary-given w (group partial by aggregates) e f det below = copies-given (group partial by aggregates) w (columns_kept by) e f det below
-    (λ ys s b. record { sources_are = ys; under = ys; are_sources = s; in_front = prefix-self ys; in_order = λ v xs h u. begins-from v e f det xs h below ys b u })
+    (λ ys s b. record { sources_are = ys; under = ys; are_sources = s; in_front = front-self ys; in_order = λ v xs h u. begins-from v e f det xs h below ys b u })
 unary-given w (group final by aggregates) e f det below = copies-given (group final by aggregates) w (columns_kept by) e f det below
-    (λ ys s b. record { sources_are = ys; under = ys; are_sources = s; in_front = prefix-self ys; in_order = λ v xs h u. begins-from v e f det xs h below ys b u })
+    (λ ys s b. record { sources_are = ys; under = ys; are_sources = s; in_front = front-self ys; in_order = λ v xs h u. begins-from v e f det xs h below ys b u })
 
 -- ---- lists one behind the other
 
@@ -90,7 +91,7 @@ each-all P q f [] h = refl
 each-all P q f (x ∷ xs) h = and-both (q x) (list_all q xs) (f x h.0) (each-all P q f xs h.1)
 
 -- each row stands in the list of its place, and one with a smaller place is smaller
-joined-order : (order : List ℕ) (place : Row → ℕ) (whole : List Row)
+joined-order : (order : List OrderEntry) (place : Row → ℕ) (whole : List Row)
     → ((x y : Row) → Occurs x whole → Occurs y whole → place x < place y → is_le (compare_on order x y) ≡ true)
     → (m : ℕ) (s : Streams) → ((i : ℕ) → i < m → AllByRecursion (λ row. Occurs row whole × (place row ≡ i)) (s i)) → ((i : ℕ) → i < m → sorted order (s i) ≡ true)
     → sorted order (joined m s) ≡ true
@@ -115,7 +116,7 @@ other-way Less p e h = absurd (true≢false h)
 other-way Equal p e h = absurd (true≢false h)
 other-way Greater p e h = ap is_le e
 
-pub ranged-equally : (goes : Routing) → Rising goes → (v : ℕ) (e : Equality) (f : Values) (det : Columns → Columns) (q : Part) (order : List ℕ) (m : ℕ) (s : Streams) → rises_equally e det q order ≡ true
+pub ranged-equally : (goes : Routing) → Rising goes → (v : ℕ) (e : Equality) (f : Values) (det : Columns → Columns) (q : Part) (order : List OrderEntry) (m : ℕ) (s : Streams) → rises_equally e det q order ≡ true
     → Pairs v e f det (joined m s) → ((i : ℕ) → i < m → sorted order (s i) ≡ true) → ((i : ℕ) → i < m → AllByRecursion (λ row. Occurs row (joined m s)) (s i))
     → ((i : ℕ) → i < m → Placed goes q m i (s i)) → sorted order (joined m s) ≡ true
 ranged-equally goes rising v e f det one order m s t h up among at = absurd (true≢false (sym t))
@@ -145,11 +146,11 @@ ranged-equally goes rising v e f det (routed (by_range k) (c ∷ [])) order m s 
         go : (b : Bool) → is_le (compare_on order x y) ≡ b → b ≡ true
         go true g = refl
         go false g =
-            let back : is_le (compare_on order y x) ≡ true = other-way (compare_on order x y) (compare_on order y x) (row_cmp_total.antisymm (pick order y) (pick order x)) g in
+            let back : is_le (compare_on order y x) ≡ true = other-way (compare_on order x y) (compare_on order y x) ((compare_on_total order).antisymm y x) g in
             let two : sorted order (y ∷ x ∷ []) ≡ true = and-both (is_le (compare_on order y x) && true) true (and-both (is_le (compare_on order y x)) true back refl) refl in
             let pairs : Pairs v e f det (y ∷ x ∷ []) = pairs-among v e f det (y ∷ x ∷ []) (joined m s)
             (λ row o. each-has (λ r. Occurs r (joined m s)) row (y ∷ x ∷ []) (oy, (ox, tt)) o) h in
-            let on_c : sorted (c ∷ []) (y ∷ x ∷ []) ≡ true = order-from v e f det (y ∷ x ∷ []) pairs order (c ∷ []) t two in
-            let le : is_le (compare_on (c ∷ []) y x) ≡ true = and-left (is_le (compare_on (c ∷ []) y x)) true (and-left (is_le (compare_on (c ∷ []) y x) && true) true on_c) in
+            let on_c : sorted (rise c ∷ []) (y ∷ x ∷ []) ≡ true = order-from v e f det (y ∷ x ∷ []) pairs order (rise c ∷ []) t two in
+            let le : is_le (compare_on (rise c ∷ []) y x) ≡ true = and-left (is_le (compare_on (rise c ∷ []) y x)) true (and-left (is_le (compare_on (rise c ∷ []) y x) && true) true on_c) in
             let r = rising k (pick (c ∷ []) y) (pick (c ∷ []) x) m (then-equal (val_cmp (value_at y c) (value_at x c)) le) in
             absurd (omega (arith, l, r))

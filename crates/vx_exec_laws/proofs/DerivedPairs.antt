@@ -3,9 +3,10 @@
 use Rattle.std.proofs.Common.{◌≡◌, ℕ, suc, ◌+◌, ◌≤◌, nat_lt, true, ◌&&◌, ◌||◌, ⊎_elim, List, [], ◌∷◌, length, refl, sym, ap, ap₂, ◌∙◌, arith, true≢false, lt-ltb, Option, Some, None}
 use Rattle.std.proofs.lemmas.Bool.{cases_lt}
 use Rattle.std.specs.List.{list_all, list_any}
+use Rattle.vx_rows_values.specs.declared.order.OrderEntry.{OrderEntry}
 use Rattle.vx_rows_values.specs.Lists.{is_some_list}
 use Rattle.vx_rows_values.specs.Values.{Row, value_at, pick}
-use Rattle.vx_rows_values.specs.Order.{sorted}
+use Rattle.vx_rows_values.specs.Order.{order_columns, sorted}
 use Rattle.vx_rows_values.specs.Keys.{HasKey}
 use Rattle.vx_catalog_relations.specs.Catalog.{all_below}
 use Rattle.vx_catalog_relations.specs.Relation.{KeysHold}
@@ -78,16 +79,16 @@ all-enough-below (k ∷ ks) v h =
     and-both (all_below v k) (list_all (all_below v) ks) (enough-below k v (omega (arith, more))) (all-enough-below ks v (omega (arith, more)))
 
 pub order-from : (w : ℕ) (e : Equality) (f : Values) (det : Columns → Columns) (xs : List Row) → Pairs w e f det xs
-    → (given order : List ℕ) → order_follows e det given order ≡ true → sorted given xs ≡ true → sorted order xs ≡ true
+    → (given order : List OrderEntry) → order_follows e det given order ≡ true → sorted given xs ≡ true → sorted order xs ≡ true
 order-from w e f det xs h given order t up =
-    let v : ℕ = w + (enough given + enough order) in
-    order-follows v e det xs (agreeing w e f det xs h v (omega arith)) given order (enough-below given v (omega arith)) (enough-below order v (omega arith)) t up
+    let v : ℕ = w + (enough (order_columns given) + enough (order_columns order)) in
+    order-follows v e det xs (agreeing w e f det xs h v (omega arith)) given order (enough-below (order_columns given) v (omega arith)) (enough-below (order_columns order) v (omega arith)) t up
 
 pub begins-from : (w : ℕ) (e : Equality) (f : Values) (det : Columns → Columns) (xs : List Row) → Pairs w e f det xs
-    → (given order : List ℕ) → begins_equally e order (short det given) ≡ true → sorted given xs ≡ true → sorted order xs ≡ true
+    → (given order : List OrderEntry) → begins_equally e order (short det given) ≡ true → sorted given xs ≡ true → sorted order xs ≡ true
 begins-from w e f det xs h given order t up =
-    let v : ℕ = w + (enough given + enough order) in
-    begins-follow v e det xs (agreeing w e f det xs h v (omega arith)) given order (enough-below given v (omega arith)) (enough-below order v (omega arith)) t up
+    let v : ℕ = w + (enough (order_columns given) + enough (order_columns order)) in
+    begins-follow v e det xs (agreeing w e f det xs h v (omega arith)) given order (enough-below (order_columns given) v (omega arith)) (enough-below (order_columns order) v (omega arith)) t up
 
 pub key-from : (w : ℕ) (e : Equality) (f : Values) (det : Columns → Columns) (xs : List Row) → Pairs w e f det xs
     → (keys : List (List ℕ)) → KeysHold keys xs → (cols : List ℕ) → key_follows det keys cols ≡ true → HasKey cols xs

@@ -102,7 +102,7 @@ pub meets-equally : (goes : Routing) (e : Equality) (op : Unary) (q : Part) (n :
 meets-equally goes e (select cs) q n s stands t h p = absurd (true≢false (sym t))
 meets-equally goes e (project cols) q n s stands t h p = absurd (true≢false (sym t))
 meets-equally goes e (distinct cols) q n s stands t h p = routed-meets goes e cols q n s stands t h p
-meets-equally goes e (sort of_parts cols) q n s stands t h p = absurd (true≢false (sym t))
+meets-equally goes e (sort of_parts order) q n s stands t h p = absurd (true≢false (sym t))
 meets-equally goes e (group plain by aggregates) q n s stands t h p = routed-meets goes e by q n s stands t h p
 meets-equally goes e (group partial by aggregates) q n s stands t h p = absurd (true≢false (sym t))
 meets-equally goes e (limit m) q n s stands t h p = absurd (true≢false (sym t))

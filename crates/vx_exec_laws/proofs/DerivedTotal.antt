@@ -1,6 +1,7 @@
 -- A claimed order that is total, also by what is known of columns, tells serial rows apart.
 use Rattle.std.proofs.Common.{◌≡◌, ⊎_elim, ℕ, true, List, arith}
 use Rattle.vx_rows_values.specs.Values.{Row}
+use Rattle.vx_rows_values.specs.Order.{order_columns}
 use Rattle.vx_catalog_relations.specs.Relation.{Relation, KeysHold, Meets}
 use Rattle.vx_plan_nodes.specs.Plan.{Plan, claim}
 use Rattle.vx_plan_nodes.specs.Types.{width, well_formed}
@@ -23,10 +24,10 @@ use Rattle.vx_exec_laws.proofs.DerivedPairs.{agreeing}
 use Rattle.vx_exec_laws.proofs.DerivedSerial.{keys-here, serial-pairs}
 
 pub order-tells-derived : (catalog : ℕ → Relation) (db : ℕ → List Row) → ((r : ℕ) → Meets (catalog r) (db r)) → (p : Plan) (base : List Row)
-    → well_formed catalog p ≡ true → all_inputs_fit catalog p ≡ true → serial db p ≡ rows base → ClaimedKeysHold db p → is_total_derived catalog p ≡ true → Reports (claim p).order base
+    → well_formed catalog p ≡ true → all_inputs_fit catalog p ≡ true → serial db p ≡ rows base → ClaimedKeysHold db p → is_total_derived catalog p ≡ true → Reports (order_columns (claim p).order) base
 order-tells-derived catalog db meets p base wf fit is hold total =
     let w : ℕ = width catalog p in
-    let order : List ℕ = (claim p).order in
+    let cols : List ℕ = order_columns (claim p).order in
     let keys : List (List ℕ) = (claim p).keys in
     let keys_hold : KeysHold keys base = keys-here db p hold base is in
     ⊎_elim
@@ -34,5 +35,5 @@ order-tells-derived catalog db meets p base wf fit is hold total =
     (λ g.
     let agree_base : Agreeing w (equal_at catalog p) (determined catalog p) base
     = agreeing w (equal_at catalog p) (fixed_at catalog p) (determined catalog p) base (serial-pairs catalog db meets p fit hold base is) w (omega arith) in
-    λ a b oa ob e. total-follows w (equal_at catalog p) (determined catalog p) base agree_base (serial-wide catalog db meets p base wf is) keys (named w (claim p) (names catalog p wf)).2 keys_hold order g a b oa ob e)
-    (or-cases (is_total_order catalog p) (total_follows w (determined catalog p) keys order) total)
+    λ a b oa ob e. total-follows w (equal_at catalog p) (determined catalog p) base agree_base (serial-wide catalog db meets p base wf is) keys (named w (claim p) (names catalog p wf)).2 keys_hold cols g a b oa ob e)
+    (or-cases (is_total_order catalog p) (total_follows w (determined catalog p) keys cols) total)

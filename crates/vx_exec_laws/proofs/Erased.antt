@@ -33,7 +33,7 @@ erase-list catalog db i (unary n c op p) wf =
     let ih : (j : ℕ) → list_of (serial db (erase_from j p)) ≡ list_of (serial db p) = λ j. erase-list catalog db j p (well-under catalog n c op p wf).0 in
     by-phase
     (λ op f. f.fits p ≡ true → list_of (serial db (cond f.ends (erase_from i p) (unary i no_claim f.once (erase_from (i + 1) p)))) ≡ list_of (serial db (unary n c op p)))
-    (λ op v e. over op ih) (λ by aggregates e. over (group partial by aggregates) ih) (λ cols e. over (sort true cols) ih)
+    (λ op v e. over op ih) (λ by aggregates e. over (group partial by aggregates) ih) (λ order e. over (sort true order) ih)
     (λ by aggregates e. ih i ∙ again by aggregates (serial db p) (λ xs h. final-serial db by aggregates p e xs h))
     op (well-under catalog n c op p wf).1
   where

@@ -1,6 +1,7 @@
 -- Scans and exchanges keep what the rule table says.
 use Rattle.std.proofs.Common.{◌≡◌, ℕ, ◌<◌, ◌==◌, Bool, true, false, cond, List, [], ◌∷◌, filter, refl, sym, ap, ◌∙◌, subst, arith}
 use Rattle.std.specs.List.{list_all}
+use Rattle.vx_rows_values.specs.declared.order.OrderEntry.{OrderEntry}
 use Rattle.vx_rows_values.specs.Values.{Row, pick}
 use Rattle.vx_rows_values.specs.Order.{sorted}
 use Rattle.vx_rows_values.specs.Bags.{total, SameRows}
@@ -51,7 +52,7 @@ sends-total goes law concat n xs sent h some f b g o =
     omega (arith, a, c)
 
 -- the streams of all consumers have the rows of all producers, where nothing is sent twice
-pub exchange-any : (goes : Routing) → InRange goes → (k : ExchangeKind) (merge : List ℕ) (m n : ℕ) (s s' : Streams) (base : List Row)
+pub exchange-any : (goes : Routing) → InRange goes → (k : ExchangeKind) (merge : List OrderEntry) (m n : ℕ) (s s' : Streams) (base : List Row)
     → Exchanges goes k merge m n s s' → 0 < n → ((z : Size) → k ≡ broadcast z → n ≡ 1) → (k ≡ gather → n ≡ 1) → (k ≡ concat → n ≡ 1)
     → SameRows (joined m s) base → SameRows (joined n s') base
 exchange-any goes law k merge m n s s' base x some b g o same = record {
@@ -64,7 +65,7 @@ exchange-any goes law k merge m n s s' base x some b g o same = record {
 }
 
 -- a broadcast gives each consumer all rows
-pub broadcast-all : (goes : Routing) (z : Size) (merge : List ℕ) (m n : ℕ) (s s' : Streams) (base : List Row)
+pub broadcast-all : (goes : Routing) (z : Size) (merge : List OrderEntry) (m n : ℕ) (s s' : Streams) (base : List Row)
     → Exchanges goes (broadcast z) merge m n s s' → SameRows (joined m s) base → (j : ℕ) → j < n → SameRows (s' j) base
 broadcast-all goes z merge m n s s' base x same j l = record {
   totals = λ f.
@@ -82,7 +83,7 @@ filter-all p (x ∷ xs) = cases (p x) refl (filter-all p xs)
     cases false e r = r
 
 -- each row of a consumer was sent to it
-pub routed-in-stream : (goes : Routing) (z : Size) (r : Route) (cols : List ℕ) (merge : List ℕ) (m n : ℕ) (s s' : Streams)
+pub routed-in-stream : (goes : Routing) (z : Size) (r : Route) (cols : List ℕ) (merge : List OrderEntry) (m n : ℕ) (s s' : Streams)
     → Exchanges goes (route_to z r cols) merge m n s s' → InItsStream goes r cols n s'
 routed-in-stream goes z r cols merge m n s s' x j l =
     let p : Row → Bool = λ row. goes r (pick cols row) n == j in
@@ -94,18 +95,18 @@ routed-in-stream goes z r cols merge m n s s' x j l =
 
 -- what one producer sends in order stays in order
 pub sends-sorted : (goes : Routing) (k : ExchangeKind) (n : ℕ) (xs : List Row) (sent : Streams) → Sends goes k n xs sent
-    → (cs : List ℕ) → sorted cs xs ≡ true → (j : ℕ) → j < n → sorted cs (sent j) ≡ true
-sends-sorted goes (route_to z r cols) n xs sent h cs up j l =
-    let P : List Row → Type 0 = λ ys. sorted cs ys ≡ true in subst P (h j l) (sorted-filter cs _ xs up)
-sends-sorted goes (round z) n xs sent h cs up j l = Dealt-sorted h cs up j l
-sends-sorted goes (broadcast z) n xs sent h cs up j l = let P : List Row → Type 0 = λ ys. sorted cs ys ≡ true in subst P (h j l) up
-sends-sorted goes gather n xs sent h cs up j l = let P : List Row → Type 0 = λ ys. sorted cs ys ≡ true in subst P (h j l) up
-sends-sorted goes concat n xs sent h cs up j l = let P : List Row → Type 0 = λ ys. sorted cs ys ≡ true in subst P (h j l) up
+    → (order : List OrderEntry) → sorted order xs ≡ true → (j : ℕ) → j < n → sorted order (sent j) ≡ true
+sends-sorted goes (route_to z r cols) n xs sent h order up j l =
+    let P : List Row → Type 0 = λ ys. sorted order ys ≡ true in subst P (h j l) (sorted-filter order _ xs up)
+sends-sorted goes (round z) n xs sent h order up j l = Dealt-sorted h order up j l
+sends-sorted goes (broadcast z) n xs sent h order up j l = let P : List Row → Type 0 = λ ys. sorted order ys ≡ true in subst P (h j l) up
+sends-sorted goes gather n xs sent h order up j l = let P : List Row → Type 0 = λ ys. sorted order ys ≡ true in subst P (h j l) up
+sends-sorted goes concat n xs sent h order up j l = let P : List Row → Type 0 = λ ys. sorted order ys ≡ true in subst P (h j l) up
 
-pub single-sorted : (goes : Routing) (k : ExchangeKind) (merge : List ℕ) (m n : ℕ) (s s' : Streams) → Exchanges goes k merge m n s s' → m ≡ 1
-    → (cs : List ℕ) → sorted cs (s 0) ≡ true → (j : ℕ) → j < n → sorted cs (s' j) ≡ true
-single-sorted goes k merge m n s s' x e cs up j l =
+pub single-sorted : (goes : Routing) (k : ExchangeKind) (merge : List OrderEntry) (m n : ℕ) (s s' : Streams) → Exchanges goes k merge m n s s' → m ≡ 1
+    → (order : List OrderEntry) → sorted order (s 0) ≡ true → (j : ℕ) → j < n → sorted order (s' j) ≡ true
+single-sorted goes k merge m n s s' x e order up j l =
     let D : ℕ → Type 0 = λ a. Dealt a (s' j) (λ i. x.sent i j) in
     let same : s' j ≡ x.sent 0 j = Dealt-one (subst D e (x.gets j l)) in
-    let P : List Row → Type 0 = λ ys. sorted cs ys ≡ true in
-    subst P (sym same) (sends-sorted goes k n (s 0) (x.sent 0) (x.sends 0 (omega arith)) cs up j l)
+    let P : List Row → Type 0 = λ ys. sorted order ys ≡ true in
+    subst P (sym same) (sends-sorted goes k n (s 0) (x.sent 0) (x.sends 0 (omega arith)) order up j l)

@@ -2,8 +2,9 @@
 use Rattle.std.proofs.Common.{◌≡◌, ℕ, zero, suc, ◌<◌, ◌≤◌, ◌==◌, nat_lt, Bool, true, false, cond, not, ◌&&◌, List, [], ◌∷◌, ◌++◌, map, length, refl, sym, ap, ap₂, ◌∙◌, subst, arith, Some, slice_get, eqb-true, lt-ltb, is_le}
 use Rattle.std.proofs.lemmas.Bool.{not-true}
 use Rattle.std.specs.List.{list_all}
-use Rattle.vx_rows_values.specs.Values.{Row, row_cmp, row_eq, pick}
-use Rattle.vx_rows_values.specs.Order.{agree, sorted, compare_on, insert_sorted, sort_on}
+use Rattle.vx_rows_values.specs.declared.order.OrderEntry.{OrderEntry}
+use Rattle.vx_rows_values.specs.Values.{Row, row_eq, pick}
+use Rattle.vx_rows_values.specs.Order.{order_columns, agree, sorted, compare_on, insert_sorted, sort_on}
 use Rattle.vx_rows_values.specs.Bags.{total, count, SameRows}
 use Rattle.vx_rows_values.specs.Keys.{HasKey}
 use Rattle.vx_plan_nodes.specs.Plan.{Route, Aggregate}
@@ -11,7 +12,7 @@ use Rattle.vx_catalog_relations.specs.Catalog.{all_below}
 use Rattle.vx_plan_nodes.specs.Serial.{group_keys, group_row, group_fits, of_key, aggregate_of}
 use Rattle.vx_plan_nodes.specs.Streams.{Streams, joined}
 use Rattle.vx_plan_nodes.specs.Routes.{Routing}
-use Rattle.vx_check_rules.specs.Rules.{within, copied, numbers_below}
+use Rattle.vx_check_rules.specs.Rules.{within, copied, copied_order, numbers_below}
 use Rattle.vx_check_rules.specs.Claims.{InItsStream}
 use Rattle.vx_exec_laws.proofs.Bags.{and-left, and-right, and-both, total-map, total-joined, across-ext, SameRows-all, stream-all}
 use Rattle.vx_exec_laws.proofs.Parts.{list_all-weaken, list_all-always}
@@ -19,6 +20,7 @@ use Rattle.vx_exec_laws.proofs.Keys.{agree-within}
 use Rattle.vx_rows_values.proofs.Compare.{row_eq-same, row_eq-refl, agree-both}
 use Rattle.vx_exec_laws.proofs.Unary.{sort-all, map-all, project-sorted}
 use Rattle.vx_exec_laws.proofs.Copies.{copied-cons}
+use Rattle.vx_exec_laws.proofs.OrderFacts.{compare-pick, copied-columns}
 use Rattle.vx_exec_laws.proofs.Join.{total-all-ext, pick-left, value-left}
 use Rattle.vx_exec_laws.proofs.JoinOrder.{all-append, all-and, wide}
 use Rattle.vx_exec_laws.proofs.Widths.{firsts-all, picks-wide}
@@ -124,49 +126,50 @@ copied-below kept (c ∷ cs) ds e =
     let w = copied-cons kept c cs ds e in
     and-both (nat_lt c (length kept)) (all_below (length kept) cs) (lt-ltb c (length kept) (slice-below kept c w.0 w.3)) (copied-below kept cs w.1 w.4)
 
-pub extended-sorted : (cs : List ℕ) (v : ℕ) (g : Row → Row) (tail : Row → Row) → ((x : Row) → g x ≡ x ++ tail x) → all_below v cs ≡ true
-    → (xs : List Row) → wide v xs ≡ true → sorted cs xs ≡ true → sorted cs (map g xs) ≡ true
-extended-sorted cs v g tail e below [] w h = refl
-extended-sorted cs v g tail e below (x ∷ xs) w h =
+pub extended-sorted : (order : List OrderEntry) (v : ℕ) (g : Row → Row) (tail : Row → Row) → ((x : Row) → g x ≡ x ++ tail x) → all_below v (order_columns order) ≡ true
+    → (xs : List Row) → wide v xs ≡ true → sorted order xs ≡ true → sorted order (map g xs) ≡ true
+extended-sorted order v g tail e below [] w h = refl
+extended-sorted order v g tail e below (x ∷ xs) w h =
     let later = and-right (length x == v) (wide v xs) w in
-    let at_g : (y : Row) → length y ≡ v → pick cs (g y) ≡ pick cs y = λ y l. ap (pick cs) (e y) ∙ pick-left v cs y (tail y) below l in
-    and-both (list_all (λ y. is_le (compare_on cs (g x) y)) (map g xs)) (sorted cs (map g xs))
-    (map-all (λ y. is_le (compare_on cs (g x) y)) g xs
-    (list_all-weaken (λ y. (length y == v) && is_le (compare_on cs x y)) (λ y. is_le (compare_on cs (g x) (g y)))
+    let cols : List ℕ = order_columns order in
+    let at_g : (y : Row) → length y ≡ v → pick cols (g y) ≡ pick cols y = λ y l. ap (pick cols) (e y) ∙ pick-left v cols y (tail y) below l in
+    and-both (list_all (λ y. is_le (compare_on order (g x) y)) (map g xs)) (sorted order (map g xs))
+    (map-all (λ y. is_le (compare_on order (g x) y)) g xs
+    (list_all-weaken (λ y. (length y == v) && is_le (compare_on order x y)) (λ y. is_le (compare_on order (g x) (g y)))
     (λ y k.
-    let a : pick cs (g x) ≡ pick cs x = at_g x (eqb-true (length x) v (and-left (length x == v) (wide v xs) w)) in
-    let b : pick cs (g y) ≡ pick cs y = at_g y (eqb-true (length y) v (and-left (length y == v) (is_le (compare_on cs x y)) k)) in
-    rw (a, b) (and-right (length y == v) (is_le (compare_on cs x y)) k))
-    xs (all-and (λ y. length y == v) (λ y. is_le (compare_on cs x y)) xs later (and-left (list_all (λ y. is_le (compare_on cs x y)) xs) (sorted cs xs) h))))
-    (extended-sorted cs v g tail e below xs later (and-right (list_all (λ y. is_le (compare_on cs x y)) xs) (sorted cs xs) h))
+    let a : pick cols (g x) ≡ pick cols x = at_g x (eqb-true (length x) v (and-left (length x == v) (wide v xs) w)) in
+    let b : pick cols (g y) ≡ pick cols y = at_g y (eqb-true (length y) v (and-left (length y == v) (is_le (compare_on order x y)) k)) in
+    ap is_le (compare-pick order (g x) (g y) x y a b) ∙ and-right (length y == v) (is_le (compare_on order x y)) k)
+    xs (all-and (λ y. length y == v) (λ y. is_le (compare_on order x y)) xs later (and-left (list_all (λ y. is_le (compare_on order x y)) xs) (sorted order xs) h))))
+    (extended-sorted order v g tail e below xs later (and-right (list_all (λ y. is_le (compare_on order x y)) xs) (sorted order xs) h))
 
 -- rows that begin with the columns sorted on are sorted as these are
-pub extended-sort : (cols : List ℕ) (v : ℕ) (g : Row → Row) → ((x : Row) → length x ≡ v → pick cols (g x) ≡ pick cols x)
-    → (xs : List Row) → wide v xs ≡ true → sort_on cols (map g xs) ≡ map g (sort_on cols xs)
-extended-sort cols v g same [] w = refl
-extended-sort cols v g same (x ∷ xs) w =
+pub extended-sort : (order : List OrderEntry) (v : ℕ) (g : Row → Row) → ((x : Row) → length x ≡ v → pick (order_columns order) (g x) ≡ pick (order_columns order) x)
+    → (xs : List Row) → wide v xs ≡ true → sort_on order (map g xs) ≡ map g (sort_on order xs)
+extended-sort order v g same [] w = refl
+extended-sort order v g same (x ∷ xs) w =
     let later = and-right (length x == v) (wide v xs) w in
-    ap (insert_sorted cols (g x)) (extended-sort cols v g same xs later)
-    ∙ insert (eqb-true (length x) v (and-left (length x == v) (wide v xs) w)) (sort_on cols xs) (sort-all (λ row. length row == v) cols xs later)
+    ap (insert_sorted order (g x)) (extended-sort order v g same xs later)
+    ∙ insert (eqb-true (length x) v (and-left (length x == v) (wide v xs) w)) (sort_on order xs) (sort-all (λ row. length row == v) order xs later)
   where
-    insert : length x ≡ v → (ys : List Row) → wide v ys ≡ true → insert_sorted cols (g x) (map g ys) ≡ map g (insert_sorted cols x ys)
+    insert : length x ≡ v → (ys : List Row) → wide v ys ≡ true → insert_sorted order (g x) (map g ys) ≡ map g (insert_sorted order x ys)
     insert l [] w = refl
     insert l (y ∷ ys) w =
-        let a : pick cols (g x) ≡ pick cols x = same x l in
-        let b : pick cols (g y) ≡ pick cols y = same y (eqb-true (length y) v (and-left (length y == v) (wide v ys) w)) in
-        ap (λ o. cond (is_le o) (g x ∷ g y ∷ map g ys) (g y ∷ insert_sorted cols (g x) (map g ys))) (ap₂ row_cmp a b)
-        ∙ go (is_le (compare_on cols x y)) (insert l ys (and-right (length y == v) (wide v ys) w))
+        let a : pick (order_columns order) (g x) ≡ pick (order_columns order) x = same x l in
+        let b : pick (order_columns order) (g y) ≡ pick (order_columns order) y = same y (eqb-true (length y) v (and-left (length y == v) (wide v ys) w)) in
+        ap (λ o. cond (is_le o) (g x ∷ g y ∷ map g ys) (g y ∷ insert_sorted order (g x) (map g ys))) (compare-pick order (g x) (g y) x y a b)
+        ∙ go (is_le (compare_on order x y)) (insert l ys (and-right (length y == v) (wide v ys) w))
       where
-        go : (b : Bool) → insert_sorted cols (g x) (map g ys) ≡ map g (insert_sorted cols x ys)
-            → cond b (g x ∷ g y ∷ map g ys) (g y ∷ insert_sorted cols (g x) (map g ys)) ≡ map g (cond b (x ∷ y ∷ ys) (y ∷ insert_sorted cols x ys))
+        go : (b : Bool) → insert_sorted order (g x) (map g ys) ≡ map g (insert_sorted order x ys)
+            → cond b (g x ∷ g y ∷ map g ys) (g y ∷ insert_sorted order (g x) (map g ys)) ≡ map g (cond b (x ∷ y ∷ ys) (y ∷ insert_sorted order x ys))
         go true e = refl
         go false e = ap (λ l. g y ∷ l) e
 
-pub groups-sorted : (by cs ds : List ℕ) (aggregates : List Aggregate) → copied by cs ≡ Some ds → (xs : List Row) → sorted ds xs ≡ true → sorted cs (groups by aggregates xs) ≡ true
-groups-sorted by cs ds aggregates e xs h =
-    extended-sorted cs (length by) (group_row by aggregates xs) (λ key. map (λ a. aggregate_of a (of_key by key xs)) aggregates) (λ key. refl)
-    (copied-below by cs ds e) (group_keys by xs) (firsts-all (λ row. length row == length by) (map (pick by) xs) (picks-wide by xs))
-    (firsts-sorted cs (map (pick by) xs) (project-sorted by cs ds e xs h))
+pub groups-sorted : (by : List ℕ) (order ds : List OrderEntry) (aggregates : List Aggregate) → copied_order by order ≡ Some ds → (xs : List Row) → sorted ds xs ≡ true → sorted order (groups by aggregates xs) ≡ true
+groups-sorted by order ds aggregates e xs h =
+    extended-sorted order (length by) (group_row by aggregates xs) (λ key. map (λ a. aggregate_of a (of_key by key xs)) aggregates) (λ key. refl)
+    (copied-below by (order_columns order) (order_columns ds) (copied-columns by order ds e)) (group_keys by xs) (firsts-all (λ row. length row == length by) (map (pick by) xs) (picks-wide by xs))
+    (firsts-sorted order (map (pick by) xs) (project-sorted by order ds e xs h))
 
 -- keys
 pub groups-key : (by x : List ℕ) (aggregates : List Aggregate) (xs : List Row) → within (numbers_below (length by)) x ≡ true → HasKey x (groups by aggregates xs)

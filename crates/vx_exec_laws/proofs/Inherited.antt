@@ -1,5 +1,6 @@
 -- What the inputs of a node have where the node has it, and what a rule table asks of a plan.
 use Rattle.std.proofs.Common.{◌≡◌, ℕ, Bool, true, ◌&&◌, List}
+use Rattle.vx_rows_values.specs.declared.order.OrderEntry.{OrderEntry}
 use Rattle.vx_catalog_relations.specs.Relation.{Relation}
 use Rattle.vx_plan_nodes.specs.Plan.{Claim, Unary, Binary, ExchangeKind, Plan, unary, binary, exchange, size, size_eq}
 use Rattle.vx_plan_nodes.specs.Types.{width, well_formed, names_columns}
@@ -16,7 +17,7 @@ pub record Inherited (Has : Plan → Type 0) : Type 0 where
   pub input : (n : ℕ) (c : Claim) (op : Unary) (p : Plan) → Has (unary n c op p) → Has p
   pub left : (n : ℕ) (c : Claim) (op : Binary) (p q : Plan) → Has (binary n c op p q) → Has p
   pub right : (n : ℕ) (c : Claim) (op : Binary) (p q : Plan) → Has (binary n c op p q) → Has q
-  pub sent : (n : ℕ) (c : Claim) (k : ExchangeKind) (merge : List ℕ) (p : Plan) → Has (exchange n c k merge p) → Has p
+  pub sent : (n : ℕ) (c : Claim) (k : ExchangeKind) (merge : List OrderEntry) (p : Plan) → Has (exchange n c k merge p) → Has p
 
 pub inherited-both : (A B : Plan → Type 0) → Inherited A → Inherited B → Inherited (λ p. A p × B p)
 inherited-both A B a b = record {

@@ -2,20 +2,21 @@
 use Rattle.std.proofs.Common.{◌≡◌, ℕ, ◌≤◌, ◌==◌, Bool, true, false, cond, ◌&&◌, ◌||◌, ⊎_elim, List, [], ◌∷◌, ◌++◌, map, filter, length, drop, refl, sym, ap, ◌∙◌, arith, true≢false, is_le, is_eq, eqb-true}
 use Rattle.std.proofs.lemmas.List.Folds.{list_all-append}
 use Rattle.std.specs.List.{list_all}
+use Rattle.vx_rows_values.specs.declared.order.OrderEntry.{OrderEntry}
 use Rattle.vx_rows_values.specs.Values.{Row, row_cmp, pick}
-use Rattle.vx_rows_values.specs.Order.{compare_on, agree, sorted}
+use Rattle.vx_rows_values.specs.Order.{order_columns, compare_on, agree, sorted}
 use Rattle.vx_rows_values.specs.Bags.{total, count}
 use Rattle.vx_rows_values.specs.Keys.{HasKey}
 use Rattle.vx_catalog_relations.specs.Catalog.{all_below}
 use Rattle.vx_plan_nodes.specs.Serial.{matches, joined_with, join_rows}
 use Rattle.vx_check_rules.specs.Rules.{within, covers, shifted, join_keys}
 use Rattle.vx_catalog_relations.specs.Relation.{KeysHold}
-use Rattle.vx_rows.proofs.SortFacts.{eq-le}
 use Rattle.vx_exec_laws.proofs.Bags.{and-left, and-right, and-both, when}
 use Rattle.vx_exec_laws.proofs.Parts.{or-cases, list_all-weaken, list_all-always}
 use Rattle.vx_exec_laws.proofs.Keys.{agree-within, count-mono, covers-key}
 use Rattle.vx_rows_values.proofs.Compare.{count-witness, agree-both, le-trans, row_eq-refl, row_eq-laws}
 use Rattle.vx_exec_laws.proofs.Orders.{list_all-filter}
+use Rattle.vx_exec_laws.proofs.OrderFacts.{agree-le, compare-pick}
 use Rattle.vx_exec_laws.proofs.Unary.{map-all}
 use Rattle.vx_exec_laws.proofs.Join.{pick-left, pick-shifted, pick-drop, total-swap, pair, join-total, total-all-le}
 
@@ -46,17 +47,17 @@ join-all pl pr q on (l ∷ ls) rs f h k =
 pub agree-sym : (cs : List ℕ) (a b : Row) → agree cs a b ≡ true → agree cs b a ≡ true
 agree-sym cs a b h = agree-both cs a b a h (row_eq-refl (pick cs a))
 
-pub sorted-append : (cs : List ℕ) (l : Row) (xs ys : List Row) → list_all (agree cs l) xs ≡ true → sorted cs ys ≡ true
-    → list_all (λ y. is_le (compare_on cs l y)) ys ≡ true → sorted cs (xs ++ ys) ≡ true
-sorted-append cs l [] ys h k b = k
-sorted-append cs l (x ∷ xs) ys h k b =
-    let tail = and-right (agree cs l x) (list_all (agree cs l) xs) h in
-    let here : agree cs l x ≡ true = and-left _ _ h in
+pub sorted-append : (order : List OrderEntry) (l : Row) (xs ys : List Row) → list_all (agree (order_columns order) l) xs ≡ true → sorted order ys ≡ true
+    → list_all (λ y. is_le (compare_on order l y)) ys ≡ true → sorted order (xs ++ ys) ≡ true
+sorted-append order l [] ys h k b = k
+sorted-append order l (x ∷ xs) ys h k b =
+    let tail = and-right (agree (order_columns order) l x) (list_all (agree (order_columns order) l) xs) h in
+    let here : agree (order_columns order) l x ≡ true = and-left _ _ h in
     and-both _ _
-    (all-append (λ z. is_le (compare_on cs x z)) xs ys
-    (list_all-weaken (agree cs l) (λ z. is_le (compare_on cs x z)) (λ z e. eq-le _ (agree-both cs l x z here e)) xs tail)
-    (list_all-weaken (λ y. is_le (compare_on cs l y)) (λ z. is_le (compare_on cs x z)) (λ z e. le-trans cs x l z (eq-le _ (agree-sym cs l x here)) e) ys b))
-    (sorted-append cs l xs ys tail k b)
+    (all-append (λ z. is_le (compare_on order x z)) xs ys
+    (list_all-weaken (agree (order_columns order) l) (λ z. is_le (compare_on order x z)) (λ z e. agree-le order x z (agree-both (order_columns order) l x z here e)) xs tail)
+    (list_all-weaken (λ y. is_le (compare_on order l y)) (λ z. is_le (compare_on order x z)) (λ z e. le-trans order x l z (agree-le order x l (agree-sym (order_columns order) l x here)) e) ys b))
+    (sorted-append order l xs ys tail k b)
 
 abbrev pub wide : ℕ → List Row → Bool
 wide w xs = list_all (λ row. length row == w) xs
@@ -68,20 +69,21 @@ all-and p q (x ∷ xs) h k =
     (and-both (p x) (q x) (and-left (p x) (list_all p xs) h) (and-left (q x) (list_all q xs) k)) (all-and p q xs (and-right (p x) (list_all p xs) h) (and-right (q x) (list_all q xs) k))
 
 -- a join keeps its left input's order
-pub join-sorted : (cs : List ℕ) (w : ℕ) (on : List (ℕ × ℕ)) (ls rs : List Row) → all_below w cs ≡ true → wide w ls ≡ true → sorted cs ls ≡ true
-    → sorted cs (join_rows on ls rs) ≡ true
-join-sorted cs w on [] rs b v h = refl
-join-sorted cs w on (l ∷ ls) rs b v h =
+pub join-sorted : (order : List OrderEntry) (w : ℕ) (on : List (ℕ × ℕ)) (ls rs : List Row) → all_below w (order_columns order) ≡ true → wide w ls ≡ true → sorted order ls ≡ true
+    → sorted order (join_rows on ls rs) ≡ true
+join-sorted order w on [] rs b v h = refl
+join-sorted order w on (l ∷ ls) rs b v h =
+    let cols : List ℕ = order_columns order in
     let lw : length l ≡ w = eqb-true _ w (and-left _ _ v) in
     let later = and-right (length l == w) (wide w ls) v in
-    sorted-append cs l (joined_with on rs l) (join_rows on ls rs)
-    (block-all (λ r. true) (agree cs l) on l rs
-    (λ r e. ap (λ k. is_eq (row_cmp (pick cs l) k)) (pick-left w cs l r b lw) ∙ row_eq-refl (pick cs l))
+    sorted-append order l (joined_with on rs l) (join_rows on ls rs)
+    (block-all (λ r. true) (agree cols l) on l rs
+    (λ r e. ap (λ k. is_eq (row_cmp (pick cols l) k)) (pick-left w cols l r b lw) ∙ row_eq-refl (pick cols l))
     (list_all-always (λ r. true) (λ r. refl) rs))
-    (join-sorted cs w on ls rs b later (and-right _ _ h))
-    (join-all (λ y. (length y == w) && is_le (compare_on cs l y)) (λ r. true) (λ y. is_le (compare_on cs l y)) on ls rs
-    (λ y r e t. ap (λ k. is_le (row_cmp (pick cs l) k)) (pick-left w cs y r b (eqb-true _ w (and-left _ _ e))) ∙ and-right (length y == w) (is_le (compare_on cs l y)) e)
-    (all-and (λ y. length y == w) (λ y. is_le (compare_on cs l y)) ls later (and-left _ _ h))
+    (join-sorted order w on ls rs b later (and-right _ _ h))
+    (join-all (λ y. (length y == w) && is_le (compare_on order l y)) (λ r. true) (λ y. is_le (compare_on order l y)) on ls rs
+    (λ y r e t. ap is_le (compare-pick order l (y ++ r) l y refl (pick-left w cols y r b (eqb-true _ w (and-left _ _ e)))) ∙ and-right (length y == w) (is_le (compare_on order l y)) e)
+    (all-and (λ y. length y == w) (λ y. is_le (compare_on order l y)) ls later (and-left _ _ h))
     (list_all-always (λ r. true) (λ r. refl) rs))
 
 -- rows that match and pass count for one at most, where another test bounds them

@@ -69,6 +69,7 @@ pub mod Blameless
 pub mod Strangers
 pub mod Received
 pub mod NeededOrders
+pub mod OrderFacts
 pub mod OrderFaults
 pub mod CutTidy
 pub mod CutOrders

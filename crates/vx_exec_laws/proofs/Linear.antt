@@ -1,5 +1,6 @@
 -- Operators whose output's totals are totals of the input: what they do to parts.
 use Rattle.std.proofs.Common.{◌≡◌, ℕ, ◌+◌, ◌<◌, Bool, true, false, cond, List, [], ◌∷◌, map, filter, refl, sym, ap, ◌∙◌, arith, is_le}
+use Rattle.vx_rows_values.specs.declared.order.OrderEntry.{OrderEntry}
 use Rattle.vx_rows_values.specs.Values.{Row}
 use Rattle.vx_rows_values.specs.Bags.{total, SameRows}
 use Rattle.vx_rows_values.specs.Order.{compare_on, insert_sorted, sort_on}
@@ -16,21 +17,21 @@ Linear-filter p = record { pull = λ f x. when (p x) (f x); totals = λ f xs. to
 pub Linear-map : (g : Row → Row) → Linear (map g)
 Linear-map g = record { pull = λ f x. f (g x); totals = λ f xs. total-map f g xs }
 
-pub insert-total : (f : Row → ℕ) (cols : List ℕ) (x : Row) (ys : List Row) → total f (insert_sorted cols x ys) ≡ f x + total f ys
-insert-total f cols x [] = refl
-insert-total f cols x (y ∷ ys) = cases (is_le (compare_on cols x y)) (insert-total f cols x ys)
+pub insert-total : (f : Row → ℕ) (order : List OrderEntry) (x : Row) (ys : List Row) → total f (insert_sorted order x ys) ≡ f x + total f ys
+insert-total f order x [] = refl
+insert-total f order x (y ∷ ys) = cases (is_le (compare_on order x y)) (insert-total f order x ys)
   where
-    cases : (b : Bool) → total f (insert_sorted cols x ys) ≡ f x + total f ys
-        → total f (cond b (x ∷ y ∷ ys) (y ∷ insert_sorted cols x ys)) ≡ f x + (f y + total f ys)
+    cases : (b : Bool) → total f (insert_sorted order x ys) ≡ f x + total f ys
+        → total f (cond b (x ∷ y ∷ ys) (y ∷ insert_sorted order x ys)) ≡ f x + (f y + total f ys)
     cases true e = refl
     cases false e = omega arith
 
-pub sort-total : (f : Row → ℕ) (cols : List ℕ) (xs : List Row) → total f (sort_on cols xs) ≡ total f xs
-sort-total f cols [] = refl
-sort-total f cols (x ∷ xs) = insert-total f cols x (sort_on cols xs) ∙ ap (λ n. f x + n) (sort-total f cols xs)
+pub sort-total : (f : Row → ℕ) (order : List OrderEntry) (xs : List Row) → total f (sort_on order xs) ≡ total f xs
+sort-total f order [] = refl
+sort-total f order (x ∷ xs) = insert-total f order x (sort_on order xs) ∙ ap (λ n. f x + n) (sort-total f order xs)
 
-pub Linear-sort : (cols : List ℕ) → Linear (sort_on cols)
-Linear-sort cols = record { pull = λ f. f; totals = λ f xs. sort-total f cols xs }
+pub Linear-sort : (order : List OrderEntry) → Linear (sort_on order)
+Linear-sort order = record { pull = λ f. f; totals = λ f xs. sort-total f order xs }
 
 pub linear-same : {op : List Row → List Row} → Linear op → {xs ys : List Row} → SameRows xs ys → SameRows (op xs) (op ys)
 linear-same {op} lin {xs} {ys} s = record { totals = λ f. lin.totals f xs ∙ (s.totals (lin.pull f) ∙ sym (lin.totals f ys)) }

@@ -1,8 +1,8 @@
 -- No worker ends with rows that fall, where what each node has been given so far is in the order that it asks for.
-use Rattle.std.proofs.Common.{◌≡◌, ◌⊎◌, ⊎_elim, ℕ, ◌<◌, true, false, List, map, subst, arith, refl, sym, ap, ◌∙◌, true≢false}
+use Rattle.std.proofs.Common.{◌≡◌, ◌⊎◌, ⊎_elim, ℕ, ◌<◌, true, List, subst, arith, refl, sym, ap, ◌∙◌, true≢false}
 use Rattle.vx_rows_values.specs.Values.{Row}
 use Rattle.vx_rows_values.specs.Order.{sorted}
-use Rattle.vx_plan_nodes.specs.Plan.{Unary, select, project, distinct, sort, group, limit, Binary, union, join, semi_join, Plan, scan, unary, binary, exchange, size, is_one}
+use Rattle.vx_plan_nodes.specs.Plan.{by_hashing, by_merging, Unary, select, project, distinct, sort, group, limit, Binary, union, join, semi_join, Plan, scan, unary, binary, exchange, size, is_one, left_order, right_order}
 use Rattle.vx_plan_nodes.specs.Streams.{workers}
 use Rattle.vx_plan_nodes.specs.Numbering.{is_fit}
 use Rattle.vx_check_rules.specs.Claims.{Given}
@@ -22,12 +22,12 @@ use Rattle.vx_exec_laws.proofs.Received.{SortedSoFar, came-sorted}
 use Rattle.vx_exec_laws.proofs.CutOrigins.{on-left, on-right, same-size, fit-left, fit-right}
 use Rattle.vx_exec_laws.proofs.Blameless.{Blameless, ends-without, below-without}
 
--- a merge join asks for both inputs in the order of the columns that it pairs
+-- a merge join asks for both inputs in the order of the columns that it pairs, in its directions
 abbrev pub NeededOf : (S : RunModel) → Binary → (p q : Plan) → (ℕ → Trace) → Type 0
 NeededOf S union p q ts = Unit {0}
-NeededOf S (join false on) p q ts = Unit {0}
+NeededOf S (join by_hashing on) p q ts = Unit {0}
 NeededOf S (semi_join matched on conditions) p q ts = Unit {0}
-NeededOf S (join true on) p q ts = SortedSoFar S p ts (map (λ x. x.0) on) × SortedSoFar S q ts (map (λ x. x.1) on)
+NeededOf S (join (by_merging falls) on) p q ts = SortedSoFar S p ts (left_order falls on) × SortedSoFar S q ts (right_order falls on)
 
 -- and a merging exchange for what each producer gives in the order that it merges on
 abbrev pub NeededSoFar : (S : RunModel) (p : Plan) (ts : ℕ → Trace) → RunOf S (Ends S) p ts → Type 0
@@ -40,18 +40,18 @@ one-sorted : (n node : ℕ) (op : Unary) (h : Ledger) → OwnBlame (one_op n op)
 one-sorted n node (select cs) h b = b
 one-sorted n node (project cols) h b = b
 one-sorted n node (distinct cols) h b = b
-one-sorted n node (sort of_parts cols) h b = b
+one-sorted n node (sort of_parts order) h b = b
 one-sorted n node (group phase by aggregates) h b = b
 one-sorted n node (limit m) h b = b
 
 two-sorted : (S : RunModel) (n node : ℕ) (op : Binary) (p q : Plan) (ts : ℕ → Trace) → NeededOf S op p q ts → (x : Output S p ts) (y : Output S q ts) (h : Ledger) → x.out ≡ h.left → y.out ≡ h.right
     → OwnBlame (two_op n op) h (Own Unsorted node) → ⊥
 two-sorted S n node union p q ts need x y h left right b = b
-two-sorted S n node (join false on) p q ts need x y h left right b = b
+two-sorted S n node (join by_hashing on) p q ts need x y h left right b = b
 two-sorted S n node (semi_join matched on conditions) p q ts need x y h left right b = b
-two-sorted S n node (join true on) p q ts need x y h left right b = ⊎_elim
-    (λ f. true≢false (sym (need.0 x) ∙ (ap (λ (s : Stream). sorted (map (λ x. x.0) on) s.rows) left ∙ f)))
-    (λ f. true≢false (sym (need.1 y) ∙ (ap (λ (s : Stream). sorted (map (λ x. x.1) on) s.rows) right ∙ f)))
+two-sorted S n node (join (by_merging falls) on) p q ts need x y h left right b = ⊎_elim
+    (λ f. true≢false (sym (need.0 x) ∙ (ap (λ (s : Stream). sorted (left_order falls on) s.rows) left ∙ f)))
+    (λ f. true≢false (sym (need.1 y) ∙ (ap (λ (s : Stream). sorted (right_order falls on) s.rows) right ∙ f)))
     b.1
 
 module _ (S : RunModel) (giv : Given S.catalog S.db S.sizes (goes S)) where

@@ -2,8 +2,9 @@
 use Rattle.std.proofs.Common.{◌≡◌, ℕ, ◌+◌, ◌<◌, ◌&&◌, take, Bool, true, false, cond, ◌||◌, ⊎_elim, List, [], ◌∷◌, ◌++◌, map, length, refl, sym, ap, ◌∙◌, subst, arith, true≢false, Option, Some, None, ◌⊎◌, inl, inr, zero, suc, ◌≤◌, ap₂, slice_get, not}
 use Rattle.std.proofs.lemmas.Bool.{not-true}
 use Rattle.std.specs.List.{list_all, list_any}
+use Rattle.vx_rows_values.specs.declared.order.OrderEntry.{OrderEntry}
 use Rattle.vx_rows_values.specs.Values.{Row, pick}
-use Rattle.vx_rows_values.specs.Order.{agree, sorted, sort_on}
+use Rattle.vx_rows_values.specs.Order.{order_columns, agree, sorted, sort_on}
 use Rattle.vx_rows_values.specs.Bags.{count, SameRows}
 use Rattle.vx_rows_values.specs.Keys.{HasKey}
 use Rattle.vx_catalog_relations.specs.Catalog.{all_below}
@@ -17,10 +18,10 @@ use Rattle.vx_plan_nodes.specs.Routes.{Routing}
 use Rattle.vx_plan_nodes.specs.Runs.{Exchanges, Runs}
 use Rattle.vx_plan_nodes.specs.Phases.{columns_from, first_columns, merged, is_partial, is_final, is_open, opens, phase_fits, phased, Parts, spoken, Gives, listed}
 use Rattle.vx_plan_nodes.specs.Types.{well_formed}
-use Rattle.vx_check_rules.specs.Rules.{part_gives, has, unless_one, unary_shows, copied, covers, is_prefix, within, numbers_below, routed_within, allowed_here, sizes_match, not_replicated, inputs_match, order_given, first_rows_known, is_total_order, part_shown, order_shown, keys_shown, goes_on, unary_keys}
-use Rattle.vx_check_rules.specs.Behaviour.{sources, order_after, way, own, bare, if_so, meet, over, gives, behaviour, fits, shown_part}
+use Rattle.vx_check_rules.specs.Rules.{part_gives, has, unless_one, unary_shows, entry_at, copied_order, covers, is_front, within, numbers_below, routed_within, allowed_here, sizes_match, not_replicated, inputs_match, order_given, first_rows_known, is_total_order, part_shown, order_shown, keys_shown, goes_on, unary_keys}
+use Rattle.vx_check_rules.specs.Behaviour.{order_sources, order_after, way, own, bare, if_so, meet, over, gives, behaviour, fits, shown_part}
 use Rattle.vx_check_rules.specs.Claims.{PartHolds, Given, PartOf, ClaimOf}
-use Rattle.vx_check_rules.proofs.Exact.{fits-exactly, parts-exactly, sources-kept, unary-gives}
+use Rattle.vx_check_rules.proofs.Exact.{fits-exactly, parts-exactly, order-copied, unary-gives}
 use Rattle.vx_check_rules.proofs.Bools.{or-false, or-left, any-if}
 pub use Rattle.vx_check_rules.proofs.DerivedMore.{eight}
 use Rattle.vx_exec_laws.proofs.Bags.{SameRows-sym, and-left, and-right, SameRows-refl, SameRows-trans}
@@ -28,7 +29,7 @@ use Rattle.vx_exec_laws.proofs.Parts.{InRange, single-of, from_single-of, has-pa
 use Rattle.vx_exec_laws.proofs.Orders.{sorted-front, Dealt-sorted}
 use Rattle.vx_exec_laws.proofs.Keys.{first-key, covers-key, keys-from}
 use Rattle.vx_exec_laws.proofs.Linear.{Linear-map, Linear-sort, sort-total, linear-same, linear-joined}
-use Rattle.vx_exec_laws.proofs.Copies.{copied-cons}
+use Rattle.vx_exec_laws.proofs.OrderFacts.{entry-both-is, copied-columns}
 use Rattle.vx_exec_laws.proofs.Unary.{some-is, project-sorted}
 use Rattle.vx_exec_laws.proofs.Widths.{some-of}
 use Rattle.vx_exec_laws.proofs.Apart.{firsts-sorted}
@@ -72,7 +73,7 @@ FirstRows db op p s = is_limit op ≡ true → (is_one (size p) ≡ true) × ((x
 
 -- at a limit's input there is one worker, and the claimed order tells the serial rows apart
 abbrev pub Told : (ℕ → List Row) → Unary → Plan → Type 0
-Told db op p = is_limit op ≡ true → (is_one (size p) ≡ true) × ((xs : List Row) → serial db p ≡ rows xs → Reports (claim p).order xs)
+Told db op p = is_limit op ≡ true → (is_one (size p) ≡ true) × ((xs : List Row) → serial db p ≡ rows xs → Reports (order_columns (claim p).order) xs)
 
 same-rows : (xs ys : List Row) → rows xs ≡ rows ys → xs ≡ ys
 same-rows xs ys e = cc
@@ -83,7 +84,7 @@ limit-known : (catalog : ℕ → Relation) (k : ℕ) (c : Claim) (op : Unary) (p
 limit-known catalog k c (select cs) p h e = absurd (true≢false (sym e))
 limit-known catalog k c (project cols) p h e = absurd (true≢false (sym e))
 limit-known catalog k c (distinct cols) p h e = absurd (true≢false (sym e))
-limit-known catalog k c (sort of_parts cols) p h e = absurd (true≢false (sym e))
+limit-known catalog k c (sort of_parts order) p h e = absurd (true≢false (sym e))
 limit-known catalog k c (group phase by aggregates) p h e = absurd (true≢false (sym e))
 limit-known catalog k c (limit m) p h e = h
 
@@ -91,7 +92,7 @@ limit-closed : (op : Unary) (p : Plan) → phase_fits op p ≡ true → is_limit
 limit-closed (select cs) p h e = absurd (true≢false (sym e))
 limit-closed (project cols) p h e = absurd (true≢false (sym e))
 limit-closed (distinct cols) p h e = absurd (true≢false (sym e))
-limit-closed (sort of_parts cols) p h e = absurd (true≢false (sym e))
+limit-closed (sort of_parts order) p h e = absurd (true≢false (sym e))
 limit-closed (group phase by aggregates) p h e = absurd (true≢false (sym e))
 limit-closed (limit m) p h e = not-true (is_open p) h
 
@@ -195,8 +196,8 @@ module _ (catalog : ℕ → Relation) (db : ℕ → List Row) (sizes : ℕ → �
     pub list : List Row
     pub list_is : T list
     pub list_sorted : sorted (claim p).order list ≡ true
-    pub ordered : (cs ds below : List ℕ) → sources (described op).copying cs ≡ Some ds → is_prefix ds (order_after (described op).order below) ≡ true → sorted below list ≡ true
-        → sorted cs (listed_of base) ≡ true
+    pub ordered : (order ds below : List OrderEntry) → order_sources (described op).copying order ≡ Some ds → is_front ds (order_after (described op).order below) ≡ true → sorted below list ≡ true
+        → sorted order (listed_of base) ≡ true
     pub keyed : (x : List ℕ) → unary_keys op (claim p).keys x ≡ true → HasKey x (listed_of base)
 
   -- an operator that is whole
@@ -223,7 +224,7 @@ module _ (catalog : ℕ → Relation) (db : ℕ → List Row) (sizes : ℕ → �
         list = base;
         list_is = of_list;
         list_sorted = ih.holds.order.1;
-        ordered = λ cs ds below c front up. (keeps op).ordered cs ds below c front base made.0 made.1 up;
+        ordered = λ order ds below c front up. (keeps op).ordered order ds below c front base made.0 made.1 up;
         keyed = λ x g. facts.keyed (claim p).keys x g base made.0 made.1 ih.holds.keys;
       }
 
@@ -248,7 +249,7 @@ module _ (catalog : ℕ → Relation) (db : ℕ → List Row) (sizes : ℕ → �
         list = ih.base;
         list_is = of_list;
         list_sorted = ih.holds.order.1;
-        ordered = λ cs ds below c front up. (keeps (limit m)).ordered cs ds below c front ih.base base refl up;
+        ordered = λ order ds below c front up. (keeps (limit m)).ordered order ds below c front ih.base base refl up;
         keyed = λ x g. first-key m (claim p).keys x g ih.base ih.holds.keys;
       }
 
@@ -286,26 +287,26 @@ module _ (catalog : ℕ → Relation) (db : ℕ → List Row) (sizes : ℕ → �
         list = base;
         list_is = of_list;
         list_sorted = ih.holds.order.1;
-        ordered = λ cs ds below c front up.
-            firsts-sorted cs (map (pick by) base) (project-sorted by cs ds (sym (sources-kept by cs) ∙ c) base (sorted-front ds below front base up));
+        ordered = λ order ds below c front up.
+            firsts-sorted order (map (pick by) base) (project-sorted by order ds (sym (order-copied by order) ∙ c) base (sorted-front ds below front base up));
         keyed = λ x g. absurd (true≢false (sym g));
       }
 
   -- a sort of parts: of the same parts, in an order in which the keys are listed too
-  pub parts-sort-ready : (cols : List ℕ) (p : Plan) (s out : Streams) (ih : HoldingAt db sizes goes p s) (T : List Row → Type 0) → T (listed p ih.base)
-      → FitsRows (sort true cols) p s → ((w : ℕ) → w < workers sizes (size p) → unary_rows (sort true cols) (s w) ≡ Some (out w))
-      → Ready (sort true cols) p out T (serial db (spoken p)) (Gives p) (λ base. sort_on cols (listed p base))
-  parts-sort-ready cols p s out ih T of_list fit run =
-      let op : Unary = sort true cols in
+  pub parts-sort-ready : (order : List OrderEntry) (p : Plan) (s out : Streams) (ih : HoldingAt db sizes goes p s) (T : List Row → Type 0) → T (listed p ih.base)
+      → FitsRows (sort true order) p s → ((w : ℕ) → w < workers sizes (size p) → unary_rows (sort true order) (s w) ≡ Some (out w))
+      → Ready (sort true order) p out T (serial db (spoken p)) (Gives p) (λ base. sort_on order (listed p base))
+  parts-sort-ready order p s out ih T of_list fit run =
+      let op : Unary = sort true order in
       let base : List Row = ih.base in
-      let is : (xs ys : List Row) → unary_rows (sort true cols) xs ≡ Some ys → sort_on cols xs ≡ ys = λ xs ys e. some-is (sort_on cols xs) ys e in
+      let is : (xs ys : List Row) → unary_rows (sort true order) xs ≡ Some ys → sort_on order xs ≡ ys = λ xs ys e. some-is (sort_on order xs) ys e in
       let carries : Carries goes (described op).meets (unary_rows op) (λ xs. Gives p base xs) (λ xs. Gives p base xs)
       = record {
         alone = λ xs ys e f.
             let P : List Row → Type 0 = λ l. Gives p base l in
-            subst P (is xs ys e) (Gives-order p base xs (sort_on cols xs) (sorted-same xs) f);
+            subst P (is xs ys e) (Gives-order p base xs (sort_on order xs) (sorted-same xs) f);
         joins = λ n t t' met f g. Gives-order p base (joined n t) (joined n t')
-            (SameRows-trans (sorted-same (joined n t)) (SameRows-sym (linear-joined (Linear-sort cols) n t t' (λ w l. is (t w) (t' w) (g w l))))) f;
+            (SameRows-trans (sorted-same (joined n t)) (SameRows-sym (linear-joined (Linear-sort order) n t t' (λ w l. is (t w) (t' w) (g w l))))) f;
       } in
       record {
         base = base;
@@ -315,12 +316,12 @@ module _ (catalog : ℕ → Relation) (db : ℕ → List Row) (sizes : ℕ → �
         list = listed p base;
         list_is = of_list;
         list_sorted = ih.holds.order.1;
-        ordered = λ cs ds below c front up. (keeps op).ordered cs ds below c front (listed p base) (sort_on cols (listed p base)) refl up;
+        ordered = λ cs ds below c front up. (keeps op).ordered cs ds below c front (listed p base) (sort_on order (listed p base)) refl up;
         keyed = λ x g. absurd (true≢false (sym g));
       }
     where
-      sorted-same : (xs : List Row) → SameRows xs (sort_on cols xs)
-      sorted-same xs = record { totals = λ f. sym (sort-total f cols xs) }
+      sorted-same : (xs : List Row) → SameRows xs (sort_on order xs)
+      sorted-same xs = record { totals = λ f. sym (sort-total f order xs) }
 
   -- ---- a final grouping
 
@@ -335,13 +336,13 @@ module _ (catalog : ℕ → Relation) (db : ℕ → List Row) (sizes : ℕ → �
   copied-first (suc n) i zero d e = let k : i ≡ d = cc in omega (arith, k)
   copied-first (suc n) i (suc c) d e = let k = copied-first n (suc i) c d e in omega (arith, k)
 
-  copied-same : (n : ℕ) (cs ds : List ℕ) → copied (first_columns n) cs ≡ Some ds → ds ≡ cs
-  copied-same n [] ds e = cc
-  copied-same n (c ∷ cs) ds e =
-      let w = copied-cons (first_columns n) c cs ds e in
-      let a : w.0 ≡ c = let k = copied-first n 0 c w.0 w.3 in omega (arith, k) in
-      let b : w.1 ≡ cs = copied-same n cs w.1 w.4 in
-      w.2 ∙ ap₂ (λ x y. x ∷ y) a b
+  copied-same : (n : ℕ) (order ds : List OrderEntry) → copied_order (first_columns n) order ≡ Some ds → ds ≡ order
+  copied-same n [] ds h = cc
+  copied-same n (e ∷ order) ds h =
+      let w = entry-both-is (slice_get (first_columns n) e.column) e (copied_order (first_columns n) order) ds h in
+      let a : w.0 ≡ e.column = let k = copied-first n 0 e.column w.0 w.2 in omega (arith, k) in
+      let b : w.1 ≡ order = copied-same n order w.1 w.3 in
+      w.4 ∙ ap₂ (λ x y. entry_at x e ∷ y) a b
 
   final-of : (k : ℕ) (p : Plan) (keys_of : List ℕ) (puts_of : List Aggregate) (s out : Streams) (ih : HoldingAt db sizes goes p s) (T : List Row → Type 0) → T (listed p ih.base) → (opened_is : Opened keys_of puts_of p)
       → ((xs : List Row) → serial db p ≡ rows xs → group_rows (first_columns (length opened_is.by)) (merged (length opened_is.by) opened_is.aggregates) xs ≡ Some xs)
@@ -369,7 +370,7 @@ module _ (catalog : ℕ → Relation) (db : ℕ → List Row) (sizes : ℕ → �
       (fits-joined goes f.0.0 f.0.1 keys puts n s (joined n s) f.0.2 (SameRows-refl (joined n s)) f.0.3 (λ w l. (both (s w) (out w) (run w l)).0)))
       (fitting-from op p s (λ xs. Gives p ih.base xs) ih.holds.part fit) in
       let below : serial db p ≡ rows base' = opened_is.serial_is db ∙ (ap (λ o. after o (λ xs. or_overflow opened_is.node (listed_rows by aggregates (listed p) xs))) ih.is_serial ∙ ap (λ b. or_overflow opened_is.node (cond b (Some base') None)) all_fit) in
-      let Q : List ℕ → Type 0 = λ v. sorted v ks ≡ true in
+      let Q : List OrderEntry → Type 0 = λ v. sorted v ks ≡ true in
       let carries : Carries goes (described op).meets (unary_rows op) (λ xs. Gives p ih.base xs) (λ xs. SameRows xs base')
       = record {
         alone = λ xs ys e g. let P : List Row → Type 0 = λ l. SameRows l base' in subst P (both xs ys e).1 (whole_of xs g);
@@ -385,12 +386,12 @@ module _ (catalog : ℕ → Relation) (db : ℕ → List Row) (sizes : ℕ → �
         list = ks;
         list_is = of_list;
         list_sorted = ih.holds.order.1;
-        ordered = λ cs ds below c front up.
-            let o : copied keys cs ≡ Some ds = sym (sources-kept keys cs) ∙ c in
-            let L : ℕ → Type 0 = λ v. all_below v cs ≡ true in
-            extended-sorted cs (length by) (group_row by aggregates ih.base) (λ key. map (λ a. aggregate_of a (of_key by key ih.base)) aggregates) (λ key. refl)
-            (subst L (columns-long 0 (length by)) (copied-below keys cs ds o)) ks (listed-wide by ks ih.base ks_are)
-            (subst Q (copied-same (length by) cs ds o) (sorted-front ds below front ks up));
+        ordered = λ order ds below c front up.
+            let o : copied_order keys order ≡ Some ds = sym (order-copied keys order) ∙ c in
+            let L : ℕ → Type 0 = λ v. all_below v (order_columns order) ≡ true in
+            extended-sorted order (length by) (group_row by aggregates ih.base) (λ key. map (λ a. aggregate_of a (of_key by key ih.base)) aggregates) (λ key. refl)
+            (subst L (columns-long 0 (length by)) (copied-below keys (order_columns order) (order_columns ds) (copied-columns keys order ds o))) ks (listed-wide by ks ih.base ks_are)
+            (subst Q (copied-same (length by) order ds o) (sorted-front ds below front ks up));
         keyed = λ x e. let W : ℕ → Type 0 = λ v. within (numbers_below v) x ≡ true in
             same-key x (groups by aggregates ih.base) base' regrouped (groups-key by x aggregates ih.base (subst W (columns-long 0 (length by)) e));
       }
@@ -427,7 +428,7 @@ module _ (catalog : ℕ → Relation) (db : ℕ → List Row) (sizes : ℕ → �
       → Ready op p out T (serial db (f.spoken_of p (spoken p) (unary k c op p))) (f.gives_of (Gives p)) (f.listed_of (listed p)))
       (λ op w e fit run. own-ready k op w p s out (own_rows e) T (own_list e) fit run)
       (λ by aggregates e fit run. partial-ready by aggregates p s out (own_rows e) T (own_list e) fit.0 run)
-      (λ cols e fit run. parts-sort-ready cols p s out ih T of_listed fit.0 run)
+      (λ order e fit run. parts-sort-ready order p s out ih T of_listed fit.0 run)
       (λ by aggregates e fit run. final-ready k by aggregates p s out ih T of_listed e fit.0 run)
       op e fit run
 
@@ -447,8 +448,8 @@ module _ (catalog : ℕ → Relation) (db : ℕ → List Row) (sizes : ℕ → �
       let total : Bool = is_total_order catalog p in
       let both : (single && total) ≡ true = limit-known catalog k c op p known e in
       let h = close p s (well-phased catalog p wf) (limit-closed op p fits e) ih in
-      let tells : Reports (claim p).order h.base = order-tells catalog db given.meets p h.base wf h.is_serial h.holds.keys (and-right single total both) in
-      let R : List Row → Type 0 = λ l. Reports (claim p).order l in
+      let tells : Reports (order_columns (claim p).order) h.base = order-tells catalog db given.meets p h.base wf h.is_serial h.holds.keys (and-right single total both) in
+      let R : List Row → Type 0 = λ l. Reports (order_columns (claim p).order) l in
       (and-left single total both, λ xs is. subst R (same-rows h.base xs (sym h.is_serial ∙ is)) tells)
 
   -- the streams fit by the tests of the rule table
@@ -486,10 +487,10 @@ module _ (catalog : ℕ → Relation) (db : ℕ → List Row) (sizes : ℕ → �
   scan-part r true k c z out run = Dealt-same run
   scan-part r false k c z out run = λ w l. let P : List Row → Type 0 = λ xs. SameRows xs (db r) in subst P (sym (run w l)) (SameRows-refl (db r))
 
-  pub scan-order : (r : ℕ) (m : Bool) (k : ℕ) (c : Claim) (z : Size) (out : Streams) → Runs db sizes goes (scan k c r m z) out → (cs : List ℕ) → sorted cs (db r) ≡ true
-      → (w : ℕ) → w < workers sizes z → sorted cs (out w) ≡ true
-  scan-order r true k c z out run cs up w l = Dealt-sorted run cs up w l
-  scan-order r false k c z out run cs up w l = let P : List Row → Type 0 = λ xs. sorted cs xs ≡ true in subst P (sym (run w l)) up
+  pub scan-order : (r : ℕ) (m : Bool) (k : ℕ) (c : Claim) (z : Size) (out : Streams) → Runs db sizes goes (scan k c r m z) out → (order : List OrderEntry) → sorted order (db r) ≡ true
+      → (w : ℕ) → w < workers sizes z → sorted order (out w) ≡ true
+  scan-order r true k c z out run order up w l = Dealt-sorted run order up w l
+  scan-order r false k c z out run order up w l = let P : List Row → Type 0 = λ xs. sorted order xs ≡ true in subst P (sym (run w l)) up
 
   pub scan-holds : (k : ℕ) (c : Claim) (r : ℕ) (m : Bool) (z : Size) (out : Streams) → allowed_here catalog (scan k c r m z) ≡ true
       → Runs db sizes goes (scan k c r m z) out → Holding db sizes goes (scan k c r m z) out
@@ -509,7 +510,7 @@ module _ (catalog : ℕ → Relation) (db : ℕ → List Row) (sizes : ℕ → �
   -- ---- exchanges, closed or open
 
   -- the part that an exchange makes
-  pub exchange-made : (kind : ExchangeKind) (merge : List ℕ) (p : Plan) (base : List Row) (m : ℕ) (s s' : Streams) → Gives p base (joined m s)
+  pub exchange-made : (kind : ExchangeKind) (merge : List OrderEntry) (p : Plan) (base : List Row) (m : ℕ) (s s' : Streams) → Gives p base (joined m s)
       → Exchanges goes kind merge m (workers sizes (target kind)) s s' → PartOf goes (kind_part kind) (workers sizes (target kind)) s' (λ xs. Gives p base xs)
   exchange-made kind merge p base m s s' h x = go kind x
     where
@@ -527,7 +528,7 @@ module _ (catalog : ℕ → Relation) (db : ℕ → List Row) (sizes : ℕ → �
       go concat x = (refl, moved _ (exchange-any goes given.in_range concat merge _ 1 s s' (joined m s) x (omega arith) (λ y e. cc) (λ e. cc) (λ e. refl) (SameRows-refl (joined m s))))
 
   -- a concat puts out its producers' lists one behind the other
-  pub concat-joined : (merge : List ℕ) (m n : ℕ) (s s' : Streams) → Exchanges goes concat merge m n s s' → (w : ℕ) → w < n → joined m s ≡ s' w
+  pub concat-joined : (merge : List OrderEntry) (m n : ℕ) (s s' : Streams) → Exchanges goes concat merge m n s s' → (w : ℕ) → w < n → joined m s ≡ s' w
   concat-joined merge m n s s' x w l = sym (same-joined m (omega arith)) ∙ x.in_order refl w l
     where
       same-joined : (k : ℕ) → k ≤ m → joined k (λ i. x.sent i w) ≡ joined k s
@@ -535,7 +536,7 @@ module _ (catalog : ℕ → Relation) (db : ℕ → List Row) (sizes : ℕ → �
       same-joined (suc k) b = ap₂ (λ a d. a ++ d) (same-joined k (omega arith)) (sym (x.sends k (omega arith) w l))
 
   -- a concat of streams that a range routed, in order
-  pub concat-sorted : (kind : ExchangeKind) (merge : List ℕ) (p : Plan) (s : Streams) (ih : HoldingAt db sizes goes p s) (s' : Streams)
+  pub concat-sorted : (kind : ExchangeKind) (merge : List OrderEntry) (p : Plan) (s : Streams) (ih : HoldingAt db sizes goes p s) (s' : Streams)
       → Exchanges goes kind merge (workers sizes (size p)) (workers sizes (target kind)) s s'
       → goes_on kind (claim p) ≡ true → (w : ℕ) → w < workers sizes (target kind) → sorted (claim p).order (s' w) ≡ true
   concat-sorted (route_to z r cols) merge p s ih s' x e w l = absurd (true≢false (sym e))
@@ -548,7 +549,7 @@ module _ (catalog : ℕ → Relation) (db : ℕ → List Row) (sizes : ℕ → �
       subst P (concat-joined merge m 1 s s' x w l)
       (ranged goes given.rising (claim p).part (claim p).order m s e ih.holds.order.0 (part-placed goes (claim p).part m s (λ xs. Gives p ih.base xs) ih.holds.part))
 
-  pub exchange-holds : (k : ℕ) (c : Claim) (kind : ExchangeKind) (merge : List ℕ) (p : Plan) (s out : Streams) (ih : HoldingAt db sizes goes p s) → allowed_here catalog (exchange k c kind merge p) ≡ true
+  pub exchange-holds : (k : ℕ) (c : Claim) (kind : ExchangeKind) (merge : List OrderEntry) (p : Plan) (s out : Streams) (ih : HoldingAt db sizes goes p s) → allowed_here catalog (exchange k c kind merge p) ≡ true
       → Exchanges goes kind merge (workers sizes (size p)) (workers sizes (target kind)) s out
       → HoldingAt db sizes goes (exchange k c kind merge p) out
   exchange-holds k c kind merge p s out ih ok x =

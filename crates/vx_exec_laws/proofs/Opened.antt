@@ -1,8 +1,9 @@
 -- Open nodes, by what stands below their exchanges and sorts of parts, and closed ones.
 use Rattle.std.proofs.Common.{◌≡◌, ℕ, ◌==◌, Bool, true, false, cond, List, map, length, refl, sym, ap, ◌∙◌, subst, true≢false, Option, Some, None}
 use Rattle.std.specs.List.{list_all}
+use Rattle.vx_rows_values.specs.declared.order.OrderEntry.{OrderEntry}
 use Rattle.vx_rows_values.specs.Values.{Row, pick}
-use Rattle.vx_rows_values.specs.Order.{sort_on}
+use Rattle.vx_rows_values.specs.Order.{order_columns, sort_on}
 use Rattle.vx_rows_values.specs.Bags.{SameRows}
 use Rattle.vx_catalog_relations.specs.Catalog.{all_below}
 use Rattle.vx_plan_nodes.specs.Plan.{Aggregate, Plan, scan, unary, binary, exchange}
@@ -61,21 +62,21 @@ listed-wide by ks base s =
     SameRows-all (SameRows-sym s) (λ row. length row == length by) (firsts-all (λ row. length row == length by) (map (pick by) base) (picks-wide by base))
 
 -- a sort of the groups on their keys is one of the keys
-sorted-rows : (by cols : List ℕ) (aggregates : List Aggregate) → all_below (length by) cols ≡ true → (base ks : List Row) → SameRows ks (group_keys by base)
-    → sort_on cols (map (group_row by aggregates base) ks) ≡ map (group_row by aggregates base) (sort_on cols ks)
-sorted-rows by cols aggregates below base ks s = extended-sort cols (length by) (group_row by aggregates base)
-    (λ key l. pick-left (length by) cols key (map (λ a. aggregate_of a (of_key by key base)) aggregates) below l) ks (listed-wide by ks base s)
+sorted-rows : (by : List ℕ) (order : List OrderEntry) (aggregates : List Aggregate) → all_below (length by) (order_columns order) ≡ true → (base ks : List Row) → SameRows ks (group_keys by base)
+    → sort_on order (map (group_row by aggregates base) ks) ≡ map (group_row by aggregates base) (sort_on order ks)
+sorted-rows by order aggregates below base ks s = extended-sort order (length by) (group_row by aggregates base)
+    (λ key l. pick-left (length by) (order_columns order) key (map (λ a. aggregate_of a (of_key by key base)) aggregates) below l) ks (listed-wide by ks base s)
 
-sorted-after : (by cols : List ℕ) (aggregates : List Aggregate) (listed_of : List Row → List Row) (j n : ℕ) → all_below (length by) cols ≡ true
+sorted-after : (by : List ℕ) (order : List OrderEntry) (aggregates : List Aggregate) (listed_of : List Row → List Row) (j n : ℕ) → all_below (length by) (order_columns order) ≡ true
     → ((base : List Row) → SameRows (listed_of base) (group_keys by base)) → (u : SerialResult)
-    → after (after u (λ xs. or_overflow j (listed_rows by aggregates listed_of xs))) (λ ys. or_overflow n (Some (sort_on cols ys)))
-    ≡ after u (λ xs. or_overflow j (listed_rows by aggregates (λ base. sort_on cols (listed_of base)) xs))
-sorted-after by cols aggregates listed_of j n below same (overflow m) = refl
-sorted-after by cols aggregates listed_of j n below same (rows base) = go (list_all (group_fits by aggregates base) (group_keys by base))
+    → after (after u (λ xs. or_overflow j (listed_rows by aggregates listed_of xs))) (λ ys. or_overflow n (Some (sort_on order ys)))
+    ≡ after u (λ xs. or_overflow j (listed_rows by aggregates (λ base. sort_on order (listed_of base)) xs))
+sorted-after by order aggregates listed_of j n below same (overflow m) = refl
+sorted-after by order aggregates listed_of j n below same (rows base) = go (list_all (group_fits by aggregates base) (group_keys by base))
   where
-    go : (b : Bool) → after (or_overflow j (cond b (Some (map (group_row by aggregates base) (listed_of base))) None)) (λ ys. or_overflow n (Some (sort_on cols ys)))
-        ≡ or_overflow j (cond b (Some (map (group_row by aggregates base) (sort_on cols (listed_of base)))) None)
-    go true = ap rows (sorted-rows by cols aggregates below base (listed_of base) (same base))
+    go : (b : Bool) → after (or_overflow j (cond b (Some (map (group_row by aggregates base) (listed_of base))) None)) (λ ys. or_overflow n (Some (sort_on order ys)))
+        ≡ or_overflow j (cond b (Some (map (group_row by aggregates base) (sort_on order (listed_of base)))) None)
+    go true = ap rows (sorted-rows by order aggregates below base (listed_of base) (same base))
     go false = refl
 
 pub opened : (keys : List ℕ) (puts : List Aggregate) (p : Plan) → opens keys puts p ≡ true → Opened keys puts p
@@ -94,7 +95,8 @@ opened keys puts (unary n c op p) e = by-phase
       gives = λ base xs h. h;
       listed_same = λ base. SameRows-refl (group_keys by base);
     })
-    (λ cols e.
+    (λ order e.
+    let cols : List ℕ = order_columns order in
     let o = opened keys puts p (and-right (all_below (length keys) cols) (opens keys puts p) e) in
     let P : ℕ → Type 0 = λ v. all_below v cols ≡ true in
     let below : all_below (length o.by) cols ≡ true
@@ -105,10 +107,10 @@ opened keys puts (unary n c op p) e = by-phase
       keys_are = o.keys_are;
       puts_are = o.puts_are;
       node = o.node;
-      serial_is = λ db. ap (λ u. after u (λ ys. or_overflow n (Some (sort_on cols ys)))) (o.serial_is db)
-          ∙ sorted-after o.by cols o.aggregates (listed p) o.node n below o.listed_same (serial db (spoken p));
+      serial_is = λ db. ap (λ u. after u (λ ys. or_overflow n (Some (sort_on order ys)))) (o.serial_is db)
+          ∙ sorted-after o.by order o.aggregates (listed p) o.node n below o.listed_same (serial db (spoken p));
       gives = o.gives;
-      listed_same = λ base. SameRows-trans (record { totals = λ f. sort-total f cols (listed p base) }) (o.listed_same base);
+      listed_same = λ base. SameRows-trans (record { totals = λ f. sort-total f order (listed p base) }) (o.listed_same base);
     })
     (λ by aggregates e. absurd (true≢false (sym e))) op e
 opened keys puts (binary n c op p q) e = absurd (true≢false (sym e))
@@ -125,7 +127,7 @@ opened-as keys puts p o T h =
 pub Gives-order : (p : Plan) (base xs ys : List Row) → SameRows xs ys → Gives p base xs → Gives p base ys
 Gives-order (scan n c r m z) base xs ys s h = SameRows-trans (SameRows-sym s) h
 Gives-order (unary n c op p) base xs ys s h = by-phase (λ op f. f.gives_of (Gives p) base xs → f.gives_of (Gives p) base ys)
-    (λ op w h. SameRows-trans (SameRows-sym s) h) (λ by aggregates h. Parts-order by aggregates base xs ys s h) (λ cols h. Gives-order p base xs ys s h)
+    (λ op w h. SameRows-trans (SameRows-sym s) h) (λ by aggregates h. Parts-order by aggregates base xs ys s h) (λ order h. Gives-order p base xs ys s h)
     (λ by aggregates h. SameRows-trans (SameRows-sym s) h) op h
 Gives-order (binary n c op p q) base xs ys s h = SameRows-trans (SameRows-sym s) h
 Gives-order (exchange n c k m p) base xs ys s h = Gives-order p base xs ys s h

@@ -1,6 +1,7 @@
 -- What the operators over one input do to rows: one record of facts for each operator.
 use Rattle.std.proofs.Common.{◌≡◌, ◌==◌, ◌+◌, ℕ, ◌<◌, Bool, true, false, cond, not, ◌||◌, List, map, filter, length, refl, sym, ap, ◌∙◌, subst, arith, true≢false, Option, Some, None, IsSome, take}
 use Rattle.std.specs.List.{list_all}
+use Rattle.vx_rows_values.specs.declared.order.OrderEntry.{OrderEntry}
 use Rattle.vx_rows_values.specs.Values.{Row, pick}
 use Rattle.vx_rows_values.specs.Order.{agree, sorted, sort_on}
 use Rattle.vx_rows_values.specs.Bags.{SameRows}
@@ -13,10 +14,10 @@ use Rattle.vx_plan_nodes.specs.Phases.{is_partial, is_final}
 use Rattle.vx_plan_nodes.specs.Serial.{passes, firsts, group_keys, group_row, group_fits, group_rows, unary_rows, aggregate_of, of_key}
 use Rattle.vx_plan_nodes.specs.Streams.{Streams, joined}
 use Rattle.vx_plan_nodes.specs.Routes.{Routing}
-use Rattle.vx_check_rules.specs.Rules.{copied, covers, is_prefix, within, numbers_below, orders, unary_keys}
-use Rattle.vx_check_rules.specs.Behaviour.{sources, Sorted, sorted_by, sorts, order_after}
+use Rattle.vx_check_rules.specs.Rules.{copied, copied_order, covers, is_front, within, numbers_below, orders, unary_keys}
+use Rattle.vx_check_rules.specs.Behaviour.{sources, order_sources, Sorted, sorted_by, sorts, order_after}
 use Rattle.vx_check_rules.specs.Claims.{InItsStream}
-use Rattle.vx_check_rules.proofs.Exact.{sources-whole, sources-kept, orders-exactly}
+use Rattle.vx_check_rules.proofs.Exact.{sources-whole, sources-kept, order-whole_rows, order-copied, orders-exactly}
 use Rattle.vx_check_rules.proofs.Bools.{or-false}
 use Rattle.vx_exec_laws.proofs.Bags.{and-left, and-right, SameRows-trans}
 use Rattle.vx_exec_laws.proofs.Parts.{list_all-weaken}
@@ -24,6 +25,7 @@ use Rattle.vx_exec_laws.proofs.Orders.{sorted-front, sorted-filter, sorted-take,
 use Rattle.vx_exec_laws.proofs.Keys.{count-filter, covers-key}
 use Rattle.vx_exec_laws.proofs.Linear.{Linear, Linear-filter, Linear-map, Linear-sort, sort-total, linear-same, linear-joined}
 use Rattle.vx_exec_laws.proofs.Copies.{if_some-is, copied-alone, copied-pick}
+use Rattle.vx_exec_laws.proofs.OrderFacts.{if_order-is}
 use Rattle.vx_exec_laws.proofs.Unary.{some-is, sort-all, sort-sorted, map-all, project-sorted, project-key}
 use Rattle.vx_exec_laws.proofs.Widths.{firsts-all, picks-wide, some-of, groups-wide}
 use Rattle.vx_exec_laws.proofs.JoinOrder.{wide}
@@ -36,18 +38,21 @@ use Rattle.vx_exec_laws.proofs.Groups.{groups, groups-same, groups-joined, fits-
 pub record Keeps (k : Copying) (after : OrderAfter) (width : ℕ → ℕ) (op : List Row → Option (List Row)) : Type 0 where
   pub stems : (cs ds : List ℕ) → sources k cs ≡ Some ds → (test : Row → Bool) (xs ys : List Row) → op xs ≡ Some ys
       → list_all (λ row. test (pick ds row)) xs ≡ true → list_all (λ row. test (pick cs row)) ys ≡ true
-  pub ordered : (cs ds below : List ℕ) → sources k cs ≡ Some ds → is_prefix ds (order_after after below) ≡ true → (xs ys : List Row) → op xs ≡ Some ys
-      → sorted below xs ≡ true → sorted cs ys ≡ true
+  pub ordered : (order ds below : List OrderEntry) → order_sources k order ≡ Some ds → is_front ds (order_after after below) ≡ true → (xs ys : List Row) → op xs ≡ Some ys
+      → sorted below xs ≡ true → sorted order ys ≡ true
   pub wide_as : (w : ℕ) (xs ys : List Row) → op xs ≡ Some ys → wide w xs ≡ true → wide (width w) ys ≡ true
 
 -- whole rows have all columns where they were
 pub same-columns : (cs ds : List ℕ) → sources whole_rows cs ≡ Some ds → cs ≡ ds
 same-columns cs ds e = some-is cs ds (sym (sources-whole cs) ∙ e)
 
+same-order : (order ds : List OrderEntry) → order_sources whole_rows order ≡ Some ds → order ≡ ds
+same-order order ds e = some-is order ds (sym (order-whole_rows order) ∙ e)
+
 -- by a function that gives the operator's list of whole rows: what holds of each row of its input holds of each of these
 keeps-whole : (after : OrderAfter) (op : List Row → Option (List Row)) (f : List Row → List Row) → ((xs ys : List Row) → op xs ≡ Some ys → f xs ≡ ys)
     → ((q : Row → Bool) (xs : List Row) → list_all q xs ≡ true → list_all q (f xs) ≡ true)
-    → ((cs below : List ℕ) → is_prefix cs (order_after after below) ≡ true → (xs : List Row) → sorted below xs ≡ true → sorted cs (f xs) ≡ true)
+    → ((order below : List OrderEntry) → is_front order (order_after after below) ≡ true → (xs : List Row) → sorted below xs ≡ true → sorted order (f xs) ≡ true)
     → Keeps whole_rows after (λ w. w) op
 keeps-whole after op f is each ordered =
     let all : (q : Row → Bool) (xs ys : List Row) → op xs ≡ Some ys → list_all q xs ≡ true → list_all q ys ≡ true
@@ -55,23 +60,23 @@ keeps-whole after op f is each ordered =
     record {
       stems = λ cs ds c test xs ys e h.
           let P : List ℕ → Type 0 = λ v. list_all (λ row. test (pick v row)) ys ≡ true in subst P (sym (same-columns cs ds c)) (all (λ row. test (pick ds row)) xs ys e h);
-      ordered = λ cs ds below c front xs ys e h.
-          let P : List Row → Type 0 = λ l. sorted cs l ≡ true in
-          let Q : List ℕ → Type 0 = λ v. is_prefix v (order_after after below) ≡ true in
-          subst P (is xs ys e) (ordered cs below (subst Q (sym (same-columns cs ds c)) front) xs h);
+      ordered = λ order ds below c front xs ys e h.
+          let P : List Row → Type 0 = λ l. sorted order l ≡ true in
+          let Q : List OrderEntry → Type 0 = λ v. is_front v (order_after after below) ≡ true in
+          subst P (is xs ys e) (ordered order below (subst Q (sym (same-order order ds c)) front) xs h);
       wide_as = λ w xs ys e h. all (λ row. length row == w) xs ys e h;
     }
 
 -- by one that gives rows with copies
 keeps-columns : (kept : List ℕ) (width : ℕ) (op : List Row → Option (List Row)) (f : List Row → List Row) → ((xs ys : List Row) → op xs ≡ Some ys → f xs ≡ ys)
     → ((cs ds : List ℕ) → copied kept cs ≡ Some ds → (test : Row → Bool) (xs : List Row) → list_all (λ row. test (pick ds row)) xs ≡ true → list_all (λ row. test (pick cs row)) (f xs) ≡ true)
-    → ((cs ds : List ℕ) → copied kept cs ≡ Some ds → (xs : List Row) → sorted ds xs ≡ true → sorted cs (f xs) ≡ true)
+    → ((order ds : List OrderEntry) → copied_order kept order ≡ Some ds → (xs : List Row) → sorted ds xs ≡ true → sorted order (f xs) ≡ true)
     → ((xs : List Row) → wide width (f xs) ≡ true)
     → Keeps (columns_kept kept) order_kept (λ w. width) op
 keeps-columns kept width op f is stems ordered wide_as = record {
   stems = λ cs ds c test xs ys e h. let P : List Row → Type 0 = λ l. list_all (λ row. test (pick cs row)) l ≡ true in subst P (is xs ys e) (stems cs ds (sym (sources-kept kept cs) ∙ c) test xs h);
-  ordered = λ cs ds below c front xs ys e h.
-      let P : List Row → Type 0 = λ l. sorted cs l ≡ true in subst P (is xs ys e) (ordered cs ds (sym (sources-kept kept cs) ∙ c) xs (sorted-front ds below front xs h));
+  ordered = λ order ds below c front xs ys e h.
+      let P : List Row → Type 0 = λ l. sorted order l ≡ true in subst P (is xs ys e) (ordered order ds (sym (order-copied kept order) ∙ c) xs (sorted-front ds below front xs h));
   wide_as = λ w xs ys e h. let P : List Row → Type 0 = λ l. wide width l ≡ true in subst P (is xs ys e) (wide_as xs);
 }
 
@@ -85,32 +90,32 @@ group-keeps by aggregates = keeps-columns by (length by + length aggregates) (gr
     (λ cs ds c test xs h. map-all (λ row. test (pick cs row)) (group_row by aggregates xs) (group_keys by xs)
     (keys-all by (λ key. test (pick cs (group_row by aggregates xs key))) xs
     (copied-stems cs ds (λ row. group_row by aggregates xs (pick by row)) (λ row. copied-pick by cs ds row (map (λ a. aggregate_of a (of_key by (pick by row) xs)) aggregates) c) test xs h)))
-    (λ cs ds c xs h. groups-sorted by cs ds aggregates c xs h)
+    (λ order ds c xs h. groups-sorted by order ds aggregates c xs h)
     (λ xs. groups-wide by aggregates xs)
 
 pub keeps : (op : Unary) → Keeps (described op).copying (described op).order (λ w. unary_width op w) (unary_rows op)
 keeps (select conditions) = keeps-whole order_kept (unary_rows (select conditions)) (filter (passes conditions)) (λ xs ys e. some-is _ _ e)
-    (λ q xs. list_all-filter q (passes conditions) xs) (λ cs below front xs h. sorted-filter cs (passes conditions) xs (sorted-front cs below front xs h))
+    (λ q xs. list_all-filter q (passes conditions) xs) (λ order below front xs h. sorted-filter order (passes conditions) xs (sorted-front order below front xs h))
 keeps (project cols) = keeps-columns cols (length cols) (unary_rows (project cols)) (map (pick cols)) (λ xs ys e. some-is _ _ e)
     (λ cs ds c test xs h. map-all (λ row. test (pick cs row)) (pick cols) xs (copied-stems cs ds (pick cols) (λ row. copied-alone cols cs ds row c) test xs h))
-    (λ cs ds c xs h. project-sorted cols cs ds c xs h) (λ xs. picks-wide cols xs)
+    (λ order ds c xs h. project-sorted cols order ds c xs h) (λ xs. picks-wide cols xs)
 keeps (distinct cols) = keeps-columns cols (length cols) (unary_rows (distinct cols)) (λ xs. firsts (map (pick cols) xs)) (λ xs ys e. some-is _ _ e)
     (λ cs ds c test xs h. keys-all cols (λ row. test (pick cs row)) xs (copied-stems cs ds (pick cols) (λ row. copied-alone cols cs ds row c) test xs h))
-    (λ cs ds c xs h. firsts-sorted cs (map (pick cols) xs) (project-sorted cols cs ds c xs h)) (λ xs. firsts-all (λ row. length row == length cols) (map (pick cols) xs) (picks-wide cols xs))
-keeps (sort of_parts cols) = keeps-whole (sorted_on cols) (unary_rows (sort of_parts cols)) (sort_on cols) (λ xs ys e. some-is _ _ e)
-    (λ q xs. sort-all q cols xs) (λ cs below front xs h. sorted-front cs cols front (sort_on cols xs) (sort-sorted cols xs))
+    (λ order ds c xs h. firsts-sorted order (map (pick cols) xs) (project-sorted cols order ds c xs h)) (λ xs. firsts-all (λ row. length row == length cols) (map (pick cols) xs) (picks-wide cols xs))
+keeps (sort of_parts given) = keeps-whole (sorted_on given) (unary_rows (sort of_parts given)) (sort_on given) (λ xs ys e. some-is _ _ e)
+    (λ q xs. sort-all q given xs) (λ order below front xs h. sorted-front order given front (sort_on given xs) (sort-sorted given xs))
 keeps (group plain by aggregates) = group-keeps by aggregates
 keeps (group partial by aggregates) = group-keeps by aggregates
 keeps (group final by aggregates) = group-keeps by aggregates
 keeps (limit n) = keeps-whole order_kept (unary_rows (limit n)) (take n) (λ xs ys e. some-is _ _ e)
-    (λ q xs. list_all-take q n xs) (λ cs below front xs h. sorted-take cs n xs (sorted-front cs below front xs h))
+    (λ q xs. list_all-take q n xs) (λ order below front xs h. sorted-take order n xs (sorted-front order below front xs h))
 
--- the columns that those of an order that is shown are copies of begin the order that the input has, or the one that the operator makes
-pub unary-order : (catalog : ℕ → Relation) (k : ℕ) (c : Claim) (op : Unary) (p : Plan) (order : List ℕ) → orders catalog (unary k c op p) order ≡ true
-    → (ds : List ℕ) × (sources (described op).copying order ≡ Some ds) × (is_prefix ds (order_after (described op).order (claim p).order) ≡ true)
+-- the order of which one that is shown is a copy begins the order that the input has, or the one that the operator makes
+pub unary-order : (catalog : ℕ → Relation) (k : ℕ) (c : Claim) (op : Unary) (p : Plan) (order : List OrderEntry) → orders catalog (unary k c op p) order ≡ true
+    → (ds : List OrderEntry) × (order_sources (described op).copying order ≡ Some ds) × (is_front ds (order_after (described op).order (claim p).order) ≡ true)
 unary-order catalog k c op p order h =
     let s : Sorted = sorted_by (described op).copying (order_after (described op).order (claim p).order) in
-    if_some-is (sources s.copying order) (λ cs. is_prefix cs s.order) (sym (or-false (sorts s order)) ∙ (sym (orders-exactly catalog (unary k c op p) order) ∙ h))
+    if_order-is (order_sources s.copying order) (λ o. is_front o s.order) (sym (or-false (sorts s order)) ∙ (sym (orders-exactly catalog (unary k c op p) order) ∙ h))
 
 -- what an operator gives of rows in order is in the order that is shown
 pub unary-ordered : (catalog : ℕ → Relation) (k : ℕ) (c : Claim) (op : Unary) (p : Plan) → orders catalog (unary k c op p) c.order ≡ true
@@ -136,7 +141,7 @@ abbrev pub is_limit : Unary → Bool
 is_limit (select cs) = false
 is_limit (project cols) = false
 is_limit (distinct cols) = false
-is_limit (sort of_parts cols) = false
+is_limit (sort of_parts order) = false
 is_limit (group phase by aggregates) = false
 is_limit (limit n) = true
 
@@ -145,7 +150,7 @@ pub by-limit : (P : Unary → Type 0) → ((n : ℕ) → P (limit n)) → ((op :
 by-limit P limits others (select cs) = others (select cs) refl
 by-limit P limits others (project cols) = others (project cols) refl
 by-limit P limits others (distinct cols) = others (distinct cols) refl
-by-limit P limits others (sort of_parts cols) = others (sort of_parts cols) refl
+by-limit P limits others (sort of_parts order) = others (sort of_parts order) refl
 by-limit P limits others (group phase by aggregates) = others (group phase by aggregates) refl
 by-limit P limits others (limit n) = limits n
 
@@ -187,9 +192,9 @@ whole goes (project cols) e f = by-row goes (project cols) (map (pick cols)) (λ
 whole goes (distinct cols) e f = whole-by goes (distinct cols) (λ xs. firsts (map (pick cols) xs)) (λ xs. refl)
     (λ xs ys s. firsts-same (picks-same cols s)) (λ n s s' base m h run. firsts-joined goes m.0 m.1 cols n s s' base m.2 run h m.3)
     (λ keys x h xs ks. distinct-key cols x xs (and-left (within (numbers_below (length cols)) x) (within x (numbers_below (length cols))) h))
-whole goes (sort of_parts cols) e f = by-row goes (sort of_parts cols) (sort_on cols) (λ xs. refl) (Linear-sort cols)
+whole goes (sort of_parts order) e f = by-row goes (sort of_parts order) (sort_on order) (λ xs. refl) (Linear-sort order)
     (λ keys x h xs ks row.
-    let a = sort-total (λ r. cond (agree x row r) 1 0) cols xs in
+    let a = sort-total (λ r. cond (agree x row r) 1 0) order xs in
     let b = covers-key keys x (and-right (not of_parts) (covers keys x) h) xs ks row in
     omega (arith, a, b))
 whole goes (group partial by aggregates) e f = absurd (true≢false e)

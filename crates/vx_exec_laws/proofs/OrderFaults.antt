@@ -1,8 +1,9 @@
 -- No worker of an allowed plan ends with rows that fall, or with a packet that isn't its own.
-use Rattle.std.proofs.Common.{◌≡◌, ◌⊎◌, ℕ, Bool, true, false, ◌&&◌, List, map}
+use Rattle.std.proofs.Common.{◌≡◌, ◌⊎◌, ℕ, Bool, true, ◌&&◌, List}
+use Rattle.vx_rows_values.specs.declared.order.OrderEntry.{OrderEntry}
 use Rattle.vx_rows_values.specs.Values.{Row}
-use Rattle.vx_plan_nodes.specs.Plan.{Claim, Binary, union, join, Plan, scan, unary, binary, exchange, size, claim, is_one, semi_join}
-use Rattle.vx_check_rules.specs.Rules.{is_prefix, order_given, allowed, allowed_here}
+use Rattle.vx_plan_nodes.specs.Plan.{by_hashing, by_merging, Claim, Binary, union, join, Plan, scan, unary, binary, exchange, size, claim, is_one, semi_join, left_order, right_order}
+use Rattle.vx_check_rules.specs.Rules.{is_front, order_given, allowed, allowed_here}
 use Rattle.vx_check_rules.specs.Claims.{Given}
 use Rattle.vx_worker.specs.Fragment.{goes, RunModel, fragment}
 use Rattle.vx_worker.specs.Trace.{Trace, failed, Ends}
@@ -21,20 +22,20 @@ use Rattle.vx_exec_laws.proofs.NeededOrders.{NeededOf, NeededSoFar, no-order-fau
 
 module _ (S : RunModel) (giv : Given S.catalog S.db S.sizes (goes S)) where
   -- what a worker of an allowed plan has given so far is sorted on each list that begins the claimed order
-  rising : (p : Plan) → IsAllowed S p → (ts : ℕ → Trace) → RunOf S (Ends S) p ts → (order : List ℕ) → is_prefix order (claim p).order ≡ true → SortedSoFar S p ts order
+  rising : (p : Plan) → IsAllowed S p → (ts : ℕ → Trace) → RunOf S (Ends S) p ts → (order : List OrderEntry) → is_front order (claim p).order ≡ true → SortedSoFar S p ts order
   rising p ok ts run order begins x =
       sorted-front order (claim p).order begins x.out.rows (tidy S giv p ok.0 ok.1.0 ok.1.1 ts run x.place x.below x.reads x.begins x.out x.abides).0.1
 
   both-asked : (n : ℕ) (c : Claim) (op : Binary) (p q : Plan) → IsAllowed S p → IsAllowed S q → order_given (binary n c op p q) ≡ true
       → (ts : ℕ → Trace) → RunOf S (Ends S) p ts → RunOf S (Ends S) q ts → NeededOf S op p q ts
   both-asked n c union p q okp okq t ts run more = tt
-  both-asked n c (join false on) p q okp okq t ts run more = tt
+  both-asked n c (join by_hashing on) p q okp okq t ts run more = tt
   both-asked n c (semi_join matched on conditions) p q okp okq t ts run more = tt
-  both-asked n c (join true on) p q okp okq t ts run more =
-      let lefts : List ℕ = map (λ x. x.0) on in
-      let rights : List ℕ = map (λ x. x.1) on in
-      let left : Bool = is_prefix lefts (claim p).order in
-      let right : Bool = is_prefix rights (claim q).order in
+  both-asked n c (join (by_merging falls) on) p q okp okq t ts run more =
+      let lefts : List OrderEntry = left_order falls on in
+      let rights : List OrderEntry = right_order falls on in
+      let left : Bool = is_front lefts (claim p).order in
+      let right : Bool = is_front rights (claim q).order in
       (rising p okp ts run lefts (and-left left right t), rising q okq ts more rights (and-right left right t))
 
   -- what each node has been given so far is in the order that it asks for

@@ -1,32 +1,34 @@
 -- Sorted lists: a front of the order, a part of the list, and what copies columns.
-use Rattle.std.proofs.Common.{◌≡◌, ℕ, zero, suc, ◌<◌, ◌==◌, nat_lt, Bool, true, false, cond, List, [], ◌∷◌, map, filter, take, refl, sym, ap, ◌∙◌, subst, arith, true≢false, eqb-true, eq-eqb, ltb-true, is_le, Ordering, Less, Equal, Greater}
+use Rattle.std.proofs.Common.{◌≡◌, ℕ, zero, suc, ◌<◌, ◌==◌, nat_lt, Bool, true, false, cond, List, [], ◌∷◌, map, filter, take, refl, sym, ap, ◌∙◌, subst, arith, true≢false, eq-eqb, ltb-true, is_le, Ordering, Less, Equal, Greater}
 use Rattle.std.specs.List.{list_all}
 use Rattle.std.specs.Ordering.{ordering_then}
-use Rattle.vx_rows_values.specs.Values.{Row, val_cmp, value_at}
-use Rattle.vx_rows_values.specs.Order.{compare_on, sorted}
+use Rattle.vx_rows_values.specs.declared.order.OrderEntry.{OrderEntry}
+use Rattle.vx_rows_values.specs.Values.{Row, value_at}
+use Rattle.vx_rows_values.specs.Order.{entry_eq, compare_values, compare_on, sorted}
 use Rattle.vx_plan_nodes.specs.Streams.{Streams, bearing, Dealt}
-use Rattle.vx_check_rules.specs.Rules.{is_prefix}
+use Rattle.vx_check_rules.specs.Rules.{is_front}
 use Rattle.vx_exec_laws.proofs.Bags.{and-left, and-right, and-both}
 use Rattle.vx_exec_laws.proofs.Parts.{list_all-weaken}
+use Rattle.vx_exec_laws.proofs.OrderFacts.{entry-same}
 
-pub le-front : (cs ds : List ℕ) (a b : Row) → is_prefix cs ds ≡ true → is_le (compare_on ds a b) ≡ true → is_le (compare_on cs a b) ≡ true
+pub le-front : (order ds : List OrderEntry) (a b : Row) → is_front order ds ≡ true → is_le (compare_on ds a b) ≡ true → is_le (compare_on order a b) ≡ true
 le-front [] ds a b f h = refl
-le-front (c ∷ cs) [] a b f h = absurd (true≢false (sym f))
-le-front (c ∷ cs) (d ∷ ds) a b f h =
-    let same : c ≡ d = eqb-true c d (and-left _ _ f) in
-    let P : ℕ → Type 0 = λ x. is_le (compare_on (x ∷ cs) a b) ≡ true in
-    subst P (sym same) (step (val_cmp (value_at a d) (value_at b d)) _ _ (le-front cs ds a b (and-right _ _ f)) h)
+le-front (c ∷ order) [] a b f h = absurd (true≢false (sym f))
+le-front (c ∷ order) (d ∷ ds) a b f h =
+    let same : c ≡ d = entry-same c d (and-left (entry_eq c d) (is_front order ds) f) in
+    let P : OrderEntry → Type 0 = λ x. is_le (compare_on (x ∷ order) a b) ≡ true in
+    subst P (sym same) (step (compare_values d.falling (value_at a d.column) (value_at b d.column)) _ _ (le-front order ds a b (and-right (entry_eq c d) (is_front order ds) f)) h)
   where
     step : (o p q : Ordering) → (is_le p ≡ true → is_le q ≡ true) → is_le (ordering_then o p) ≡ true → is_le (ordering_then o q) ≡ true
     step Less p q f h = refl
     step Equal p q f h = f h
     step Greater p q f h = h
 
-pub sorted-front : (cs ds : List ℕ) → is_prefix cs ds ≡ true → (xs : List Row) → sorted ds xs ≡ true → sorted cs xs ≡ true
-sorted-front cs ds f [] h = refl
-sorted-front cs ds f (x ∷ xs) h = and-both _ _
-    (list_all-weaken (λ y. is_le (compare_on ds x y)) (λ y. is_le (compare_on cs x y)) (λ y. le-front cs ds x y f) xs (and-left _ _ h))
-    (sorted-front cs ds f xs (and-right _ _ h))
+pub sorted-front : (order ds : List OrderEntry) → is_front order ds ≡ true → (xs : List Row) → sorted ds xs ≡ true → sorted order xs ≡ true
+sorted-front order ds f [] h = refl
+sorted-front order ds f (x ∷ xs) h = and-both _ _
+    (list_all-weaken (λ y. is_le (compare_on ds x y)) (λ y. is_le (compare_on order x y)) (λ y. le-front order ds x y f) xs (and-left _ _ h))
+    (sorted-front order ds f xs (and-right _ _ h))
 
 pub list_all-cond : {X : Type 0} (q : X → Bool) (b : Bool) (x : X) (xs : List X) → q x ≡ true → list_all q xs ≡ true → list_all q (cond b (x ∷ xs) xs) ≡ true
 list_all-cond q true x xs h k = and-both _ _ h k
@@ -36,14 +38,14 @@ pub list_all-filter : {X : Type 0} (q p : X → Bool) (xs : List X) → list_all
 list_all-filter q p [] h = refl
 list_all-filter q p (x ∷ xs) h = list_all-cond q (p x) x _ (and-left _ _ h) (list_all-filter q p xs (and-right _ _ h))
 
-pub sorted-cond : (cs : List ℕ) (b : Bool) (x : Row) (xs : List Row) → list_all (λ y. is_le (compare_on cs x y)) xs ≡ true → sorted cs xs ≡ true → sorted cs (cond b (x ∷ xs) xs) ≡ true
-sorted-cond cs true x xs h k = and-both _ _ h k
-sorted-cond cs false x xs h k = k
+pub sorted-cond : (order : List OrderEntry) (b : Bool) (x : Row) (xs : List Row) → list_all (λ y. is_le (compare_on order x y)) xs ≡ true → sorted order xs ≡ true → sorted order (cond b (x ∷ xs) xs) ≡ true
+sorted-cond order true x xs h k = and-both _ _ h k
+sorted-cond order false x xs h k = k
 
-pub sorted-filter : (cs : List ℕ) (p : Row → Bool) (xs : List Row) → sorted cs xs ≡ true → sorted cs (filter p xs) ≡ true
-sorted-filter cs p [] h = refl
-sorted-filter cs p (x ∷ xs) h =
-    sorted-cond cs (p x) x (filter p xs) (list_all-filter _ p xs (and-left _ _ h)) (sorted-filter cs p xs (and-right _ _ h))
+pub sorted-filter : (order : List OrderEntry) (p : Row → Bool) (xs : List Row) → sorted order xs ≡ true → sorted order (filter p xs) ≡ true
+sorted-filter order p [] h = refl
+sorted-filter order p (x ∷ xs) h =
+    sorted-cond order (p x) x (filter p xs) (list_all-filter _ p xs (and-left _ _ h)) (sorted-filter order p xs (and-right _ _ h))
 
 pub list_all-take : {X : Type 0} (q : X → Bool) (n : ℕ) (xs : List X) → list_all q xs ≡ true → list_all q (take n xs) ≡ true
 list_all-take q zero xs h = refl
@@ -51,13 +53,13 @@ list_all-take q (suc n) [] h = refl
 list_all-take q (suc n) (x ∷ xs) h =
     and-both (q x) (list_all q (take n xs)) (and-left (q x) (list_all q xs) h) (list_all-take q n xs (and-right (q x) (list_all q xs) h))
 
-pub sorted-take : (cs : List ℕ) (n : ℕ) (xs : List Row) → sorted cs xs ≡ true → sorted cs (take n xs) ≡ true
-sorted-take cs zero xs h = refl
-sorted-take cs (suc n) [] h = refl
-sorted-take cs (suc n) (x ∷ xs) h =
-    let le : Row → Bool = λ y. is_le (compare_on cs x y) in
-    and-both (list_all le (take n xs)) (sorted cs (take n xs))
-    (list_all-take le n xs (and-left (list_all le xs) (sorted cs xs) h)) (sorted-take cs n xs (and-right (list_all le xs) (sorted cs xs) h))
+pub sorted-take : (order : List OrderEntry) (n : ℕ) (xs : List Row) → sorted order xs ≡ true → sorted order (take n xs) ≡ true
+sorted-take order zero xs h = refl
+sorted-take order (suc n) [] h = refl
+sorted-take order (suc n) (x ∷ xs) h =
+    let le : Row → Bool = λ y. is_le (compare_on order x y) in
+    and-both (list_all le (take n xs)) (sorted order (take n xs))
+    (list_all-take le n xs (and-left (list_all le xs) (sorted order xs) h)) (sorted-take order n xs (and-right (list_all le xs) (sorted order xs) h))
 
 abbrev pub rows_of : List (ℕ × Row) → List Row
 rows_of ts = map (λ t. t.1) ts
@@ -66,16 +68,16 @@ pub list_all-bearing : (q : Row → Bool) (i : ℕ) (ts : List (ℕ × Row)) →
 list_all-bearing q i [] h = refl
 list_all-bearing q i (t ∷ ts) h = list_all-cond q (t.0 == i) t.1 _ (and-left _ _ h) (list_all-bearing q i ts (and-right _ _ h))
 
-pub sorted-bearing : (cs : List ℕ) (i : ℕ) (ts : List (ℕ × Row)) → sorted cs (rows_of ts) ≡ true → sorted cs (bearing i ts) ≡ true
-sorted-bearing cs i [] h = refl
-sorted-bearing cs i (t ∷ ts) h =
-    sorted-cond cs (t.0 == i) t.1 (bearing i ts) (list_all-bearing _ i ts (and-left _ _ h)) (sorted-bearing cs i ts (and-right _ _ h))
+pub sorted-bearing : (order : List OrderEntry) (i : ℕ) (ts : List (ℕ × Row)) → sorted order (rows_of ts) ≡ true → sorted order (bearing i ts) ≡ true
+sorted-bearing order i [] h = refl
+sorted-bearing order i (t ∷ ts) h =
+    sorted-cond order (t.0 == i) t.1 (bearing i ts) (list_all-bearing _ i ts (and-left _ _ h)) (sorted-bearing order i ts (and-right _ _ h))
 
 -- each list that a sorted list is dealt out to is sorted
-pub Dealt-sorted : {n : ℕ} {xs : List Row} {ls : Streams} → Dealt n xs ls → (cs : List ℕ) → sorted cs xs ≡ true → (i : ℕ) → i < n → sorted cs (ls i) ≡ true
-Dealt-sorted {n} {xs} {ls} d cs h i l =
-    let P : List Row → Type 0 = λ x. sorted cs x ≡ true in
-    subst P (d.lists_are i l) (sorted-bearing cs i d.numbered (subst P (sym d.whole) h))
+pub Dealt-sorted : {n : ℕ} {xs : List Row} {ls : Streams} → Dealt n xs ls → (order : List OrderEntry) → sorted order xs ≡ true → (i : ℕ) → i < n → sorted order (ls i) ≡ true
+Dealt-sorted {n} {xs} {ls} d order h i l =
+    let P : List Row → Type 0 = λ x. sorted order x ≡ true in
+    subst P (d.lists_are i l) (sorted-bearing order i d.numbered (subst P (sym d.whole) h))
 
 -- a shuffle of one list is that list
 pub bearing-zero : (ts : List (ℕ × Row)) → list_all (λ t. nat_lt t.0 1) ts ≡ true → bearing 0 ts ≡ rows_of ts

@@ -1,10 +1,11 @@
 -- An overflow that a run answers is one of the data.
+use Rattle.vx_rows_values.specs.declared.order.OrderEntry.{OrderEntry}
 use Rattle.vx_worker.specs.Fragment.{goes, RunModel, Frag, Reads, fragment, FragAbides, FragMakes}
 use Rattle.std.proofs.Common.{◌≡◌, ◌⊎◌, inl, inr, ⊎_elim, ℕ, zero, suc, ◌<◌, ◌≤◌, ◌==◌, Bool, true, false, cond, not, ◌||◌, ◌&&◌, List, [], ◌∷◌, ◌++◌, map, length, Option, Some, None, IsSome, refl, sym, ap, ◌∙◌, subst, arith, append-nil, true≢false, eqb-true, eq-eqb, ◌+◌, flat_map, length-append}
 use Rattle.vx_rows_values.specs.Values.{Row}
-use Rattle.vx_rows_values.specs.Order.{sorted}
+use Rattle.vx_rows_values.specs.Order.{order_columns, sorted}
 use Rattle.vx_rows_values.specs.Bags.{SameRows}
-use Rattle.vx_plan_nodes.specs.Plan.{Size, ExchangeKind, target, is_one, Claim, Unary, select, project, distinct, sort, group, Binary, union, join, Aggregate, Plan, scan, unary, binary, exchange, size, claim, size_eq, Phase, plain, partial, final, route_to, round, broadcast, gather, concat, limit, semi_join}
+use Rattle.vx_plan_nodes.specs.Plan.{by_hashing, by_merging, Size, ExchangeKind, target, is_one, Claim, Unary, select, project, distinct, sort, group, Binary, union, join, Aggregate, Plan, scan, unary, binary, exchange, size, claim, size_eq, Phase, plain, partial, final, route_to, round, broadcast, gather, concat, limit, semi_join}
 use Rattle.vx_plan_nodes.specs.Types.{well_formed}
 use Rattle.vx_plan_nodes.specs.Serial.{unary_rows, binary_rows, group_rows, SerialResult, rows, overflow, or_overflow, after, serial, IsOverflow, IsTooLong, HasTooLong, HasLargePart}
 use Rattle.vx_plan_nodes.specs.Streams.{Streams, workers, joined, Dealt}
@@ -210,14 +211,14 @@ module _ (S : RunModel) (giv : Given S.catalog S.db S.sizes (goes S)) (some : 0 
       (sym (h.makes.3 ∙ subst P (eqb-true (S.relation_of n) r fit) e), end.1)
 
   -- a consumer that took Last from a producer took all that it put
-  came-whole : (n : ℕ) (c : Claim) (k : ExchangeKind) (merge : List ℕ) (p : Plan) (j : ℕ) (t : Trace) (out : List Row) (h : MadeOf S (fragment S j (exchange n c k merge p)) t out)
+  came-whole : (n : ℕ) (c : Claim) (k : ExchangeKind) (merge : List OrderEntry) (p : Plan) (j : ℕ) (t : Trace) (out : List Row) (h : MadeOf S (fragment S j (exchange n c k merge p)) t out)
       → (i : ℕ) → i < workers S.sizes (size p) → (put : List PacketView) → Flows put (t.came n i) → h.makes.0.came i ≡ put
   came-whole n c k merge p j t out h i l put f =
       let seen : h.makes.0.came i ≡ h.reads.came n i = ap (λ (g : ℕ → List PacketView). g i) h.makes.1.came in
       let P : List PacketView → Type 0 = λ ps. has_last ps ≡ true in
       seen ∙ read-whole put (t.came n i) (h.reads.came n i) f (h.reads_begin.came n i) (subst P seen (h.makes.2 i l))
 
-  came-well : (n : ℕ) (c : Claim) (k : ExchangeKind) (merge : List ℕ) (p : Plan) (j : ℕ) → j < workers S.sizes (target k) → (t : Trace) (out : List Row) → MadeOf S (fragment S j (exchange n c k merge p)) t out
+  came-well : (n : ℕ) (c : Claim) (k : ExchangeKind) (merge : List OrderEntry) (p : Plan) (j : ℕ) → j < workers S.sizes (target k) → (t : Trace) (out : List Row) → MadeOf S (fragment S j (exchange n c k merge p)) t out
       → (i : ℕ) → i < workers S.sizes (size p) → (u : Trace) → Flows (u.sent j) (t.came n i) → Ends S (fragment S i p) (send (ship_of S n i k p)) u
       → IsWell S (fragment S i p) (send (ship_of S n i k p)) u
   came-well n c k merge p j b t out h i l u f e =
@@ -254,7 +255,7 @@ module _ (S : RunModel) (giv : Given S.catalog S.db S.sizes (goes S)) (some : 0 
       (λ op f. f.is_of keys puts (opens keys puts p) ≡ true → serial S.db (f.spoken_of p (spoken p) (unary n c op p)) ≡ rows base → HasTooLong S.db (unary n c op p))
       (λ op w e h. absurd (true≢false (sym e)))
       (λ by aggregates e h. let P : SerialResult → Type 0 = λ o. IsTooLong (group partial by aggregates) o in inr (subst P (sym h) l))
-      (λ cols e h. inl (open-long keys puts p (and-right (all_below (length keys) cols) (opens keys puts p) e) base h l))
+      (λ order e h. inl (open-long keys puts p (and-right (all_below (length keys) (order_columns order)) (opens keys puts p) e) base h l))
       (λ by aggregates e h. absurd (true≢false (sym e))) op e h
   open-long keys puts (binary n c op p q) e base h l = absurd (true≢false (sym e))
   open-long keys puts (exchange n c k m p) e base h l = open-long keys puts p e base h l
@@ -363,7 +364,7 @@ module _ (S : RunModel) (giv : Given S.catalog S.db S.sizes (goes S)) (some : 0 
       one-place gather e j w a b = absurd (true≢false (sym e))
       one-place concat e j w a b = eq-eqb j w (omega (arith, a, b))
 
-      at-consumer : (m : ℕ) (merge : List ℕ) (out : List Row) (sent : ℕ → Streams) (w : ℕ) → Dealt m out (sent w) → sorted merge out ≡ true
+      at-consumer : (m : ℕ) (merge : List OrderEntry) (out : List Row) (sent : ℕ → Streams) (w : ℕ) → Dealt m out (sent w) → sorted merge out ≡ true
           → (k : ExchangeKind) → (is_concat k ≡ true → joined m (sent w) ≡ out)
           → (j : ℕ) → (is_concat k ≡ true → (j == w) ≡ true) → ((i : ℕ) → i < m → sorted merge (sent j i) ≡ true) → (b : Bool) → (j == w) ≡ b
           → (xs : List Row) × (Dealt m xs (sent j) × (sorted merge xs ≡ true) × ((j == w) ≡ true → xs ≡ out) × (is_concat k ≡ true → joined m (sent j) ≡ xs))
@@ -421,7 +422,7 @@ module _ (S : RunModel) (giv : Given S.catalog S.db S.sizes (goes S)) (some : 0 
       own (select cs) ok o = absurd o
       own (project cols) ok o = absurd o
       own (distinct cols) ok o = absurd o
-      own (sort of_parts cols) ok o = absurd o
+      own (sort of_parts order) ok o = absurd o
       own (limit m) ok o = absurd o
       own (group phase by aggregates) ok o = ⊎_elim
           (λ got.
@@ -442,8 +443,8 @@ module _ (S : RunModel) (giv : Given S.catalog S.db S.sizes (goes S)) (some : 0 
     where
       none : (op : Binary) → OwnBlame (two_op n op) h.0 (Own Overflow node) → ⊥
       none union o = o
-      none (join true on) o = o
-      none (join false on) o = o
+      none (join (by_merging falls) on) o = o
+      none (join by_hashing on) o = o
       none (semi_join matched on conditions) o = o
   fails (exchange n c k merge p) ok ts run w l reads begin out h node e = ⊎_elim
       (λ i. absurd i)

@@ -1,5 +1,6 @@
 -- The operators over one input by their phases: whole ones, partials, sorts of parts and finals.
 use Rattle.std.proofs.Common.{◌≡◌, ℕ, Bool, true, false, not, ◌||◌, List, refl}
+use Rattle.vx_rows_values.specs.declared.order.OrderEntry.{OrderEntry}
 use Rattle.vx_rows_values.specs.Values.{Row}
 use Rattle.vx_rows_values.specs.Bags.{SameRows}
 use Rattle.vx_plan_nodes.specs.Plan.{plain, partial, final, Aggregate, Unary, select, project, distinct, sort, group, limit, Plan}
@@ -52,14 +53,14 @@ whole_phase op = record {
 -- what holds of whole operators, of partials, of sorts of parts and of finals holds of each operator
 pub by-phase : (P : Unary → Phase → Type 0) → ((op : Unary) → (is_partial op || is_final op) ≡ false → P op (whole_phase op))
     → ((by : List ℕ) (aggregates : List Aggregate) → P (group partial by aggregates) (phase_of (group partial by aggregates)))
-    → ((cols : List ℕ) → P (sort true cols) (phase_of (sort true cols)))
+    → ((order : List OrderEntry) → P (sort true order) (phase_of (sort true order)))
     → ((by : List ℕ) (aggregates : List Aggregate) → P (group final by aggregates) (phase_of (group final by aggregates)))
     → (op : Unary) → P op (phase_of op)
 by-phase P whole_ok partial_ok sort_ok final_ok (select cs) = whole_ok (select cs) refl
 by-phase P whole_ok partial_ok sort_ok final_ok (project cols) = whole_ok (project cols) refl
 by-phase P whole_ok partial_ok sort_ok final_ok (distinct cols) = whole_ok (distinct cols) refl
-by-phase P whole_ok partial_ok sort_ok final_ok (sort false cols) = whole_ok (sort false cols) refl
-by-phase P whole_ok partial_ok sort_ok final_ok (sort true cols) = sort_ok cols
+by-phase P whole_ok partial_ok sort_ok final_ok (sort false order) = whole_ok (sort false order) refl
+by-phase P whole_ok partial_ok sort_ok final_ok (sort true order) = sort_ok order
 by-phase P whole_ok partial_ok sort_ok final_ok (group plain by aggregates) = whole_ok (group plain by aggregates) refl
 by-phase P whole_ok partial_ok sort_ok final_ok (group partial by aggregates) = partial_ok by aggregates
 by-phase P whole_ok partial_ok sort_ok final_ok (group final by aggregates) = final_ok by aggregates

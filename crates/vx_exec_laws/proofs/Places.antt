@@ -2,7 +2,7 @@
 use Rattle.std.proofs.Common.{◌≡◌, ⊎_elim, ℕ, ◌<◌, ◌==◌, Bool, true, false, ◌&&◌, ◌||◌, List, [], ◌∷◌, ◌++◌, length, refl, sym, ap, ◌∙◌, subst, arith, true≢false, eq-eqb, eqb-true, Some}
 use Rattle.std.specs.List.{list_all, list_any}
 use Rattle.vx_rows_values.specs.Values.{Row, pick}
-use Rattle.vx_plan_nodes.specs.Plan.{Claim, Binary, binary, Route, Part, one, any, all, routed, Unary, Plan, claim, size, is_one, union, join, semi_join, Condition}
+use Rattle.vx_plan_nodes.specs.Plan.{JoinMethod, Claim, Binary, binary, Route, Part, one, any, all, routed, Unary, Plan, claim, size, is_one, union, join, semi_join, Condition}
 use Rattle.vx_plan_nodes.specs.Types.{part_columns, names_columns, width}
 use Rattle.vx_catalog_relations.specs.Relation.{Relation}
 use Rattle.vx_plan_nodes.specs.Describe.{whole_rows, left_of, right_of, described, described_both}
@@ -155,7 +155,7 @@ given-below wd (routed t cs) r ds g h =
     let P : List ℕ → Type 0 = λ z. all_below wd z ≡ true in subst P (numbers_eq-is cs ds (and-right (route_eq t r) (numbers_eq cs ds) g)) h
 
 -- rows that are paired stand where their left rows did, and where their right rows did
-join-places : (goes : Routing) (m : Bool) (on : List (ℕ × ℕ)) (wd : ℕ) (p q : Plan) (n w : ℕ) (ls rs : List Row) → wide wd ls ≡ true → all_below wd (part_columns (claim p).part) ≡ true
+join-places : (goes : Routing) (m : JoinMethod) (on : List (ℕ × ℕ)) (wd : ℕ) (p q : Plan) (n w : ℕ) (ls rs : List Row) → wide wd ls ≡ true → all_below wd (part_columns (claim p).part) ≡ true
     → Placed goes (claim p).part n w ls → Placed goes (claim q).part n w rs
     → ((x : Part) → has p x ≡ true → Placed goes x n w ls) → ((x : Part) → has q x ≡ true → Placed goes x n w rs)
     → Each (λ v. Places goes n w (join_rows on ls rs) v) (ways_over (described_both wd (join m on)).meeting (described_both wd (join m on)) (own p) (own q))

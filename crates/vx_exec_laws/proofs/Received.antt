@@ -2,6 +2,7 @@
 use Rattle.std.proofs.Common.{◌≡◌, inl, inr, ℕ, ◌<◌, ◌==◌, Bool, true, false, List, refl, sym, ap, subst, eqb-true}
 use Rattle.std.proofs.lemmas.Bool.{eqb-false}
 use Rattle.std.specs.Coded.{le_prop}
+use Rattle.vx_rows_values.specs.declared.order.OrderEntry.{OrderEntry}
 use Rattle.vx_rows_values.specs.Values.{Row}
 use Rattle.vx_rows_values.specs.Order.{sorted}
 use Rattle.vx_rows.specs.Lists.{IsBeginning}
@@ -19,16 +20,16 @@ use Rattle.vx_exec_laws.proofs.Exchange.{sends-sorted}
 use Rattle.vx_exec_laws.proofs.Tidy.{sorted-left, begins-rows, came-so}
 use Rattle.vx_exec_laws.proofs.CutOrigins.{occurs-begins, producer, put-occurs}
 
-pub sorted-begins : (cols : List ℕ) (xs zs : List Row) → IsBeginning xs zs → sorted cols zs ≡ true → sorted cols xs ≡ true
-sorted-begins cols xs zs b h = let P : List Row → Type 0 = λ l. sorted cols l ≡ true in sorted-left cols xs b.rest (subst P (sym b.joined) h)
+pub sorted-begins : (order : List OrderEntry) (xs zs : List Row) → IsBeginning xs zs → sorted order zs ≡ true → sorted order xs ≡ true
+sorted-begins order xs zs b h = let P : List Row → Type 0 = λ l. sorted order l ≡ true in sorted-left order xs b.rest (subst P (sym b.joined) h)
 
 -- what each worker of a node has given so far is sorted
-abbrev pub SortedSoFar : (S : RunModel) (p : Plan) → (ℕ → Trace) → List ℕ → Type 0
+abbrev pub SortedSoFar : (S : RunModel) (p : Plan) → (ℕ → Trace) → List OrderEntry → Type 0
 SortedSoFar S p ts order = (x : Output S p ts) → sorted order x.out.rows ≡ true
 
 -- ---- what a consumer has read of each producer
 
-module _ (S : RunModel) (giv : Given S.catalog S.db S.sizes (goes S)) (n : ℕ) (c : Claim) (k : ExchangeKind) (merge : List ℕ) (p : Plan) (ts : ℕ → Trace) (run : RunOf S (Ends S) (exchange n c k merge p) ts)
+module _ (S : RunModel) (giv : Given S.catalog S.db S.sizes (goes S)) (n : ℕ) (c : Claim) (k : ExchangeKind) (merge : List OrderEntry) (p : Plan) (ts : ℕ → Trace) (run : RunOf S (Ends S) (exchange n c k merge p) ts)
     (x : Output S (exchange n c k merge p) ts) where
   heard : (i : ℕ) → x.abides.0.came i ≡ x.reads.came n i
   heard i = ap (λ (f : ℕ → List PacketView). f i) x.abides.1.came
@@ -42,7 +43,7 @@ module _ (S : RunModel) (giv : Given S.catalog S.db S.sizes (goes S)) (n : ℕ) 
       (λ reads r out h sent s. sends (record { place = i; below = a; reads = reads; begins = r; out = out; abides = h }) refl sent s)
       (run.3 i x.place a x.below) (x.reads.came n i) (x.begins.came n i))
 
-  pub came-sorted : (order : List ℕ) → SortedSoFar S p run.0 order → (i : ℕ) → i < workers S.sizes (size p) → sorted order (rows_of (x.abides.0.came i)) ≡ true
+  pub came-sorted : (order : List OrderEntry) → SortedSoFar S p run.0 order → (i : ℕ) → i < workers S.sizes (size p) → sorted order (rows_of (x.abides.0.came i)) ≡ true
   came-sorted order up i a = came-here (λ xs. sorted order xs ≡ true) (sorted-begins order) i a
       (λ y at sent s. sends-sorted (goes S) k (workers S.sizes (target k)) y.out.rows sent s order (up y) x.place x.below)
 
@@ -73,5 +74,5 @@ module _ (S : RunModel) (giv : Given S.catalog S.db S.sizes (goes S)) (n : ℕ) 
   abbrev pub lists : Streams
   lists i = rows_of (x.abides.2.before.inputs.came i)
 
-  pub lists-sorted : (order : List ℕ) → SortedSoFar S p run.0 order → (i : ℕ) → i < workers S.sizes (size p) → sorted order (lists i) ≡ true
+  pub lists-sorted : (order : List OrderEntry) → SortedSoFar S p run.0 order → (i : ℕ) → i < workers S.sizes (size p) → sorted order (lists i) ≡ true
   lists-sorted order up i a = sorted-begins order (lists i) (rows_of (x.abides.0.came i)) (x.abides.2.before.begins.came i) (came-sorted order up i a)

@@ -1,6 +1,7 @@
 -- Semi and anti joins: the left rows that some right row matches, or that none does.
 use Rattle.std.proofs.Common.{◌≡◌, ◌≢◌, ℕ, ◌+◌, ◌<◌, ◌≤◌, ◌==◌, nat_lt, Bool, true, false, cond, not, ◌&&◌, ◌||◌, List, [], ◌∷◌, ◌++◌, filter, refl, sym, ap, ◌∙◌, subst, arith, true≢false, eqb-true, lt-ltb}
 use Rattle.std.specs.List.{list_all, list_any}
+use Rattle.vx_rows_values.specs.declared.order.OrderEntry.{OrderEntry}
 use Rattle.vx_rows_values.specs.Values.{Row, pick}
 use Rattle.vx_rows_values.specs.Order.{agree, sorted}
 use Rattle.vx_rows_values.specs.Bags.{total, count, SameRows}
@@ -40,10 +41,10 @@ matched-all q m on conditions ls rs h =
     subst P (matched-filter m on conditions ls rs) (list_all-filter q (is_kept m on conditions rs) ls h)
 
 -- they stand in the left rows' order
-pub matched-sorted : (cs : List ℕ) (m : Bool) (on : List (ℕ × ℕ)) (conditions : List Condition) (ls rs : List Row) → sorted cs ls ≡ true → sorted cs (matched_rows m on conditions ls rs) ≡ true
-matched-sorted cs m on conditions ls rs h =
-    let P : List Row → Type 0 = λ xs. sorted cs xs ≡ true in
-    subst P (matched-filter m on conditions ls rs) (sorted-filter cs (is_kept m on conditions rs) ls h)
+pub matched-sorted : (order : List OrderEntry) (m : Bool) (on : List (ℕ × ℕ)) (conditions : List Condition) (ls rs : List Row) → sorted order ls ≡ true → sorted order (matched_rows m on conditions ls rs) ≡ true
+matched-sorted order m on conditions ls rs h =
+    let P : List Row → Type 0 = λ xs. sorted order xs ≡ true in
+    subst P (matched-filter m on conditions ls rs) (sorted-filter order (is_kept m on conditions rs) ls h)
 
 -- and have the left rows' keys
 pub matched-count : (p : Row → Bool) (m : Bool) (on : List (ℕ × ℕ)) (conditions : List Condition) (ls rs : List Row) → count p (matched_rows m on conditions ls rs) ≤ count p ls

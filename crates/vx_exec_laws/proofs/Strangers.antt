@@ -1,8 +1,9 @@
 -- Whatever is claimed, no worker ends with a packet that isn't its own.
+use Rattle.vx_rows_values.specs.declared.order.OrderEntry.{OrderEntry}
 use Rattle.vx_worker.specs.Fragment.{RunModel, fragment}
-use Rattle.std.proofs.Common.{◌≡◌, ⊎_elim, ℕ, ◌<◌, true, false, List, [], ◌∷◌, ◌++◌, map, refl, sym, ap, subst, arith}
+use Rattle.std.proofs.Common.{◌≡◌, ⊎_elim, ℕ, ◌<◌, List, [], ◌∷◌, ◌++◌, map, refl, sym, ap, subst, arith}
 use Rattle.vx_rows_values.specs.Values.{Row}
-use Rattle.vx_plan_nodes.specs.Plan.{ExchangeKind, target, Unary, select, project, distinct, sort, group, Binary, union, join, Plan, scan, unary, binary, exchange, size, limit, semi_join}
+use Rattle.vx_plan_nodes.specs.Plan.{by_hashing, by_merging, ExchangeKind, target, Unary, select, project, distinct, sort, group, Binary, union, join, Plan, scan, unary, binary, exchange, size, limit, semi_join}
 use Rattle.vx_plan_nodes.specs.Streams.{workers}
 use Rattle.vx_ports.specs.Packets.{Content, last, fault, PacketView}
 use Rattle.vx_ops.specs.Ledger.{Ledger, ConsumerEnd, one_op, two_op, OwnBlame, IsFor, Came}
@@ -38,23 +39,23 @@ one-own : (n node : ℕ) (op : Unary) (h : Ledger) → OwnBlame (one_op n op) h 
 one-own n node (select cs) h b = b
 one-own n node (project cols) h b = b
 one-own n node (distinct cols) h b = b
-one-own n node (sort of_parts cols) h b = b
+one-own n node (sort of_parts order) h b = b
 one-own n node (group phase by aggregates) h b = b
 one-own n node (limit m) h b = b
 
 two-own : (n node : ℕ) (op : Binary) (h : Ledger) → OwnBlame (two_op n op) h (Own Stranger node) → ⊥
 two-own n node union h b = b
-two-own n node (join true on) h b = b
-two-own n node (join false on) h b = b
+two-own n node (join (by_merging falls) on) h b = b
+two-own n node (join by_hashing on) h b = b
 two-own n node (semi_join matched on conditions) h b = b
 
 module _ (S : RunModel) where
-  packets-for : (n i w : ℕ) (k : ExchangeKind) (merge : List ℕ) (p : Plan) (parts : List (List Row)) (end : Content)
+  packets-for : (n i w : ℕ) (k : ExchangeKind) (merge : List OrderEntry) (p : Plan) (parts : List (List Row)) (end : Content)
       → AllFor (port_of S n w k merge p) i (map (packet_at (ship_of S n i k p) w) parts ++ packet_of (ship_of S n i k p) w end ∷ [])
   packets-for n i w k merge p [] end = (record { exchange = refl; from_is = refl; to = refl; types = refl }, tt)
   packets-for n i w k merge p (x ∷ parts) end = (record { exchange = refl; from_is = refl; to = refl; types = refl }, packets-for n i w k merge p parts end)
 
-  put-for : (n i w : ℕ) (k : ExchangeKind) (merge : List ℕ) (p : Plan) (u : Trace) → w < workers S.sizes (target k) → (e : Ends S (fragment S i p) (send (ship_of S n i k p)) u) → AllFor (port_of S n w k merge p) i (u.sent w)
+  put-for : (n i w : ℕ) (k : ExchangeKind) (merge : List OrderEntry) (p : Plan) (u : Trace) → w < workers S.sizes (target k) → (e : Ends S (fragment S i p) (send (ship_of S n i k p)) u) → AllFor (port_of S n w k merge p) i (u.sent w)
   put-for n i w k merge p u l e = go e.0 e.1
     where
       go : (fate : Fate) → Honest S (fragment S i p) (send (ship_of S n i k p)) fate u → AllFor (port_of S n w k merge p) i (u.sent w)

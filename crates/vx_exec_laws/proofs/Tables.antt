@@ -1,5 +1,6 @@
 -- What the laws on runs that were cut short ask of a rule table, and that both rule tables give it.
 use Rattle.std.proofs.Common.{◌≡◌, ℕ, ◌<◌, true, List}
+use Rattle.vx_rows_values.specs.declared.order.OrderEntry.{OrderEntry}
 use Rattle.vx_rows_values.specs.Order.{sorted}
 use Rattle.vx_plan_nodes.specs.Plan.{Claim, Unary, ExchangeKind, Plan, unary, exchange, claim, size}
 use Rattle.vx_plan_nodes.specs.Types.{well_formed}
@@ -24,7 +25,7 @@ pub record Table (S : RunModel) (giv : Given S.catalog S.db S.sizes (goes S)) (H
   pub well : (p : Plan) → Has p → well_formed S.catalog p ≡ true
   pub holds : (p : Plan) (s : Streams) → Has p → Runs S.db S.sizes (goes S) p s → HoldingAt S.db S.sizes (goes S) p s
   pub fits : (n : ℕ) (c : Claim) (op : Unary) (p : Plan) (s : Streams) → Has (unary n c op p) → Runs S.db S.sizes (goes S) p s → FitsStreams S.catalog S.db S.sizes (goes S) giv op p s
-  pub merges : (n : ℕ) (c : Claim) (k : ExchangeKind) (merge : List ℕ) (p : Plan) (s : Streams) → Has (exchange n c k merge p) → Runs S.db S.sizes (goes S) p s
+  pub merges : (n : ℕ) (c : Claim) (k : ExchangeKind) (merge : List OrderEntry) (p : Plan) (s : Streams) → Has (exchange n c k merge p) → Runs S.db S.sizes (goes S) p s
       → (w : ℕ) → w < workers S.sizes (size p) → sorted merge (s w) ≡ true
 
 module _ (S : RunModel) (giv : Given S.catalog S.db S.sizes (goes S)) where

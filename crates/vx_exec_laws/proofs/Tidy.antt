@@ -1,4 +1,5 @@
 -- What a node has given so far is as wide as its columns, and sorted on its claimed order.
+use Rattle.vx_rows_values.specs.declared.order.OrderEntry.{OrderEntry}
 use Rattle.vx_worker.specs.Fragment.{goes, RunModel, Reads, alone, fragment, FragAbides}
 use Rattle.std.proofs.Common.{◌≡◌, ℕ, ◌<◌, ◌==◌, Bool, true, false, ◌&&◌, List, [], ◌∷◌, ◌++◌, map, length, refl, sym, ap, ◌∙◌, subst, arith, append-nil, append_assoc, eqb-true, is_le, ◌||◌}
 use Rattle.std.specs.List.{list_all, list_any}
@@ -7,7 +8,7 @@ use Rattle.vx_rows_values.specs.Order.{compare_on, sorted}
 use Rattle.vx_plan_nodes.specs.Plan.{Size, ExchangeKind, route_to, round, broadcast, gather, target, Claim, Plan, scan, unary, binary, exchange, size, claim, is_one, size_eq, Part, any, all, concat}
 use Rattle.vx_plan_nodes.specs.Types.{width, unary_width, well_formed, names_columns}
 use Rattle.vx_plan_nodes.specs.Serial.{binary_rows}
-use Rattle.vx_check_rules.specs.Rules.{is_prefix, allowed, allowed_here, has}
+use Rattle.vx_check_rules.specs.Rules.{is_front, allowed, allowed_here, has}
 use Rattle.vx_check_rules.specs.Behaviour.{way, bare, over, gives, behaviour}
 use Rattle.vx_plan_nodes.specs.Describe.{whole_rows, described}
 use Rattle.vx_plan_nodes.specs.Parts.{kind_part}
@@ -38,27 +39,27 @@ use Rattle.vx_exec_laws.proofs.Decks.{Drawn, dispatched-drawn}
 use Rattle.vx_exec_laws.proofs.Overflows.{reads-begin}
 use Rattle.vx_exec_laws.proofs.Concat.{ranged, goes-on-is, exchange-sorted}
 
-abbrev pub Tidy : ℕ → List ℕ → List Row → Type 0
-Tidy w cols xs = (wide w xs ≡ true) × (sorted cols xs ≡ true)
+abbrev pub Tidy : ℕ → List OrderEntry → List Row → Type 0
+Tidy w order xs = (wide w xs ≡ true) × (sorted order xs ≡ true)
 
-pub sorted-left : (cols : List ℕ) (xs ys : List Row) → sorted cols (xs ++ ys) ≡ true → sorted cols xs ≡ true
-sorted-left cols [] ys h = refl
-sorted-left cols (x ∷ xs) ys h =
-    let le : Row → Bool = λ y. is_le (compare_on cols x y) in
-    and-both (list_all le xs) (sorted cols xs) (all-front le xs ys (and-left (list_all le (xs ++ ys)) (sorted cols (xs ++ ys)) h))
-    (sorted-left cols xs ys (and-right (list_all le (xs ++ ys)) (sorted cols (xs ++ ys)) h))
+pub sorted-left : (order : List OrderEntry) (xs ys : List Row) → sorted order (xs ++ ys) ≡ true → sorted order xs ≡ true
+sorted-left order [] ys h = refl
+sorted-left order (x ∷ xs) ys h =
+    let le : Row → Bool = λ y. is_le (compare_on order x y) in
+    and-both (list_all le xs) (sorted order xs) (all-front le xs ys (and-left (list_all le (xs ++ ys)) (sorted order (xs ++ ys)) h))
+    (sorted-left order xs ys (and-right (list_all le (xs ++ ys)) (sorted order (xs ++ ys)) h))
 
-pub tidy-left : (w : ℕ) (cols : List ℕ) (xs ys zs : List Row) → xs ++ ys ≡ zs → Tidy w cols zs → Tidy w cols xs
-tidy-left w cols xs ys zs e h =
+pub tidy-left : (w : ℕ) (order : List OrderEntry) (xs ys zs : List Row) → xs ++ ys ≡ zs → Tidy w order zs → Tidy w order xs
+tidy-left w order xs ys zs e h =
     let P : List Row → Type 0 = λ l. wide w l ≡ true in
-    let Q : List Row → Type 0 = λ l. sorted cols l ≡ true in
-    (all-front (λ row. length row == w) xs ys (subst P (sym e) h.0), sorted-left cols xs ys (subst Q (sym e) h.1))
+    let Q : List Row → Type 0 = λ l. sorted order l ≡ true in
+    (all-front (λ row. length row == w) xs ys (subst P (sym e) h.0), sorted-left order xs ys (subst Q (sym e) h.1))
 
-pub tidy-begins : (w : ℕ) (cols : List ℕ) (xs zs : List Row) → IsBeginning xs zs → Tidy w cols zs → Tidy w cols xs
-tidy-begins w cols xs zs b h = tidy-left w cols xs b.rest zs b.joined h
+pub tidy-begins : (w : ℕ) (order : List OrderEntry) (xs zs : List Row) → IsBeginning xs zs → Tidy w order zs → Tidy w order xs
+tidy-begins w order xs zs b h = tidy-left w order xs b.rest zs b.joined h
 
-tidy-bearing : (w : ℕ) (cols : List ℕ) (i : ℕ) (ts : List (ℕ × Row)) → Tidy w cols (map (λ t. t.1) ts) → Tidy w cols (bearing i ts)
-tidy-bearing w cols i ts h = (list_all-bearing (λ row. length row == w) i ts h.0, sorted-bearing cols i ts h.1)
+tidy-bearing : (w : ℕ) (order : List OrderEntry) (i : ℕ) (ts : List (ℕ × Row)) → Tidy w order (map (λ t. t.1) ts) → Tidy w order (bearing i ts)
+tidy-bearing w order i ts h = (list_all-bearing (λ row. length row == w) i ts h.0, sorted-bearing order i ts h.1)
 
 morsels-append : (f : ℕ → List Row) (ks js : List ℕ) → morsels f (ks ++ js) ≡ morsels f ks ++ morsels f js
 morsels-append f [] js = refl
@@ -169,7 +170,7 @@ module _ (S : RunModel) (giv : Given S.catalog S.db S.sizes (goes S)) where
       let Q : Stream → Type 0 = λ s. P s.rows in
       subst Q h.3 (begins h.0.gave.rows k.whole k.gave (subst P (sym k.makes) input))
 
-  scan-tidy : (n : ℕ) (c : Claim) (r : ℕ) (m : Bool) (z : Size) → (S.relation_of n == r) ≡ true → is_prefix c.order (S.catalog r).order ≡ true
+  scan-tidy : (n : ℕ) (c : Claim) (r : ℕ) (m : Bool) (z : Size) → (S.relation_of n == r) ≡ true → is_front c.order (S.catalog r).order ≡ true
       → (w i : ℕ) (t : Trace) → Drawn S.morsel (S.db r) i (t.drew n).numbers
       → (reads : Reads) → ReadsBegin S t reads → (out : Stream) → FragAbides (fragment S w (scan n c r m z)) reads out → Tidy (length (S.catalog r).types) c.order out.rows
   scan-tidy n c r m z fit up w i t d reads begin out h =

@@ -6,7 +6,7 @@ use Rattle.vx_rows_values.specs.Bags.{SameRows}
 use Rattle.vx_rows_values.specs.Keys.{HasKey}
 use Rattle.vx_catalog_relations.specs.Relation.{Relation, KeysHold}
 use Rattle.vx_plan_nodes.specs.Types.{well_formed, names_columns, width}
-use Rattle.vx_plan_nodes.specs.Plan.{Size, Part, any, all, Claim, Plan, binary, claim, size, Condition, Binary, union, join, semi_join, is_one, size_eq}
+use Rattle.vx_plan_nodes.specs.Plan.{JoinMethod, Size, Part, any, all, Claim, Plan, binary, claim, size, Condition, Binary, union, join, semi_join, is_one, size_eq}
 use Rattle.vx_plan_nodes.specs.Describe.{whole_rows, left_of, right_of, described_both}
 use Rattle.vx_plan_nodes.specs.Serial.{binary_rows, join_rows, matched_rows, rows, after, serial}
 use Rattle.vx_plan_nodes.specs.Streams.{Streams, joined, workers}
@@ -86,7 +86,7 @@ module _ (catalog : ℕ → Relation) (db : ℕ → List Row) (sizes : ℕ → �
       }
 
   -- the four ways of a join: by like routes to the left and to the right part, by a whole right input, by a whole left one
-  join-stands : (m : Bool) (on : List (ℕ × ℕ)) (wd : ℕ) (p q : Plan) (s t out : Streams) (base rbase : List Row) → Both p q s t base rbase
+  join-stands : (m : JoinMethod) (on : List (ℕ × ℕ)) (wd : ℕ) (p q : Plan) (s t out : Streams) (base rbase : List Row) → Both p q s t base rbase
       → ((w : ℕ) → w < workers sizes (size p) → join_rows on (s w) (t w) ≡ out w)
       → Each (λ v. Stands (workers sizes (size p)) out (λ xs. SameRows xs (join_rows on base rbase)) v) (ways_over (described_both wd (join m on)).meeting (described_both wd (join m on)) (own p) (own q))
   join-stands m on wd p q s t out base rbase both run =
@@ -120,7 +120,7 @@ module _ (catalog : ℕ → Relation) (db : ℕ → List Row) (sizes : ℕ → �
         tt,
       ))))
 
-  join-over : (k : ℕ) (c : Claim) (m : Bool) (on : List (ℕ × ℕ)) (p q : Plan) (s t out : Streams) (base rbase : List Row) → Both p q s t base rbase
+  join-over : (k : ℕ) (c : Claim) (m : JoinMethod) (on : List (ℕ × ℕ)) (p q : Plan) (s t out : Streams) (base rbase : List Row) → Both p q s t base rbase
       → names_columns (width catalog p) (claim p) ≡ true → KeysHold (claim p).keys base → KeysHold (claim q).keys rbase
       → ((w : ℕ) → w < workers sizes (size p) → join_rows on (s w) (t w) ≡ out w) → Over k c (join m on) p q s t out base rbase
   join-over k c m on p q s t out base rbase both names keys keys_right run =

@@ -2,6 +2,7 @@
 use Rattle.std.proofs.Common.{◌≡◌, ℕ, suc, ◌+◌, ◌==◌, nat_lt, nat_le, Bool, true, ◌&&◌, List, [], ◌∷◌, ◌++◌, length, refl, sym, ap, ◌∙◌, subst, true≢false, eq-eqb}
 use Rattle.std.specs.List.{list_all}
 use Rattle.vx_rows_values.specs.declared.value.ColType.{ColType}
+use Rattle.vx_rows_values.specs.Order.{order_columns}
 use Rattle.vx_rows_values.specs.Types.{type_at}
 use Rattle.vx_catalog_relations.specs.Catalog.{relation_at, all_below, are_distinct}
 use Rattle.vx_plan_nodes.specs.Plan.{by_hash, by_range, Part, one, any, all, routed, Claim, union, join, semi_join, Plan, scan, unary, binary, exchange}
@@ -35,12 +36,13 @@ part-below s types (routed (by_range k) (c ∷ d ∷ cs)) h = absurd (true≢fal
 claim-names : (s : Scope) (types : List ColType) (c : Claim) → is_claim s types c ≡ true → names_columns (length types) c ≡ true
 claim-names s types c h =
     let w : ℕ = length types in
-    let rest = and-right (is_part s types c.part) (are_columns w c.order && list_all (are_columns w) c.keys) h in
-    and-both (all_below w (part_columns c.part)) (all_below w c.order && list_all (all_below w) c.keys)
-    (part-below s types c.part (and-left (is_part s types c.part) (are_columns w c.order && list_all (are_columns w) c.keys) h))
-    (and-both (all_below w c.order) (list_all (all_below w) c.keys)
-    (and-left (all_below w c.order) (are_distinct c.order) (and-left (are_columns w c.order) (list_all (are_columns w) c.keys) rest))
-    (list_all-weaken (are_columns w) (all_below w) (λ k e. and-left (all_below w k) (are_distinct k) e) c.keys (and-right (are_columns w c.order) (list_all (are_columns w) c.keys) rest)))
+    let cols : List ℕ = order_columns c.order in
+    let rest = and-right (is_part s types c.part) (are_columns w cols && list_all (are_columns w) c.keys) h in
+    and-both (all_below w (part_columns c.part)) (all_below w cols && list_all (all_below w) c.keys)
+    (part-below s types c.part (and-left (is_part s types c.part) (are_columns w cols && list_all (are_columns w) c.keys) h))
+    (and-both (all_below w cols) (list_all (all_below w) c.keys)
+    (and-left (all_below w cols) (are_distinct cols) (and-left (are_columns w cols) (list_all (are_columns w) c.keys) rest))
+    (list_all-weaken (are_columns w) (all_below w) (λ k e. and-left (all_below w k) (are_distinct k) e) c.keys (and-right (are_columns w cols) (list_all (are_columns w) c.keys) rest)))
 
 output-names : (s : Scope) (types : List ColType) (c : Claim) → is_output s types c ≡ true → names_columns (length types) c ≡ true
 output-names s types c h = claim-names s types c (and-right (nat_le (length types) 64) (is_claim s types c) h)
@@ -117,10 +119,10 @@ typed-well-formed s (exchange n c k m p) h =
     let out : Bool = is_output s ts c in
     let kind_typed : Bool = is_kind s ts k in
     let more : Bool = may_merge k m && out in
-    let rest = and-right (typed s p) (kind_typed && (are_columns (length ts) m && more)) h in
+    let rest = and-right (typed s p) (kind_typed && (are_columns (length ts) (order_columns m) && more)) h in
     and-both (well_formed (relation_at s.catalog) p) (names_columns (width (relation_at s.catalog) p) c)
-    (typed-well-formed s p (and-left (typed s p) (kind_typed && (are_columns (length ts) m && more)) h))
-    (names-at s p c (and-right (may_merge k m) out (and-right (are_columns (length ts) m) more (and-right kind_typed (are_columns (length ts) m && more) rest))))
+    (typed-well-formed s p (and-left (typed s p) (kind_typed && (are_columns (length ts) (order_columns m) && more)) h))
+    (names-at s p c (and-right (may_merge k m) out (and-right (are_columns (length ts) (order_columns m)) more (and-right kind_typed (are_columns (length ts) (order_columns m) && more) rest))))
 
 pub typed-is-well-formed : TypedIsWellFormed
 typed-is-well-formed s p h = (typed-well-formed s p h, types_of-width (relation_at s.catalog) p)

@@ -1,6 +1,7 @@
 -- What a well-formed plan says of its inputs, and of its claims.
 use Rattle.std.proofs.Common.{◌≡◌, ℕ, ◌==◌, Bool, true, ◌&&◌, refl, eqb-true}
 use Rattle.std.specs.List.{list_all}
+use Rattle.vx_rows_values.specs.Order.{order_columns}
 use Rattle.vx_catalog_relations.specs.Relation.{Relation}
 use Rattle.vx_plan_nodes.specs.Plan.{Claim, Plan, scan, unary, binary, exchange, claim, Unary, Binary, union, join, semi_join}
 use Rattle.vx_plan_nodes.specs.Types.{well_formed, names_columns, part_columns, width}
@@ -41,12 +42,12 @@ union-widths catalog k c p q h =
     eqb-true (width catalog p) (width catalog q) (and-left same named (four (well_formed catalog p) (well_formed catalog q) (both_closed p q) (same && named) h).3)
 
 -- a claim names columns with its part, its order and its keys
-pub named : (w : ℕ) (c : Claim) → names_columns w c ≡ true → (all_below w (part_columns c.part) ≡ true) × (all_below w c.order ≡ true) × (list_all (all_below w) c.keys ≡ true)
+pub named : (w : ℕ) (c : Claim) → names_columns w c ≡ true → (all_below w (part_columns c.part) ≡ true) × (all_below w (order_columns c.order) ≡ true) × (list_all (all_below w) c.keys ≡ true)
 named w c h =
-    let rest = and-right (all_below w (part_columns c.part)) (all_below w c.order && list_all (all_below w) c.keys) h in (
-      and-left (all_below w (part_columns c.part)) (all_below w c.order && list_all (all_below w) c.keys) h,
-      and-left (all_below w c.order) (list_all (all_below w) c.keys) rest,
-      and-right (all_below w c.order) (list_all (all_below w) c.keys) rest,
+    let rest = and-right (all_below w (part_columns c.part)) (all_below w (order_columns c.order) && list_all (all_below w) c.keys) h in (
+      and-left (all_below w (part_columns c.part)) (all_below w (order_columns c.order) && list_all (all_below w) c.keys) h,
+      and-left (all_below w (order_columns c.order)) (list_all (all_below w) c.keys) rest,
+      and-right (all_below w (order_columns c.order)) (list_all (all_below w) c.keys) rest,
     )
 
 -- the claim names columns

@@ -1,12 +1,12 @@
 -- Worked plans of limits, semi joins and anti joins: what is accepted of them, what is refused, and what they mean. Each fact holds by computing.
 use Rattle.std.specs.Prelude.{◌≡◌, ℕ, Bool, true, false, List, [], ◌∷◌, Some, None}
-use Rattle.vx_plan_nodes.specs.Plan.{one_worker, one, any, all, routed, column, constant, below, at_most, Condition, limit, Binary, join, semi_join, route_to, broadcast, gather, Plan, scan, unary, binary, exchange}
+use Rattle.vx_plan_nodes.specs.Plan.{one_worker, one, any, all, routed, column, constant, below, at_most, Condition, limit, Binary, by_hashing, join, semi_join, route_to, broadcast, gather, Plan, scan, unary, binary, exchange}
 use Rattle.vx_plan_nodes.specs.Serial.{rows, serial}
 use Rattle.vx_plan_nodes.specs.Erase.{erase}
 use Rattle.vx_plan_nodes.specs.Typed.{typed}
 use Rattle.vx_check_rules.specs.Refusal.{part_not_shown, inputs_not_matched, key_not_shown, first_rows_open, refusal}
 use Rattle.vx_check_rules.specs.Tables.{refusal_by}
-use Rattle.vx_exec_laws.specs.WorkedPlans.{t_and_d, many, h, claimed, part_only, first, first_key, shared_t, shared_d, worked_scope, one_row, a, b, c, n, minus_2, t_rows, db}
+use Rattle.vx_exec_laws.specs.WorkedPlans.{t_and_d, many, h, claimed, part_only, first_key, by_first, shared_t, shared_d, worked_scope, one_row, a, b, c, n, minus_2, t_rows, db}
 
 -- ---- semi and anti joins
 
@@ -27,9 +27,9 @@ kept matched conditions = semi_join matched ((1, 0) ∷ []) conditions
 -- a merging gather over t joined on k with a broadcast of d
 abbrev pub by_broadcast : Binary → Plan
 by_broadcast op =
-    exchange 0 (claimed one first first_key) gather first
-    (binary 1 (claimed any first first_key) op
-    (shared_t 2 (claimed any first first_key))
+    exchange 0 (claimed one by_first first_key) gather by_first
+    (binary 1 (claimed any by_first first_key) op
+    (shared_t 2 (claimed any by_first first_key))
     (exchange 3 (claimed all [] first_key) (broadcast many) [] (shared_d 4 (claimed any [] first_key))))
 
 -- a gather over a broadcast of t joined on k with d
@@ -51,12 +51,12 @@ by_hashes op cols =
 -- so many first rows of t by id, which a gather merges; it and the limit claim these keys
 abbrev pub first_of_t : (most : ℕ) → (keys limit_keys : List (List ℕ)) → Plan
 first_of_t most keys limit_keys =
-    unary 0 (claimed one first limit_keys) (limit most) (exchange 1 (claimed one first keys) gather first (shared_t 2 (claimed any first first_key)))
+    unary 0 (claimed one by_first limit_keys) (limit most) (exchange 1 (claimed one by_first keys) gather by_first (shared_t 2 (claimed any by_first first_key)))
 
 -- a limit below the gather
 abbrev pub limits_gathered : Plan
 limits_gathered =
-    exchange 0 (claimed one first first_key) gather first (unary 1 (claimed any first first_key) (limit 2) (shared_t 2 (claimed any first first_key)))
+    exchange 0 (claimed one by_first first_key) gather by_first (unary 1 (claimed any by_first first_key) (limit 2) (shared_t 2 (claimed any by_first first_key)))
 
 -- the key of no columns, of which one row at most is told
 abbrev pub no_columns : List (List ℕ)
@@ -71,10 +71,10 @@ pub record WorkedLimits : Type 0 where
   -- a left row that each worker has may be kept by several of them, where an inner join may have it
   pub left_on_each : refusal t_and_d false (left_broadcast (kept true [])) ≡ Some (1, inputs_not_matched)
   pub left_of_anti : refusal t_and_d false (left_broadcast (kept false [])) ≡ Some (1, inputs_not_matched)
-  pub left_of_join : refusal t_and_d false (left_broadcast (join false ((1, 0) ∷ []))) ≡ None
+  pub left_of_join : refusal t_and_d false (left_broadcast (join by_hashing ((1, 0) ∷ []))) ≡ None
   -- the right columns are none of its own
   pub route_of_right : refusal t_and_d false (by_hashes (kept true []) (3 ∷ [])) ≡ Some (1, part_not_shown)
-  pub route_of_joined : refusal t_and_d false (by_hashes (join false ((1, 0) ∷ [])) (3 ∷ [])) ≡ None
+  pub route_of_joined : refusal t_and_d false (by_hashes (join by_hashing ((1, 0) ∷ [])) (3 ∷ [])) ≡ None
   -- what they mean
   pub matched : serial db (by_broadcast (kept true [])) ≡ rows (one_row (n 0) a (n 5) ∷ one_row (n 1) b (n 7) ∷ one_row (n 2) a minus_2 ∷ [])
   pub unmatched : serial db (by_broadcast (kept false [])) ≡ rows (one_row (n 3) c (n 7) ∷ [])

@@ -1,13 +1,15 @@
 -- Worked plans over two small relations: t (id, k, v) with key [id] and order [id], and d (k, n) with key [k].
 use Rattle.std.specs.Prelude.{ℕ, zero, suc, true, false, pos, negsuc, List, [], ◌∷◌}
+use Rattle.vx_rows_values.specs.declared.order.OrderEntry.{OrderEntry}
+use Rattle.vx_rows_values.specs.Order.{rising}
 use Rattle.vx_rows_values.specs.declared.value.ColType.TheVariants.{Int, Text}
 use Rattle.vx_rows_values.specs.Values.{Val, num, text, Row}
 use Rattle.vx_catalog_relations.specs.Relation.{Relation}
 use Rattle.vx_plan_nodes.specs.Typed.{Scope}
-use Rattle.vx_plan_nodes.specs.Plan.{Size, one_worker, group_of, Route, by_hash, Part, one, any, all, routed, Claim, equal, constant, sum, count_rows, Unary, select, sort, group, plain, union, join, route_to, round, broadcast, gather, Plan, scan, unary, binary, exchange}
+use Rattle.vx_plan_nodes.specs.Plan.{Size, one_worker, group_of, Route, by_hash, Part, one, any, all, routed, Claim, equal, constant, sum, count_rows, Unary, select, sort, group, plain, union, by_hashing, by_merging, join, route_to, round, broadcast, gather, Plan, scan, unary, binary, exchange}
 
 abbrev pub t_and_d : ℕ → Relation
-t_and_d zero = record { name = []; names = []; types = Int ∷ Text ∷ Int ∷ []; keys = (0 ∷ []) ∷ []; order = 0 ∷ [] }
+t_and_d zero = record { name = []; names = []; types = Int ∷ Text ∷ Int ∷ []; keys = (0 ∷ []) ∷ []; order = rising (0 ∷ []) }
 t_and_d (suc r) = record { name = []; names = []; types = Text ∷ Int ∷ []; keys = (0 ∷ []) ∷ []; order = [] }
 
 -- two size names
@@ -27,7 +29,7 @@ h1 = by_hash (104 ∷ 49 ∷ [])
 abbrev pub h2 : Route
 h2 = by_hash (104 ∷ 50 ∷ [])
 
-abbrev pub claimed : Part → List ℕ → List (List ℕ) → Claim
+abbrev pub claimed : Part → List OrderEntry → List (List ℕ) → Claim
 claimed p order keys = record { part = p; order = order; keys = keys }
 
 -- a part alone
@@ -42,6 +44,10 @@ first = 0 ∷ []
 abbrev pub first_key : List (List ℕ)
 first_key = first ∷ []
 
+-- and as an order, rising
+abbrev pub by_first : List OrderEntry
+by_first = rising first
+
 abbrev pub v_is_7 : Unary
 v_is_7 = select (record { left = 2; test = equal; right = constant (num (pos 7)) } ∷ [])
 
@@ -55,22 +61,22 @@ shared_d n c = scan n c 1 true many
 abbrev pub select_gathered : Part → Plan
 select_gathered p = exchange 0 (part_only one) gather [] (unary 1 (part_only p) v_is_7 (shared_t 2 (part_only any)))
 
--- the same merging on these columns; the scan claims this order, the root these keys
-abbrev pub select_merged : (merge scan_order : List ℕ) → (root_keys : List (List ℕ)) → Plan
+-- the same merging by this order; the scan claims this order, the root these keys
+abbrev pub select_merged : (merge scan_order : List OrderEntry) → (root_keys : List (List ℕ)) → Plan
 select_merged merge scan_order root_keys =
-    exchange 0 (claimed one first root_keys) gather merge
-    (unary 1 (claimed any first first_key) v_is_7
+    exchange 0 (claimed one by_first root_keys) gather merge
+    (unary 1 (claimed any by_first first_key) v_is_7
     (shared_t 2 (claimed any scan_order first_key)))
 
 -- a merging gather over a sort over a grouping by k with the sum of v, over this input; what the sort and the grouping claim
 abbrev pub sums_over : (sorted grouped : Claim) → Plan → Plan
 sums_over sorted grouped below =
-    exchange 0 (claimed one first first_key) gather first
-    (unary 1 sorted (sort false first)
+    exchange 0 (claimed one by_first first_key) gather by_first
+    (unary 1 sorted (sort false by_first)
     (unary 2 grouped (group plain (1 ∷ []) (sum 2 ∷ [])) below))
 
 abbrev pub h_sorted : Claim
-h_sorted = claimed (routed h first) first first_key
+h_sorted = claimed (routed h first) by_first first_key
 
 abbrev pub h_grouped : Claim
 h_grouped = claimed (routed h first) [] first_key
@@ -92,13 +98,13 @@ sums_unrouted = sums_over h_sorted h_grouped (shared_t 3 (part_only any))
 -- a merging gather over t joined with a broadcast of d on k; the orders and keys claimed at the root and the join, by the broadcast and at d
 abbrev pub join_broadcast : (root joined sent scanned : Claim) → Plan
 join_broadcast root joined sent scanned =
-    exchange 0 root gather first
-    (binary 1 joined (join false ((1, 0) ∷ []))
-    (shared_t 2 (claimed any first first_key))
+    exchange 0 root gather by_first
+    (binary 1 joined (join by_hashing ((1, 0) ∷ []))
+    (shared_t 2 (claimed any by_first first_key))
     (exchange 3 sent (broadcast many) [] (shared_d 4 scanned)))
 
 abbrev pub t_with_d : Plan
-t_with_d = join_broadcast (claimed one first first_key) (claimed any first first_key) (claimed all [] first_key) (claimed any [] first_key)
+t_with_d = join_broadcast (claimed one by_first first_key) (claimed any by_first first_key) (claimed all [] first_key) (claimed any [] first_key)
 
 -- a gather over replicas
 abbrev pub replica_gathered : Plan
@@ -108,7 +114,7 @@ replica_gathered = exchange 0 (part_only one) gather [] (scan 1 (part_only all) 
 abbrev pub join_unlike : Plan
 join_unlike =
     exchange 0 (part_only one) gather []
-    (binary 1 (part_only any) (join false ((1, 0) ∷ []))
+    (binary 1 (part_only any) (join by_hashing ((1, 0) ∷ []))
     (exchange 2 (part_only (routed h1 (1 ∷ []))) (route_to many h1 (1 ∷ [])) [] (shared_t 3 (part_only any)))
     (exchange 4 (part_only (routed h2 (0 ∷ []))) (route_to many h2 (0 ∷ [])) [] (shared_d 5 (part_only any))))
 
@@ -120,8 +126,8 @@ round_replicated = exchange 0 (part_only one) gather [] (exchange 1 (part_only a
 abbrev pub join_off_key : Plan
 join_off_key =
     exchange 0 (part_only one) gather []
-    (binary 1 (claimed any [] first_key) (join false ((2, 1) ∷ []))
-    (shared_t 2 (claimed any first first_key))
+    (binary 1 (claimed any [] first_key) (join by_hashing ((2, 1) ∷ []))
+    (shared_t 2 (claimed any by_first first_key))
     (exchange 3 (claimed all [] first_key) (broadcast many) [] (shared_d 4 (claimed any [] first_key))))
 
 -- a sum of texts, and a union of unlike types
@@ -146,7 +152,7 @@ union_two_sizes = exchange 0 (part_only one) gather [] (binary 1 (part_only any)
 -- on one worker: the sums of t by k, joined with d
 abbrev pub sums_with_d : Plan
 sums_with_d =
-    binary 0 (part_only one) (join false ((0, 0) ∷ []))
+    binary 0 (part_only one) (join by_hashing ((0, 0) ∷ []))
     (unary 1 (part_only one) (group plain (1 ∷ []) (sum 2 ∷ [])) (scan 2 (part_only one) 0 false one_worker))
     (scan 3 (part_only one) 1 false one_worker)
 
@@ -155,16 +161,20 @@ abbrev pub rows_counted : Plan
 rows_counted = unary 0 (part_only one) (group plain [] (count_rows ∷ [])) (scan 1 (part_only one) 0 false one_worker)
 
 -- on one worker, total: a merge join of t and d, both sorted on k
-abbrev pub merge_joined : (right_order : List ℕ) → Plan → Plan
+abbrev pub merge_joined : (right_order : List OrderEntry) → Plan → Plan
 merge_joined right_order right =
-    binary 0 (claimed one (1 ∷ 0 ∷ []) first_key) (join true ((1, 0) ∷ []))
-    (unary 1 (claimed one (1 ∷ 0 ∷ []) first_key) (sort false (1 ∷ 0 ∷ [])) (scan 2 (claimed one [] first_key) 0 false one_worker)) right
+    binary 0 (claimed one (rising (1 ∷ 0 ∷ [])) first_key) (join (by_merging (false ∷ [])) ((1, 0) ∷ []))
+    (unary 1 (claimed one (rising (1 ∷ 0 ∷ [])) first_key) (sort false (rising (1 ∷ 0 ∷ []))) (scan 2 (claimed one [] first_key) 0 false one_worker)) right
 
 abbrev pub d_sorted : Plan
-d_sorted = unary 3 (claimed one first first_key) (sort false first) (scan 4 (claimed one [] first_key) 1 false one_worker)
+d_sorted = unary 3 (claimed one by_first first_key) (sort false by_first) (scan 4 (claimed one [] first_key) 1 false one_worker)
 
 abbrev pub d_unsorted : Plan
 d_unsorted = scan 3 (claimed one [] first_key) 1 false one_worker
+
+-- t's order by v, falling
+abbrev pub v_falls : List OrderEntry
+v_falls = record { column = 2; falling = true } ∷ []
 
 abbrev pub one_row : Val → Val → Val → Row
 one_row x y z = x ∷ y ∷ z ∷ []

@@ -20,7 +20,7 @@ module _ (db : ℕ → List Row) (sizes : ℕ → ℕ) where
   most_rows (scan n c r m z) = length (db r)
   most_rows (unary n c op p) = most_rows p
   most_rows (binary n c union p q) = most_rows p + most_rows q
-  most_rows (binary n c (join merging on) p q) = most_rows p * most_rows q
+  most_rows (binary n c (join m on) p q) = most_rows p * most_rows q
   most_rows (binary n c (semi_join matched on conditions) p q) = most_rows p
   most_rows (exchange n c k merge p) = workers sizes (size p) * most_rows p
 

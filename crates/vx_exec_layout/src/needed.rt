@@ -71,7 +71,7 @@ fn work_of(node: &TypedNode, worker_groups: &[u32], rows: &[u64]) -> Work
             let right = work_of(right, worker_groups, rows);
             match binary {
                 Binary::Union => both_work(sum(left.rows, right.rows), left, right),
-                Binary::HashJoin(_) | Binary::MergeJoin(_) => {
+                Binary::HashJoin(_) | Binary::MergeJoin(_, _) => {
                     both_work(product(left.rows, right.rows), left, right)
                 }
                 Binary::SemiJoin(_, _) | Binary::AntiJoin(_, _) => {

@@ -1,6 +1,7 @@
 //! The operators of the nodes of a plan.
 
 ghost use Rattle.std.specs.Prelude.{◌≡◌, ◌≤◌, true, ℕ, length, map, IfOk};
+ghost use Rattle.vx_rows_values.specs.Order.{order_columns};
 ghost use Rattle.vx_rows.specs.View.{AreColumns};
 ghost use Rattle.vx_plan_nodes.specs.Conditions.{conditions_of};
 ghost use Rattle.vx_plan_nodes.specs.Plan.{semi_join};
@@ -60,9 +61,9 @@ pub fn unary_operator(
             let distinct = FirstRows::source(alloc, seed, number, columns, input)?;
             Ok(Operator::of(number, OperatorKind::Distinct(distinct)))
         }
-        Unary::Sort(phase, columns) => {
-            let columns = Vec::from_slice(alloc, columns.as_slice())?;
-            let sort = Sort::new(alloc, number, *phase, columns, input)?;
+        Unary::Sort(phase, order) => {
+            let order = Vec::from_slice(alloc, order.as_slice())?;
+            let sort = Sort::new(alloc, number, *phase, order, input)?;
             Ok(Operator::of(number, OperatorKind::Sort(sort)))
         }
         Unary::Group(phase, by, aggregates) => {
@@ -149,8 +150,9 @@ pub fn binary_operator(
             let join = HashJoining::source(alloc, seed, number, on, left, right)?;
             Ok(Operator::of(number, OperatorKind::HashJoin(join)))
         }
-        Binary::MergeJoin(on) => {
-            let join = MergeJoin::new(alloc, number, on.as_slice(), left, right)?;
+        Binary::MergeJoin(on, falls) => {
+            let falls = falls.as_slice();
+            let join = MergeJoin::new(alloc, number, on.as_slice(), falls, left, right)?;
             Ok(Operator::of(number, OperatorKind::MergeJoin(join)))
         }
         Binary::SemiJoin(on, conditions) => {
@@ -183,7 +185,7 @@ pub fn consumer_operator(
 ) -> Result<Operator, AllocError>
     requires some { 1 ≤ producers }
     requires few { producers ≤ max_group_workers }
-    requires columns { AreColumns (length types.items) exchange.now.merge.items }
+    requires columns { AreColumns (length types.items) (order_columns exchange.now.merge.items) }
     requires merges { may_merge (kind_of exchange.now.kind) exchange.now.merge.items ≡ true }
     ensures op { IfOk result (λ o. operator_op o
         ≡ receive (record { exchange = number; place = place; producers = producers; types = types.items; merge = exchange.now.merge.items; in_order = is_concat (kind_of exchange.now.kind) })) }

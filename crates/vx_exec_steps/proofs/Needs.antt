@@ -3,6 +3,7 @@ use Rattle.std.proofs.Common.{ℕ, zero, suc, ◌≡◌, ◌<◌, ◌≤◌, ◌
 use Rattle.std.proofs.Math.Path.{fun_ext}
 use Rattle.std.proofs.Math.Nat.{mul-le-mul_left, mul-le-mul_right, mul-div-le}
 use Rattle.std.proofs.lemmas.Nat.{mul-le}
+use Rattle.vx_rows_values.specs.declared.order.OrderEntry.{OrderEntry}
 use Rattle.vx_rows_values.specs.Values.{Row}
 use Rattle.vx_plan_nodes.specs.Plan.{ExchangeKind, Claim, Plan, scan, unary, binary, exchange, Binary, union, join, semi_join, size, size_eq, target}
 use Rattle.vx_plan_nodes.specs.Streams.{workers}
@@ -158,7 +159,7 @@ two-needs S m n c op p q f h t a b = record { rows = rows op; turns = turns }
   where
     rows : (op : Binary) → frag_most (both (two_op n op) f h) (after_trace m t no-more) ≤ most_rows S.db S.sizes (binary n c op p q)
     rows union = let x = a.rows in let y = b.rows in omega (arith, x, y)
-    rows (join merging on) = mul-le (frag_most f (after_trace m t no-more)) (frag_most h (after_trace m t no-more)) (most_rows S.db S.sizes p) (most_rows S.db S.sizes q) a.rows b.rows
+    rows (join method on) = mul-le (frag_most f (after_trace m t no-more)) (frag_most h (after_trace m t no-more)) (most_rows S.db S.sizes p) (most_rows S.db S.sizes q) a.rows b.rows
     rows (semi_join matched on conditions) = a.rows
 
     turns : frag_idle (both (two_op n op) f h) (after_trace m t no-more) + arrived (both (two_op n op) f h) t ≤ most_turns S.db S.sizes (binary n c op p q)
@@ -174,7 +175,7 @@ module _ (S : RunModel) (set : IsSet S) (m : ℕ → ℕ → List Row) (em : m �
     (few : (a : ℕ) → a < total → (x i : ℕ) → AreFewPackets ((trace_at ts a).came x i))
     (sends : (a : ℕ) → a < total → (j : ℕ) → length (rows_of ((trace_at ts a).sent j)) ≤ frag_most (roles a).frag (after_trace m (trace_at ts a) no-more)) where
   -- what came to a consumer end, where this came to the producers below it
-  exchange-needs : (n : ℕ) (c : Claim) (k : ExchangeKind) (merge : List ℕ) (p : Plan) (top next i : ℕ) → Wired S w (exchange n c k merge p) top next → RolesBelow S roles (exchange n c k merge p) next
+  exchange-needs : (n : ℕ) (c : Claim) (k : ExchangeKind) (merge : List OrderEntry) (p : Plan) (top next i : ℕ) → Wired S w (exchange n c k merge p) top next → RolesBelow S roles (exchange n c k merge p) next
       → next + (workers S.sizes (size p) + workers_below S.sizes p) ≤ total → top + i < total
       → ((j : ℕ) → j < workers S.sizes (size p) → IsWithinNeeds S m p (fragment S j p) (trace_at ts (next + j)))
       → IsWithinNeeds S m (exchange n c k merge p) (fragment S i (exchange n c k merge p)) (trace_at ts (top + i))

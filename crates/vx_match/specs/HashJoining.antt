@@ -1,10 +1,10 @@
 -- What a caller sees of the kernel of a hash join, and what it has read and built.
-use Rattle.std.specs.Prelude.{◌≡◌, ℕ, ◌+◌, ◌≤◌, false, List, ◌++◌, length, map}
+use Rattle.std.specs.Prelude.{◌≡◌, ℕ, ◌+◌, ◌≤◌, List, ◌++◌, length, map}
 use Rattle.std.proofs.Common.{le_refl, add-le-add}
 use Rattle.vx_rows_values.specs.declared.value.ColType.{ColType}
 use Rattle.vx_rows_values.specs.Values.{Row}
 use Rattle.vx_rows.specs.View.{AreColumns}
-use Rattle.vx_plan_nodes.specs.Plan.{Binary, join}
+use Rattle.vx_plan_nodes.specs.Plan.{Binary, join, by_hashing}
 use Rattle.vx_match_join.specs.Build.{Built}
 use Rattle.vx_ops.specs.Turn.{Shape}
 
@@ -25,7 +25,7 @@ pub record IsHashJoining (on : List (ℕ × ℕ)) (left_columns : List ℕ) (lef
   pub of_right : AreColumns (length right) (map (λ p. p.1) on)
 
 abbrev pub hash_joining : HashJoiningView → Binary
-hash_joining s = join false s.on
+hash_joining s = join by_hashing s.on
 
 abbrev pub hash_joining_types : HashJoiningView → Shape
 hash_joining_types s = record { left = s.left; right = s.right; out = s.left ++ s.right }

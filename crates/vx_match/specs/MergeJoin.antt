@@ -1,7 +1,7 @@
 -- When a merge join may have received and returned what a ledger says.
-use Rattle.std.specs.Prelude.{◌≡◌, ◌≤◌, ℕ, ◌+◌, ◌*◌, Bool, true, false, List, ◌++◌, length, map}
+use Rattle.std.specs.Prelude.{◌≡◌, ◌≤◌, ℕ, ◌+◌, ◌*◌, Bool, true, false, List, ◌++◌, length}
 use Rattle.std.proofs.Common.{le_refl, add-le-add, mul-le-mul}
-use Rattle.vx_plan_nodes.specs.Plan.{join}
+use Rattle.vx_plan_nodes.specs.Plan.{join, by_merging, left_order, right_order}
 use Rattle.vx_match_merging.specs.Merged.{MergeView, HasJoined, merge_need}
 use Rattle.vx_match_merging.specs.AtHand.{lefts_at_hand, rows_at_hand}
 use Rattle.vx_match_merging.specs.declared.merging.MergeFault.{MergeFault}
@@ -26,22 +26,23 @@ abbrev pub over_of : Bool → StreamState
 over_of true = Ended
 over_of false = Running
 
--- the kernel joins on these pairs of columns, and it has received and returned what the ledger says
-pub record Merges (on : List (ℕ × ℕ)) (k : MergeView) (l : Ledger) : Type 0 where
+-- the kernel joins on these pairs of columns, each rising or falling, and it has received and returned what the ledger says
+pub record Merges (falls : List Bool) (on : List (ℕ × ℕ)) (k : MergeView) (l : Ledger) : Type 0 where
   pub left_over : l.left.over ≡ over_of k.left_ended
   pub right_over : l.right.over ≡ over_of k.right_ended
-  pub lefts_are : k.lefts ≡ map (λ p. p.0) on
-  pub rights_are : k.rights ≡ map (λ p. p.1) on
+  pub directed : length falls ≡ length on
+  pub lefts_are : k.lefts ≡ left_order falls on
+  pub rights_are : k.rights ≡ right_order falls on
   pub joined : HasJoined k l.left.rows l.right.rows l.gave.rows
 
 -- it stands so; while it runs so does its kernel; and what is known of any source
-pub record IsMergeJoined (n : ℕ) (on : List (ℕ × ℕ)) (k : MergeView) (over : StreamState) (l : Ledger) : Type 0 where
+pub record IsMergeJoined (n : ℕ) (falls : List Bool) (on : List (ℕ × ℕ)) (k : MergeView) (over : StreamState) (l : Ledger) : Type 0 where
   pub stands : l.gave.over ≡ over
-  pub runs : over ≡ Running → Merges on k l
-  pub abides : Abides (two_op n (join true on)) l
+  pub runs : over ≡ Running → Merges falls on k l
+  pub abides : Abides (two_op n (join (by_merging falls) on)) l
 
 abbrev pub merge_join_op : MergeJoin → Op
-merge_join_op s = two_op s.node (join true s.on.items)
+merge_join_op s = two_op s.node (join (by_merging s.falls.items) s.on.items)
 
 abbrev pub merge_join_types : MergeJoin → Shape
 merge_join_types s = record { left = s.kernel.left.types; right = s.kernel.right.types; out = s.kernel.left.types ++ s.kernel.right.types }
@@ -97,7 +98,7 @@ own_where need.Left = 0
 own_where need.Right = 0
 
 abbrev pub MergeJoinStands : MergeJoin → Ledger → Type 0
-MergeJoinStands s l = IsMergeJoined s.node s.on.items s.kernel s.over l
+MergeJoinStands s l = IsMergeJoined s.node s.falls.items s.on.items s.kernel s.over l
 
 pub merge_join_abides : (s : MergeJoin) (l : Ledger) → MergeJoinStands s l → Abides (merge_join_op s) l
 merge_join_abides s l h = h.abides

@@ -58,7 +58,7 @@ impl Model for HashJoining {
 impl HashJoining {
     ghost use Rattle.std.specs.Prelude.{◌++◌, false};
     ghost use Rattle.vx_rows.specs.View.{AreColumns};
-    ghost use Rattle.vx_plan_nodes.specs.Plan.{join};
+    ghost use Rattle.vx_plan_nodes.specs.Plan.{join, by_hashing};
     ghost use Rattle.vx_ops.specs.Ledger.{two_op};
     ghost use Rattle.vx_ops.specs.Turn.{fresh_ledger};
     ghost use Rattle.vx_ops.specs.Starts.{Starts};
@@ -77,7 +77,7 @@ impl HashJoining {
         requires left { AreColumns (length left.now) (map (λ (p : ℕ × ℕ). p.0) on.items) }
         requires right { AreColumns (length right.now) (map (λ (p : ℕ × ℕ). p.1) on.items) }
         ensures stands { IfOk result (λ s. HashJoinStands s fresh_ledger) }
-        ensures op { IfOk result (λ s. hash_join_op s ≡ two_op node (join false on.items)) }
+        ensures op { IfOk result (λ s. hash_join_op s ≡ two_op node (join by_hashing on.items)) }
         ensures types { IfOk result (λ s. hash_join_types s ≡ record { left = left.now; right = right.now; out = left.now ++ right.now }) }
         ensures starts { IfOk result (λ s. Starts (hash_join_meaning s)) }
     {

@@ -1,13 +1,14 @@
 //! The merge join, a batch at a time (Blasgen and Eswaran, 1977).
 
-ghost use Rattle.std.specs.Prelude.{◌≡◌};
+ghost use Rattle.std.specs.Prelude.{◌≡◌, IfOk};
+ghost use Rattle.vx_plan_nodes.specs.Plan.{left_order, right_order};
 ghost use Rattle.vx_match.specs.MergeJoin.{fault_of};
 
 use std::alloc::{AllocError, Global};
 use vx_match_merging::{MergeFault, MergeNeed, MergeRows};
 use vx_ops::{Code, Fault, Got, Polled, Source, StreamState, Want};
 use vx_ops_kernels::{left_columns, right_columns};
-use vx_rows_values::ColType;
+use vx_rows_values::{ColType, OrderEntry, in_directions};
 use vx_rows_views::Rows;
 
 // A batch of joined rows is cut once it has `MOST` rows.
@@ -16,13 +17,15 @@ const MOST: usize = 65_536;
 /// Calls: `new (wants turn)*`.
 ///
 /// Returns each row of its left input joined with the rows of its right input that agree with it on pairs of columns. Both
-/// inputs must rise on these, and are read to their end: it fails where one of them falls.
+/// inputs must be in order on these, each pair rising or falling in both, and are read to their end: it fails where one of them
+/// is not in order.
 ///
 /// It never hashes. It keeps the batch at hand of each input, and of the right rows before that only those with the key of
 /// the left row at hand.
 pub struct MergeJoin {
     node: u32,
     on: Vec<(usize, usize)>,
+    falls: Vec<bool>,
     kernel: MergeRows,
     over: StreamState,
 }
@@ -32,6 +35,7 @@ impl Drop for MergeJoin {
         let MergeJoin {
             node: _,
             on: _,
+            falls: _,
             kernel: _,
             over: _,
         } = self;
@@ -39,9 +43,9 @@ impl Drop for MergeJoin {
 }
 
 impl MergeJoin {
-    ghost use Rattle.std.specs.Prelude.{◌≡◌, ◌++◌, length, map, true, IfOk};
+    ghost use Rattle.std.specs.Prelude.{◌≡◌, ◌++◌, length, map, IfOk};
     ghost use Rattle.vx_rows.specs.View.{AreColumns};
-    ghost use Rattle.vx_plan_nodes.specs.Plan.{join};
+    ghost use Rattle.vx_plan_nodes.specs.Plan.{join, by_merging};
     ghost use Rattle.vx_match_merging.specs.Merged.{merge_need};
     ghost use Rattle.vx_match_merging.specs.declared.merging.MergeNeed.TheVariants as need;
     ghost use Rattle.vx_ops.specs.Ledger.{Ledger, two_op};
@@ -53,28 +57,33 @@ impl MergeJoin {
     ghost use Rattle.vx_ops.specs.Starts.{Starts};
     ghost use Rattle.vx_match.specs.MergeJoin.{MergeJoinStands, merge_join_op, merge_join_types, merge_join_most, merge_join_idle, own_where, merge_join_meaning};
 
-    /// A merge join on these pairs of a left and a right column, over rows of these types, at the node with this number,
-    /// to which nothing came.
+    /// A merge join on these pairs of a left and a right column, of which these say whether they fall, over rows of these types,
+    /// at the node with this number, to which nothing came.
     pub fn new(
         alloc: Global,
         node: u32,
         on: &[(usize, usize)],
+        falls: &[bool],
         left: &[ColType],
         right: &[ColType],
     ) -> Result<MergeJoin, AllocError>
         requires left { AreColumns (length left.now) (map (λ p. p.0) on.now) }
         requires right { AreColumns (length right.now) (map (λ p. p.1) on.now) }
+        requires falls { length falls.now ≡ length on.now }
         ensures stands { IfOk result (λ s. MergeJoinStands s fresh_ledger) }
-        ensures op { IfOk result (λ s. merge_join_op s ≡ two_op node (join true on.now)) }
+        ensures op { IfOk result (λ s. merge_join_op s ≡ two_op node (join (by_merging falls.now) on.now)) }
         ensures types { IfOk result (λ s. merge_join_types s ≡ record { left = left.now; right = right.now; out = left.now ++ right.now }) }
         ensures starts { IfOk result (λ s. Starts (merge_join_meaning s)) }
     {
-        let lefts = left_columns(alloc, on)?;
-        let rights = right_columns(alloc, on)?;
+        let lefts = left_order(alloc, on, falls)?;
+        let rights = right_order(alloc, on, falls)?;
         let kernel = MergeRows::new(alloc, lefts, left, rights, right)?;
+        let on = Vec::from_slice(alloc, on)?;
+        let falls = Vec::from_slice(alloc, falls)?;
         Ok(MergeJoin {
             node,
-            on: Vec::from_slice(alloc, on)?,
+            on,
+            falls,
             kernel,
             over: StreamState::Running,
         })
@@ -262,6 +271,30 @@ impl Source for MergeJoin {
             },
         }
     }
+}
+
+// The order in which a merge join has to have its left input.
+fn left_order(
+    alloc: Global,
+    on: &[(usize, usize)],
+    falls: &[bool],
+) -> Result<Vec<OrderEntry>, AllocError>
+    ensures { IfOk result (λ v. v.items ≡ left_order falls.now on.now) }
+{
+    let columns = left_columns(alloc, on)?;
+    in_directions(alloc, columns.as_slice(), falls)
+}
+
+// The order in which a merge join has to have its right input.
+fn right_order(
+    alloc: Global,
+    on: &[(usize, usize)],
+    falls: &[bool],
+) -> Result<Vec<OrderEntry>, AllocError>
+    ensures { IfOk result (λ v. v.items ≡ right_order falls.now on.now) }
+{
+    let columns = right_columns(alloc, on)?;
+    in_directions(alloc, columns.as_slice(), falls)
 }
 
 // The fault of a merge join at a node.

@@ -1,53 +1,62 @@
--- Rows rise where their keys do, and where each chunk does and none begins below the one before it.
-use Rattle.std.proofs.Common.{◌≡◌, ℕ, ℤ, pos, suc, ◌+◌, ◌-◌, ◌<◌, ◌≤◌, Bool, true, false, List, [], refl, sym, ap, ap₂, ◌∙◌, length, map, take, get_or, inl, inr, arith, tests, true≢false, not, is_lt, is_le, Some}
+-- Rows rise where their keys do, and where each chunk does and none begins in front of where the one before it ends.
+use Rattle.std.proofs.Common.{◌≡◌, ℕ, ℤ, pos, suc, ◌+◌, ◌-◌, ◌<◌, ◌≤◌, Bool, true, false, List, [], ◌∷◌, refl, sym, ap, ap₂, ◌∙◌, length, map, take, get_or, inl, inr, arith, tests, true≢false, not, is_lt, is_le}
 use Rattle.std.specs.List.{slice_range, IsAllAdjacentAnswer}
-use Rattle.std.specs.Ordering.{int_cmp, is_some_and}
+use Rattle.std.specs.Ordering.{int_cmp}
 use Rattle.std.proofs.lemmas.Bool.{cases_lt}
 use Rattle.std.proofs.lemmas.List.{get_or-map, length-map, length-append}
 use Rattle.std.proofs.lemmas.List.Folds.{length-flat_map-take}
-use Rattle.vx_rows_values.specs.Values.{Row, row_cmp, pick}
-use Rattle.vx_rows_values.specs.Order.{compare_on, sorted}
+use Rattle.vx_rows_values.specs.declared.order.OrderEntry.{OrderEntry}
+use Rattle.vx_rows_values.specs.Values.{Row, num, pick}
+use Rattle.vx_rows_values.specs.Order.{compare_values, compare_on, sorted}
 use Rattle.vx_rows.specs.View.{RowsView}
-use Rattle.vx_rows_values.proofs.Order.{NoFall, sorted_from, sorted_neighbours, not_sorted}
+use Rattle.vx_rows_values.proofs.SortedFacts.{NoFall, sorted_from, sorted_neighbours, not_sorted}
 use Rattle.vx_rows_views.specs.Chunks.{all_rows}
 use Rattle.vx_rows_views.proofs.Facts.{length-slice, get_or-slice}
 use Rattle.vx_rows_views.proofs.Whole.{next-rows, spot-row}
 use Rattle.vx_match_keys.specs.Columns.{number_key}
+use Rattle.vx_match_keys.specs.Rising.{IsRiseAnswer}
 
--- no key but the first is smaller than the one before it
-abbrev pub KeysRise : List Row → ℕ → Type 0
-KeysRise keys n = (k : ℕ) → suc k < n → is_lt (row_cmp (get_or keys (suc k) []) (get_or keys k [])) ≡ false
+-- one column in this direction
+abbrev pub one_column : ℕ → (falling : Bool) → List OrderEntry
+one_column c falling = record { column = c; falling = falling } ∷ []
 
--- whether numbers rise, as `is_sorted` of a slice tells it
-abbrev pub TellsRise : List ℤ → Bool → Type 0
-TellsRise numbers r = IsAllAdjacentAnswer (λ x y b. is_some_and is_le (Some (int_cmp x y)) ≡ b) numbers r
+-- no key but the first, of one value each, goes before the one in front of it
+abbrev pub KeysRise : (falling : Bool) → List Row → ℕ → Type 0
+KeysRise falling keys n = NoFall (one_column 0 falling) keys n
 
--- of two numbers, as keys, the second is smaller or the first is at most the second
-fall-key : (x y : ℤ) → is_lt (row_cmp (number_key y) (number_key x)) ≡ not (is_le (int_cmp x y))
-fall-key x y = grind (arith, tests)
+-- of two numbers, as keys, the second goes before the first, or they are in order
+fall-key : (falling : Bool) (x y : ℤ) → is_lt (compare_on (one_column 0 falling) (number_key y) (number_key x)) ≡ not (is_le (compare_values falling (num x) (num y)))
+fall-key false x y = grind (arith, tests)
+fall-key true x y = grind (arith, tests)
+
+-- the answer of `is_sorted_by` for a test
+pub turned : (numbers : List ℤ) (r : Bool) → IsAllAdjacentAnswer (λ x y b. b ≡ is_le (int_cmp y x)) numbers r → IsRiseAnswer true numbers r
+turned numbers true h = λ k d l. sym (h k d l)
+turned numbers false h = (h.0, h.1, λ d. sym (h.2 d))
 
 -- the keys of rows are as these
-module _ (cols : List ℕ) (rows keys : List Row) (e : keys ≡ map (pick cols) rows) where
-  key-at : (i : ℕ) → i < length keys → get_or keys i [] ≡ pick cols (get_or rows i [])
-  key-at i h = ap (λ ks. get_or ks i []) e ∙ get_or-map (pick cols) rows i [] [] (let m = ap length e ∙ length-map rows (pick cols) in omega (arith, m, h))
+module _ (c : ℕ) (falling : Bool) (rows keys : List Row) (e : keys ≡ map (pick (c ∷ [])) rows) where
+  key-at : (i : ℕ) → i < length keys → get_or keys i [] ≡ pick (c ∷ []) (get_or rows i [])
+  key-at i h = ap (λ ks. get_or ks i []) e ∙ get_or-map (pick (c ∷ [])) rows i [] [] (let m = ap length e ∙ length-map rows (pick (c ∷ [])) in omega (arith, m, h))
 
-  key-compare : (i j : ℕ) → i < length keys → j < length keys → row_cmp (get_or keys i []) (get_or keys j []) ≡ compare_on cols (get_or rows i []) (get_or rows j [])
-  key-compare i j a b = ap₂ row_cmp (key-at i a) (key-at j b)
+  key-compare : (i j : ℕ) → i < length keys → j < length keys
+      → compare_on (one_column 0 falling) (get_or keys i []) (get_or keys j []) ≡ compare_on (one_column c falling) (get_or rows i []) (get_or rows j [])
+  key-compare i j a b = ap₂ (compare_on (one_column 0 falling)) (key-at i a) (key-at j b)
 
-  pub keys-rise : KeysRise keys (length keys) → true ≡ sorted cols rows
+  pub keys-rise : KeysRise falling keys (length keys) → true ≡ sorted (one_column c falling) rows
   keys-rise h =
-      let m = ap length e ∙ length-map rows (pick cols) in
-      sym (sorted_from cols rows (λ k l.
+      let m = ap length e ∙ length-map rows (pick (c ∷ [])) in
+      sym (sorted_from (one_column c falling) rows (λ k l.
       let near : suc k < length keys = omega (arith, m, l) in
       ap is_lt (sym (key-compare (suc k) k near (omega (arith, near)))) ∙ h k near))
 
-  pub keys-fall : (k : ℕ) → suc k < length keys → is_lt (row_cmp (get_or keys (suc k) []) (get_or keys k [])) ≡ true → false ≡ sorted cols rows
+  pub keys-fall : (k : ℕ) → suc k < length keys → is_lt (compare_on (one_column 0 falling) (get_or keys (suc k) []) (get_or keys k [])) ≡ true → false ≡ sorted (one_column c falling) rows
   keys-fall k near h =
-      let m = ap length e ∙ length-map rows (pick cols) in
-      sym (not_sorted cols rows k (omega (arith, m, near)) (ap is_lt (sym (key-compare (suc k) k near (omega (arith, near)))) ∙ h) (sorted cols rows) refl)
+      let m = ap length e ∙ length-map rows (pick (c ∷ [])) in
+      sym (not_sorted (one_column c falling) rows k (omega (arith, m, near)) (ap is_lt (sym (key-compare (suc k) k near (omega (arith, near)))) ∙ h) (sorted (one_column c falling) rows) refl)
 
 -- a block of numbers that was read from a column
-module _ (column : List Row) (block : List ℤ) (from n : ℕ) (within : from + n ≤ length column) (is : map number_key block ≡ slice_range column from (from + n)) where
+module _ (falling : Bool) (column : List Row) (block : List ℤ) (from n : ℕ) (within : from + n ≤ length column) (is : map number_key block ≡ slice_range column from (from + n)) where
   block-long : length block ≡ n
   block-long =
       let all = ap length is in
@@ -61,14 +70,14 @@ module _ (column : List Row) (block : List ℤ) (from n : ℕ) (within : from + 
       ∙ (ap (λ ks. get_or ks i []) is ∙ get_or-slice column from (from + n) i [] (omega (arith, h)))
 
   -- whether it falls behind a place
-  block-fall : (k : ℕ) → suc k < n → is_lt (row_cmp (get_or column (from + suc k) []) (get_or column (from + k) [])) ≡ not (is_le (int_cmp (get_or block k (pos 0)) (get_or block (k + 1) (pos 0))))
+  block-fall : (k : ℕ) → suc k < n → is_lt (compare_on (one_column 0 falling) (get_or column (from + suc k) []) (get_or column (from + k) [])) ≡ not (is_le (compare_values falling (num (get_or block k (pos 0))) (num (get_or block (k + 1) (pos 0)))))
   block-fall k near =
       let next : suc k ≡ k + 1 = omega arith in
-      ap is_lt (ap₂ row_cmp (sym (block-key (suc k) near)) (sym (block-key k (omega (arith, near)))))
-      ∙ (fall-key (get_or block k (pos 0)) (get_or block (suc k) (pos 0)) ∙ ap (λ j. not (is_le (int_cmp (get_or block k (pos 0)) (get_or block j (pos 0))))) next)
+      ap is_lt (ap₂ (compare_on (one_column 0 falling)) (sym (block-key (suc k) near)) (sym (block-key k (omega (arith, near)))))
+      ∙ (fall-key falling (get_or block k (pos 0)) (get_or block (suc k) (pos 0)) ∙ ap (λ j. not (is_le (compare_values falling (num (get_or block k (pos 0))) (num (get_or block j (pos 0)))))) next)
 
   -- its first number is the last of those before it
-  pub block-rises : KeysRise column (from + 1) → (r : Bool) → r ≡ true → TellsRise block r → KeysRise column (from + n)
+  pub block-rises : KeysRise falling column (from + 1) → (r : Bool) → r ≡ true → IsRiseAnswer falling block r → KeysRise falling column (from + n)
   block-rises before false e up k l = absurd (true≢false (sym e))
   block-rises before true e up k l = elim (cases_lt (suc k) (from + 1)) [
     | inl h ↦ before k h
@@ -76,20 +85,20 @@ module _ (column : List Row) (block : List ℤ) (from n : ℕ) (within : from + 
         let here : from + (k - from) ≡ k = omega (arith, h) in
         let next : from + suc (k - from) ≡ suc k = omega (arith, h) in
         let near : suc (k - from) < n = omega (arith, h, l) in
-        ap is_lt (ap₂ (λ i j. row_cmp (get_or column i []) (get_or column j [])) (sym next) (sym here)) ∙ (block-fall (k - from) near ∙ ap not (up (k - from) (pos 0) (omega (arith, near, block-long))))
+        ap is_lt (ap₂ (λ i j. compare_on (one_column 0 falling) (get_or column i []) (get_or column j [])) (sym next) (sym here)) ∙ (block-fall (k - from) near ∙ ap not (up (k - from) (pos 0) (omega (arith, near, block-long))))
   ]
 
-  pub block-falls : (cols : List ℕ) (rows : List Row) → column ≡ map (pick cols) rows → (r : Bool) → r ≡ false → TellsRise block r → false ≡ sorted cols rows
-  block-falls cols rows e true f fall = absurd (true≢false f)
-  block-falls cols rows e false f fall =
+  pub block-falls : (c : ℕ) (rows : List Row) → column ≡ map (pick (c ∷ [])) rows → (r : Bool) → r ≡ false → IsRiseAnswer falling block r → false ≡ sorted (one_column c falling) rows
+  block-falls c rows e true f fall = absurd (true≢false f)
+  block-falls c rows e false f fall =
       let k : ℕ = fall.0 in
       let near : suc k < n = omega (arith, fall.1, block-long) in
       let next : from + suc k ≡ suc (from + k) = omega arith in
-      keys-fall cols rows column e (from + k) (omega (arith, near, within))
-      (ap (λ j. is_lt (row_cmp (get_or column j []) (get_or column (from + k) []))) (sym next) ∙ (block-fall k near ∙ ap not (fall.2 (pos 0))))
+      keys-fall c falling rows column e (from + k) (omega (arith, near, within))
+      (ap (λ j. is_lt (compare_on (one_column 0 falling) (get_or column j []) (get_or column (from + k) []))) (sym next) ∙ (block-fall k near ∙ ap not (fall.2 (pos 0))))
 
 -- rows that do not fall up to where one of the tables begins that they lie in, nor there
-module _ (cols : List ℕ) (ts : List RowsView) (rows : List Row) (whole : all_rows ts ≡ rows) (i at : ℕ) (t : RowsView) (there : i < length ts) (is : t ≡ get_or ts i t)
+module _ (order : List OrderEntry) (ts : List RowsView) (rows : List Row) (whole : all_rows ts ≡ rows) (i at : ℕ) (t : RowsView) (there : i < length ts) (is : t ≡ get_or ts i t)
     (place : at ≡ length (all_rows (take i ts))) where
   -- it lies within the rows, and the next one begins behind it
   pub table-within : at + length t.rows ≤ length rows
@@ -108,14 +117,14 @@ module _ (cols : List ℕ) (ts : List RowsView) (rows : List Row) (whole : all_r
   row-at : (p : ℕ) → p < length t.rows → get_or rows (at + p) [] ≡ get_or t.rows p []
   row-at p h = ap (λ rs. get_or rs (at + p) []) (sym whole) ∙ spot-row ts (at + p) i p t there is h (ap (λ n. n + p) place)
 
-  inner : (b : Bool) (k : ℕ) → suc k < length t.rows → is_lt (compare_on cols (get_or rows (suc (at + k)) []) (get_or rows (at + k) [])) ≡ b
-      → is_lt (compare_on cols (get_or t.rows (suc k) []) (get_or t.rows k [])) ≡ b
+  inner : (b : Bool) (k : ℕ) → suc k < length t.rows → is_lt (compare_on order (get_or rows (suc (at + k)) []) (get_or rows (at + k) [])) ≡ b
+      → is_lt (compare_on order (get_or t.rows (suc k) []) (get_or t.rows k [])) ≡ b
   inner b k h e =
       let n : at + suc k ≡ suc (at + k) = omega arith in
-      ap is_lt (ap₂ (compare_on cols) (sym (row-at (suc k) h) ∙ ap (λ j. get_or rows j []) n) (sym (row-at k (omega (arith, h))))) ∙ e
+      ap is_lt (ap₂ (compare_on order) (sym (row-at (suc k) h) ∙ ap (λ j. get_or rows j []) n) (sym (row-at k (omega (arith, h))))) ∙ e
 
-  pub table-next : sorted cols t.rows ≡ true → NoFall cols rows at → ((k : ℕ) → suc k ≡ at → suc k < length rows → is_lt (compare_on cols (get_or rows (suc k) []) (get_or rows k [])) ≡ false)
-      → NoFall cols rows (at + length t.rows)
+  pub table-next : sorted order t.rows ≡ true → NoFall order rows at → ((k : ℕ) → suc k ≡ at → suc k < length rows → is_lt (compare_on order (get_or rows (suc k) []) (get_or rows k [])) ≡ false)
+      → NoFall order rows (at + length t.rows)
   table-next s before meet k l = elim (cases_lt (suc k) at) [
     | inl h ↦ before k h
     | inr h ↦ elim (cases_lt at (suc k)) [
@@ -123,14 +132,14 @@ module _ (cols : List ℕ) (ts : List RowsView) (rows : List Row) (whole : all_r
           let n : at + (k - at) ≡ k = omega (arith, g) in
           let m : at + suc (k - at) ≡ suc k = omega (arith, g) in
           let near : suc (k - at) < length t.rows = omega (arith, g, l) in
-          ap is_lt (ap₂ (compare_on cols) (ap (λ j. get_or rows j []) (sym m) ∙ row-at (suc (k - at)) near) (ap (λ j. get_or rows j []) (sym n) ∙ row-at (k - at) (omega (arith, near))))
-          ∙ sorted_neighbours cols t.rows s (k - at) near
+          ap is_lt (ap₂ (compare_on order) (ap (λ j. get_or rows j []) (sym m) ∙ row-at (suc (k - at)) near) (ap (λ j. get_or rows j []) (sym n) ∙ row-at (k - at) (omega (arith, near))))
+          ∙ sorted_neighbours order t.rows s (k - at) near
       | inr g ↦ meet k (omega (arith, h, g)) (omega (arith, l, table-within))
     ]
   ]
 
-  pub table-falls : sorted cols t.rows ≡ false → (b : Bool) → sorted cols rows ≡ b → b ≡ false
+  pub table-falls : sorted order t.rows ≡ false → (b : Bool) → sorted order rows ≡ b → b ≡ false
   table-falls s false e = refl
   table-falls s true e =
-      let up : sorted cols t.rows ≡ true = sorted_from cols t.rows (λ k h. inner false k h (sorted_neighbours cols rows e (at + k) (omega (arith, h, table-within)))) in
+      let up : sorted order t.rows ≡ true = sorted_from order t.rows (λ k h. inner false k h (sorted_neighbours order rows e (at + k) (omega (arith, h, table-within)))) in
       absurd (true≢false (sym up ∙ s))

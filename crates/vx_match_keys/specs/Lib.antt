@@ -6,3 +6,4 @@ pub mod Hashed
 pub mod Kept
 pub mod Direct
 pub mod Found
+pub mod Rising

@@ -1,3 +1,4 @@
+pub mod KeyOrder
 pub mod RiseFacts
 pub mod MergeFacts
 pub mod MergeTurns

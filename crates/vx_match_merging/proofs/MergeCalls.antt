@@ -4,10 +4,12 @@ use Rattle.std.proofs.Common.{◌≡◌, ◌↔◌, ℕ, zero, suc, ◌+◌, ◌
 use Rattle.std.proofs.lemmas.Bool.{cases_lt}
 use Rattle.std.proofs.lemmas.List.{take_all, take-append-drop}
 use Rattle.std.proofs.Math.Seq.{take-append_seam, drop-append_seam}
-use Rattle.vx_rows_values.specs.Values.{Row, row_cmp, pick}
-use Rattle.vx_rows_values.specs.Order.{sorted}
+use Rattle.vx_rows_values.specs.declared.order.OrderEntry.{OrderEntry}
+use Rattle.vx_rows_values.specs.Values.{Row}
+use Rattle.vx_rows_values.specs.Order.{order_columns, sorted}
 use Rattle.vx_rows.specs.View.{RowsView, row}
 use Rattle.vx_match_keys.specs.Matched.{matched}
+use Rattle.vx_match_merging.specs.Keys.{directions, key_of, key_cmp}
 use Rattle.vx_match_merging.specs.Merged.{MergeView, HasMerged, state_at, last_key, joined_rows, IsMerged, HasJoined, HoldsRun, HasSameInputs, MergeBlame, run_rows, rows_at}
 use Rattle.vx_match_merging.specs.declared.merging.MergeFault.{MergeFault}
 use Rattle.vx_match_merging.specs.declared.merging.MergeFault.TheVariants.{Falls, NoMemory}
@@ -20,8 +22,8 @@ take-none zero = refl
 take-none (suc n) = refl
 
 -- nothing came
-pub none-joined : (s : MergeView) → s.left.rows ≡ [] → s.right.rows ≡ [] → s.start ≡ 0 → s.end ≡ 0 → HasJoined s [] [] []
-none-joined s e f a b =
+pub none-joined : (s : MergeView) → directions s.lefts ≡ directions s.rights → s.left.rows ≡ [] → s.right.rows ≡ [] → s.start ≡ 0 → s.end ≡ 0 → HasJoined s [] [] []
+none-joined s same e f a b =
     let ls : (n : ℕ) → [] ++ take n s.left.rows ≡ [] = λ n. ap (take n) e ∙ take-none n in
     let rs : [] ++ take s.end s.right.rows ≡ [] = ap (take s.end) f ∙ take-none s.end in
     let none : length ([] ++ take s.end s.right.rows) ≡ 0 = ap length rs in
@@ -37,6 +39,7 @@ none-joined s e f a b =
         merged = λ _. record {
           before = [];
           run = [];
+          alike = same;
           left_rises = ap (sorted s.lefts) (ls (s.next + 1));
           right_rises = ap (sorted s.rights) rs;
           key_is = refl;
@@ -46,7 +49,7 @@ none-joined s e f a b =
           below = refl;
           equal = refl;
         };
-        holds = λ more ends up. sym (ap (flat_map (matched s.lefts s.rights (([] ++ s.right.rows) ++ more))) (ls s.next));
+        holds = λ more ends up. sym (ap (flat_map (matched (order_columns s.lefts) (order_columns s.rights) (([] ++ s.right.rows) ++ more))) (ls s.next));
       };
     }
 
@@ -56,7 +59,7 @@ not-empty [] b h e = absurd (true≢false (sym (h.1 refl) ∙ e))
 not-empty (x ∷ xs) b h e = omega arith
 
 -- the key of the last row
-pub last-at : (by : List ℕ) (t : RowsView) → 0 < length t.rows → last_key by t.rows ≡ pick by (row t (length t.rows - 1))
+pub last-at : (by : List OrderEntry) (t : RowsView) → 0 < length t.rows → last_key by t.rows ≡ key_of by (row t (length t.rows - 1))
 last-at by t some =
     let up : suc (length t.rows - 1) ≡ length t.rows = omega (arith, some) in
     ap (last_key by) (sym (ap (λ n. take n t.rows) up ∙ take_all (length t.rows) t.rows (omega arith))) ∙ last-take by t.rows (length t.rows - 1) (omega (arith, some))
@@ -67,7 +70,7 @@ stays-empty true start end e = e
 stays-empty false start end e = refl
 
 -- what is known of a run that moved on, on columns that are the merge's
-abbrev pub Moves : List ℕ → List ℕ → MergeView → ℕ → ℕ → Type 0
+abbrev pub Moves : List OrderEntry → List OrderEntry → MergeView → ℕ → ℕ → Type 0
 Moves lefts rights s start end =
     (ls passed : List Row) → sorted rights (passed ++ s.right.rows) ≡ true
     → HasMerged (state_at lefts rights (ls ++ row s.left s.next ∷ []) passed s.start s.end) (ls ++ row s.left s.next ∷ []) (passed ++ take s.end s.right.rows)
@@ -80,28 +83,28 @@ module _ (s now : MergeView) (e : s ≡ now) (earlier passed ys : List Row) (h :
   near : s.next < length s.left.rows
   near = subst (λ (m : MergeView). m.next < length m.left.rows) (sym e) at
 
-  module _ (lefts rights : List ℕ) (a : lefts ≡ s.lefts) (b : rights ≡ s.rights) (start end : ℕ) (moves : Moves lefts rights s start end) where
+  module _ (lefts rights : List OrderEntry) (a : lefts ≡ s.lefts) (b : rights ≡ s.rights) (start end : ℕ) (moves : Moves lefts rights s start end) where
     next-moved : HasMerged (state_at s.lefts s.rights (joined_rows s earlier ++ row s.left s.next ∷ []) passed start end) (joined_rows s earlier ++ row s.left s.next ∷ []) (passed ++ take end s.right.rows)
     next-moved =
-        let m : Moves s.lefts s.rights s start end = subst (λ (r : List ℕ). Moves s.lefts r s start end) b (subst (λ (l : List ℕ). Moves l rights s start end) a moves) in
+        let m : Moves s.lefts s.rights s start end = subst (λ (r : List OrderEntry). Moves s.lefts r s start end) b (subst (λ (l : List OrderEntry). Moves l rights s start end) a moves) in
         m (joined_rows s earlier) passed own.rises (next-merged s earlier passed ys own near)
 
     pub call-moved : IsMerged (record s { start = start; end = end }) earlier passed ys
     call-moved = run-moved s earlier passed ys own near start end next-moved
 
-    pub call-closed : (end < length s.right.rows → row_cmp (pick lefts (row s.left s.next)) (pick rights (row s.right end)) ≡ Less)
+    pub call-closed : (end < length s.right.rows → key_cmp (directions lefts) (key_of lefts (row s.left s.next)) (key_of rights (row s.right end)) ≡ Less)
         → (length s.right.rows ≤ end → s.right_ended ≡ true) → HoldsRun (record s { start = start; end = end }) passed
-    call-closed above shut = run-closed s earlier passed ys own near start end next-moved (λ n. (λ i. row_cmp (pick (sym a i) (row s.left s.next)) (pick (sym b i) (row s.right end))) ∙ above n) shut
+    call-closed above shut = run-closed s earlier passed ys own near start end next-moved (λ n. (λ i. key_cmp (directions (sym a i)) (key_of (sym a i) (row s.left s.next)) (key_of (sym b i) (row s.right end))) ∙ above n) shut
 
   pub call-advanced-end : length s.left.rows ≤ s.next + 1 → HoldsRun now passed → IsMerged (record s { next = s.next + 1 }) earlier passed (ys ++ run_rows now)
   call-advanced-end past run =
       subst (λ (zs : List Row). IsMerged (record s { next = s.next + 1 }) earlier passed (ys ++ zs)) (ap run_rows e)
       (advanced-end s earlier passed ys own near past (subst (λ (m : MergeView). HoldsRun m passed) (sym e) run))
 
-  module _ (more : s.next + 1 < length s.left.rows) (one two : List ℕ) (a : one ≡ s.lefts) (b : two ≡ s.lefts) (o : Ordering)
-      (is : o ≡ row_cmp (pick one (row s.left s.next)) (pick two (row s.left (s.next + 1)))) where
-    order-is : o ≡ row_cmp (pick s.lefts (row s.left s.next)) (pick s.lefts (row s.left (s.next + 1)))
-    order-is = is ∙ (λ i. row_cmp (pick (a i) (row s.left s.next)) (pick (b i) (row s.left (s.next + 1))))
+  module _ (more : s.next + 1 < length s.left.rows) (one two : List OrderEntry) (a : one ≡ s.lefts) (b : two ≡ s.lefts) (o : Ordering)
+      (is : o ≡ key_cmp (directions one) (key_of one (row s.left s.next)) (key_of two (row s.left (s.next + 1)))) where
+    order-is : o ≡ key_cmp (directions s.lefts) (key_of s.lefts (row s.left s.next)) (key_of s.lefts (row s.left (s.next + 1)))
+    order-is = is ∙ (λ i. key_cmp (directions (a i)) (key_of (a i) (row s.left s.next)) (key_of (b i) (row s.left (s.next + 1))))
 
     -- the left rows at hand rise, and so the next key is not below this one
     pub call-advanced : sorted s.lefts s.left.rows ≡ true → HoldsRun now passed → (start : ℕ) → start ≡ cond (is_lt o) s.end s.start
@@ -110,7 +113,7 @@ module _ (s now : MergeView) (e : s ≡ now) (earlier passed ys : List Row) (h :
         let after : s.next + 1 ≡ suc s.next = omega arith in
         let rise : is_le o ≡ true =
         ap is_le order-is
-        ∙ (ap (λ n. is_le (row_cmp (pick s.lefts (row s.left s.next)) (pick s.lefts (row s.left n)))) after ∙ rise-neighbours s.lefts s.left.rows s.next rises (omega (arith, more))) in
+        ∙ (ap (λ n. is_le (key_cmp (directions s.lefts) (key_of s.lefts (row s.left s.next)) (key_of s.lefts (row s.left n)))) after ∙ rise-neighbours s.lefts s.left.rows s.next rises (omega (arith, more))) in
         subst (λ (zs : List Row). IsMerged (record s { next = s.next + 1; start = start }) earlier passed (ys ++ zs)) (ap run_rows e)
         (advanced s earlier passed ys own near more o order-is rise (subst (λ (m : MergeView). HoldsRun m passed) (sym e) run) start st)
 
@@ -118,7 +121,7 @@ module _ (s now : MergeView) (e : s ≡ now) (earlier passed ys : List Row) (h :
   pub call-advanced-empty : s.next + 1 < length s.left.rows → sorted s.lefts s.left.rows ≡ true → s.start ≡ s.end → HoldsRun now passed
       → IsMerged (record s { next = s.next + 1 }) earlier passed (ys ++ run_rows now)
   call-advanced-empty more rises empty run =
-      let order = row_cmp (pick s.lefts (row s.left s.next)) (pick s.lefts (row s.left (s.next + 1))) in
+      let order = key_cmp (directions s.lefts) (key_of s.lefts (row s.left s.next)) (key_of s.lefts (row s.left (s.next + 1))) in
       call-advanced more s.lefts s.lefts refl refl order refl rises run s.start (stays-empty (is_lt order) s.start s.end empty)
 
 -- the left rows at hand rise, the right input has ended, and no right row is left for the next left row
@@ -163,12 +166,12 @@ module _ (s now : MergeView) (e : s ≡ now) (ls rs ys : List Row) (h : HasJoine
 
   -- a further batch of the left input
   module _ (done : length now.left.rows ≤ now.next) (few : s.next ≤ length s.left.rows) (runs : now.left_ended ≡ false) (batch : RowsView) (some : 0 < length batch.rows)
-      (o : Ordering) (is : o ≡ row_cmp (last_key now.lefts now.left.rows) (pick now.lefts (row batch 0))) where
+      (o : Ordering) (is : o ≡ key_cmp (directions now.lefts) (last_key now.lefts now.left.rows) (key_of now.lefts (row batch 0))) where
     all : s.next ≡ length s.left.rows
     all = let d : length s.left.rows ≤ s.next = subst (λ (m : MergeView). length m.left.rows ≤ m.next) (sym e) done in omega (arith, d, few)
 
-    order : o ≡ row_cmp (last_key s.lefts s.left.rows) (pick s.lefts (row batch 0))
-    order = subst (λ (m : MergeView). o ≡ row_cmp (last_key m.lefts m.left.rows) (pick m.lefts (row batch 0))) (sym e) is
+    order : o ≡ key_cmp (directions s.lefts) (last_key s.lefts s.left.rows) (key_of s.lefts (row batch 0))
+    order = subst (λ (m : MergeView). o ≡ key_cmp (directions m.lefts) (last_key m.lefts m.left.rows) (key_of m.lefts (row batch 0))) (sym e) is
 
     live : s.left_ended ≡ false
     live = subst (λ (m : MergeView). m.left_ended ≡ false) (sym e) runs
@@ -207,7 +210,7 @@ module _ (s now : MergeView) (e : s ≡ now) (ls rs ys : List Row) (h : HasJoine
       }
 
   -- a further batch of the right input
-  module _ (right : RowsView) (batch : List Row) (from : ℕ) (columns : List ℕ) (a : columns ≡ s.rights) (is : right.rows ≡ s.right.rows ++ batch) (long : from ≡ length s.right.rows) (up : sorted s.rights batch ≡ true) (b : Bool)
+  module _ (right : RowsView) (batch : List Row) (from : ℕ) (columns : List OrderEntry) (a : columns ≡ s.rights) (is : right.rows ≡ s.right.rows ++ batch) (long : from ≡ length s.right.rows) (up : sorted s.rights batch ≡ true) (b : Bool)
       (tests : sorted columns (take from right.rows) ≡ true → sorted columns (drop from right.rows) ≡ true → b ≡ sorted columns right.rows) where
     tested : b ≡ sorted s.rights right.rows
     tested =

@@ -4,11 +4,12 @@ use Rattle.std.proofs.Math.Seq.{take-add}
 use Rattle.std.proofs.lemmas.List.{take_more, take_all, take-append-drop, take-append-le, length-append, length-drop, length-take-le}
 use Rattle.std.proofs.lemmas.Bool.Decides.{nat_tests}
 use Rattle.std.proofs.lemmas.List.Concat.{flat_map-append}
-use Rattle.vx_rows_values.specs.Values.{Row, row_cmp, pick}
-use Rattle.vx_rows_values.specs.Order.{sorted}
+use Rattle.vx_rows_values.specs.Values.{Row}
+use Rattle.vx_rows_values.specs.Order.{order_columns, sorted}
 use Rattle.vx_rows.specs.View.{RowsView, row}
 use Rattle.vx_match_keys.specs.Matched.{matched}
 use Rattle.vx_match_merging.specs.declared.merging.MergeNeed.TheVariants as need
+use Rattle.vx_match_merging.specs.Keys.{directions, key_of, key_cmp}
 use Rattle.vx_match_merging.specs.Merged.{MergeView, HasMerged, state_at, last_key, begun, joined_rows, IsMerged, HasJoined, HoldsRun, run_rows, merge_need}
 use Rattle.vx_match_merging.proofs.RiseFacts.{rise-behind, fall-front, last-back, last-push}
 use Rattle.vx_match_merging.proofs.MergeFacts.{left-next, left-fall, holds-run}
@@ -55,7 +56,7 @@ module _ (s : MergeView) (earlier passed ys : List Row) (h : IsMerged s earlier 
     -- and is closed
     pub run-closed : (start end : ℕ)
         → HasMerged (state_at s.lefts s.rights (joined_rows s earlier ++ row s.left s.next ∷ []) passed start end) (joined_rows s earlier ++ row s.left s.next ∷ []) (passed ++ take end s.right.rows)
-        → (end < length s.right.rows → row_cmp (pick s.lefts (row s.left s.next)) (pick s.rights (row s.right end)) ≡ Less)
+        → (end < length s.right.rows → key_cmp (directions s.lefts) (key_of s.lefts (row s.left s.next)) (key_of s.rights (row s.right end)) ≡ Less)
         → (length s.right.rows ≤ end → s.right_ended ≡ true) → HoldsRun (record s { start = start; end = end }) passed
     run-closed start end m above shut =
         λ more ends rise. holds-run s.lefts s.rights (joined_rows s earlier) passed s.right.rows (row s.left s.next) start end m above more (λ past. ends (shut past)) rise
@@ -66,9 +67,9 @@ module _ (s : MergeView) (earlier passed ys : List Row) (h : IsMerged s earlier 
 
     -- what was returned, with the next left row's rows
     holds-next : HoldsRun s passed → (more : List Row) → (s.right_ended ≡ true → more ≡ []) → sorted s.rights ((passed ++ s.right.rows) ++ more) ≡ true
-        → ys ++ run_rows s ≡ flat_map (matched s.lefts s.rights ((passed ++ s.right.rows) ++ more)) (earlier ++ take (s.next + 1) s.left.rows)
+        → ys ++ run_rows s ≡ flat_map (matched (order_columns s.lefts) (order_columns s.rights) ((passed ++ s.right.rows) ++ more)) (earlier ++ take (s.next + 1) s.left.rows)
     holds-next run more ends rise =
-        let f = matched s.lefts s.rights ((passed ++ s.right.rows) ++ more) in
+        let f = matched (order_columns s.lefts) (order_columns s.rights) ((passed ++ s.right.rows) ++ more) in
         let l = row s.left s.next in
         let one : run_rows s ≡ f l = ap (map (λ r. l ++ r)) (sym (run more ends rise)) in
         (λ i. h.holds more ends rise i ++ one i)
@@ -88,10 +89,10 @@ module _ (s : MergeView) (earlier passed ys : List Row) (h : IsMerged s earlier 
           holds = holds-next run;
         }
 
-    module _ (more : s.next + 1 < length s.left.rows) (o : Ordering) (is : o ≡ row_cmp (pick s.lefts (row s.left s.next)) (pick s.lefts (row s.left (s.next + 1)))) where
-      last-is : o ≡ row_cmp (last_key s.lefts (begun s earlier)) (pick s.lefts (row s.left (s.next + 1)))
+    module _ (more : s.next + 1 < length s.left.rows) (o : Ordering) (is : o ≡ key_cmp (directions s.lefts) (key_of s.lefts (row s.left s.next)) (key_of s.lefts (row s.left (s.next + 1)))) where
+      last-is : o ≡ key_cmp (directions s.lefts) (last_key s.lefts (begun s earlier)) (key_of s.lefts (row s.left (s.next + 1)))
       last-is =
-          is ∙ ap (λ k. row_cmp k (pick s.lefts (row s.left (s.next + 1))))
+          is ∙ ap (λ k. key_cmp (directions s.lefts) k (key_of s.lefts (row s.left (s.next + 1))))
           (sym (ap (last_key s.lefts) (begun-is s earlier near) ∙ last-push s.lefts (joined_rows s earlier) (row s.left s.next)))
 
       one-more : begun s earlier ++ row s.left (s.next + 1) ∷ [] ≡ earlier ++ take ((s.next + 1) + 1) s.left.rows
@@ -114,12 +115,12 @@ module _ (s : MergeView) (earlier passed ys : List Row) (h : IsMerged s earlier 
 
   -- a further batch of the left input
   module _ (done : s.next ≡ length s.left.rows) (runs : s.left_ended ≡ false) (batch : RowsView) (some : 0 < length batch.rows)
-      (o : Ordering) (is : o ≡ row_cmp (last_key s.lefts s.left.rows) (pick s.lefts (row batch 0))) where
+      (o : Ordering) (is : o ≡ key_cmp (directions s.lefts) (last_key s.lefts s.left.rows) (key_of s.lefts (row batch 0))) where
     all-left : begun s earlier ≡ earlier ++ s.left.rows
     all-left = begun-all s earlier (s.next + 1) (omega (arith, done))
 
-    left-is : o ≡ row_cmp (last_key s.lefts (earlier ++ s.left.rows)) (pick s.lefts (row batch 0))
-    left-is = is ∙ ap (λ k. row_cmp k (pick s.lefts (row batch 0))) (sym (last-back s.lefts earlier s.left.rows h.left_edge))
+    left-is : o ≡ key_cmp (directions s.lefts) (last_key s.lefts (earlier ++ s.left.rows)) (key_of s.lefts (row batch 0))
+    left-is = is ∙ ap (λ k. key_cmp (directions s.lefts) k (key_of s.lefts (row batch 0))) (sym (last-back s.lefts earlier s.left.rows h.left_edge))
 
     all-merged : HasMerged (state_at s.lefts s.rights (earlier ++ s.left.rows) passed s.start s.end) (earlier ++ s.left.rows) (passed ++ take s.end s.right.rows)
     all-merged =
@@ -141,7 +142,7 @@ module _ (s : MergeView) (earlier passed ys : List Row) (h : IsMerged s earlier 
           rises = h.rises;
           merged = λ _. subst P (sym (ap (λ xs. (earlier ++ s.left.rows) ++ xs) first-is))
               (subst Q (sym at) (left-next s.lefts s.rights (earlier ++ s.left.rows) passed (passed ++ take s.end s.right.rows) s.start s.end all-merged (row batch 0) o left-is rise));
-          holds = λ more ends rise. h.holds more ends rise ∙ ap (flat_map (matched s.lefts s.rights ((passed ++ s.right.rows) ++ more))) same;
+          holds = λ more ends rise. h.holds more ends rise ∙ ap (flat_map (matched (order_columns s.lefts) (order_columns s.rights) ((passed ++ s.right.rows) ++ more))) same;
         }
 
     pub left-taken-falls : is_le o ≡ false → sorted s.lefts ((earlier ++ s.left.rows) ++ batch.rows) ≡ false
@@ -168,7 +169,7 @@ module _ (s : MergeView) (earlier passed ys : List Row) (h : IsMerged s earlier 
             sym (append_assoc (passed ++ s.right.rows) batch more)
             ∙ ap (λ xs. xs ++ more) (append_assoc passed s.right.rows batch ∙ ap (λ xs. passed ++ xs) (sym is)) in
             h.holds (batch ++ more) (λ e. absurd (true≢false (sym e ∙ runs))) (ap (sorted s.rights) whole ∙ up)
-            ∙ ap (λ rs. flat_map (matched s.lefts s.rights rs) (joined_rows s earlier)) whole;
+            ∙ ap (λ rs. flat_map (matched (order_columns s.lefts) (order_columns s.rights) rs) (joined_rows s earlier)) whole;
       }
     where
       front-nil : (xs zs : List Row) → xs ++ zs ≡ [] → xs ≡ []
@@ -199,7 +200,7 @@ module _ (s : MergeView) (earlier passed ys : List Row) (h : IsMerged s earlier 
             moved from to taken (h.merged alive);
         holds = λ more ends up.
             let all = ap (λ xs. xs ++ more) whole in
-            h.holds more ends (ap (sorted s.rights) (sym all) ∙ up) ∙ ap (λ rs. flat_map (matched s.lefts s.rights rs) (joined_rows s earlier)) (sym all);
+            h.holds more ends (ap (sorted s.rights) (sym all) ∙ up) ∙ ap (λ rs. flat_map (matched (order_columns s.lefts) (order_columns s.rights) rs) (joined_rows s earlier)) (sym all);
       }
     where
       parts : (xs : List Row) (a b : ℕ) → a ≤ b → take a xs ++ take (b - a) (drop a xs) ≡ take b xs
@@ -227,15 +228,15 @@ module _ (s : MergeView) (ls rs ys : List Row) (h : HasJoined s ls rs ys) where
   right-rises = ap (sorted s.rights) (sym h.right_is) ∙ h.is.rises
 
   -- what was returned is the join of the left rows that were joined
-  pub joined-some : ys ≡ flat_map (matched s.lefts s.rights rs) (joined_rows s h.earlier)
-  joined-some = h.is.holds [] (λ _. refl) rises-all ∙ ap (λ xs. flat_map (matched s.lefts s.rights xs) (joined_rows s h.earlier)) all-right
+  pub joined-some : ys ≡ flat_map (matched (order_columns s.lefts) (order_columns s.rights) rs) (joined_rows s h.earlier)
+  joined-some = h.is.holds [] (λ _. refl) rises-all ∙ ap (λ xs. flat_map (matched (order_columns s.lefts) (order_columns s.rights) xs) (joined_rows s h.earlier)) all-right
 
   pub joined-front : joined_rows s h.earlier ++ drop s.next s.left.rows ≡ ls
   joined-front = append_assoc h.earlier (take s.next s.left.rows) (drop s.next s.left.rows) ∙ (ap (λ xs. h.earlier ++ xs) (take-append-drop s.next s.left.rows) ∙ h.left_is)
 
   -- and of all, once no left row is left
-  pub joined-all : length s.left.rows ≤ s.next → ys ≡ flat_map (matched s.lefts s.rights rs) ls
-  joined-all past = joined-some ∙ ap (flat_map (matched s.lefts s.rights rs)) (begun-all s h.earlier s.next past ∙ h.left_is)
+  pub joined-all : length s.left.rows ≤ s.next → ys ≡ flat_map (matched (order_columns s.lefts) (order_columns s.rights) rs) ls
+  joined-all past = joined-some ∙ ap (flat_map (matched (order_columns s.lefts) (order_columns s.rights) rs)) (begun-all s h.earlier s.next past ∙ h.left_is)
 
   -- and all left rows rise
   pub left-rises : length s.left.rows ≤ s.next → s.left_ended ≡ false → sorted s.lefts ls ≡ true

@@ -1,2 +1,3 @@
 pub mod Merged
 pub mod AtHand
+pub mod Keys

@@ -1,54 +1,57 @@
--- A merge of two inputs that rise on their columns: the right rows that have the key of the last left row stand side by side.
+-- A merge of two inputs that are both in order on their columns, in the same directions: the right rows that have the key of the last left row stand side by side.
 use Rattle.std.specs.Prelude.{◌≡◌, ◌<◌, ◌+◌, ℕ, Bool, true, false, cond, List, [], ◌∷◌, ◌++◌, length, map, zip, take, flat_map, slice_range, nat_lt}
 use Rattle.std.specs.List.{list_all}
 use Rattle.std.specs.Ordering.{is_gt}
-use Rattle.vx_rows_values.specs.Values.{Row, row_cmp, row_eq, pick}
-use Rattle.vx_rows_values.specs.Order.{sorted}
+use Rattle.vx_rows_values.specs.declared.order.OrderEntry.{OrderEntry}
+use Rattle.vx_rows_values.specs.Values.{Row, row_eq}
+use Rattle.vx_rows_values.specs.Order.{order_columns, sorted}
 use Rattle.vx_rows.specs.View.{RowsView, row}
 use Rattle.vx_plan_nodes.specs.Serial.{of_key}
 use Rattle.vx_match_keys.specs.Matched.{matched}
+use Rattle.vx_match_merging.specs.Keys.{directions, key_of, key_cmp}
 use Rattle.vx_match_merging.specs.declared.merging.MergeFault.{MergeFault}
 use Rattle.vx_match_merging.specs.declared.merging.MergeFault.TheVariants.{Falls, NoMemory}
 use Rattle.vx_match_merging.specs.declared.merging.MergeNeed.{MergeNeed}
 use Rattle.vx_match_merging.specs.declared.merging.MergeNeed.TheVariants as need
 
--- the columns of both inputs, the key of the last left row, and where in the right input the run of that key starts and
+-- the orders of both inputs, the key of the last left row, and where in the right input the run of that key starts and
 -- ends
 pub record MergeState : Type 0 where
-  pub lefts : List ℕ
-  pub rights : List ℕ
+  pub lefts : List OrderEntry
+  pub rights : List OrderEntry
   pub key : Row
   pub start : ℕ
   pub end : ℕ
 
 -- the key of the last row; of no rows the empty one, which is above no other
-abbrev pub last_key : List ℕ → List Row → Row
+abbrev pub last_key : List OrderEntry → List Row → Row
 last_key by [] = []
-last_key by (x ∷ []) = pick by x
+last_key by (x ∷ []) = key_of by x
 last_key by (x ∷ y ∷ ys) = last_key by (y ∷ ys)
 
--- these left and right rows were added, and no others: both rise, and the right ones are those below the key, and then
--- the run
+-- these left and right rows were added, and no others: both rise in their orders, which have the same directions, and the right ones
+-- are those below the key, and then the run
 pub record HasMerged (m : MergeState) (ls rs : List Row) : Type 0 where
   pub before : List Row
   pub run : List Row
+  pub alike : directions m.lefts ≡ directions m.rights
   pub left_rises : sorted m.lefts ls ≡ true
   pub right_rises : sorted m.rights rs ≡ true
   pub key_is : m.key ≡ last_key m.lefts ls
   pub parts : rs ≡ before ++ run
   pub start_is : m.start ≡ length before
   pub end_is : m.end ≡ length rs
-  pub below : list_all (λ r. is_gt (row_cmp m.key (pick m.rights r))) before ≡ true
-  pub equal : list_all (λ r. row_eq m.key (pick m.rights r)) run ≡ true
+  pub below : list_all (λ r. is_gt (key_cmp (directions m.lefts) m.key (key_of m.rights r))) before ≡ true
+  pub equal : list_all (λ r. row_eq m.key (key_of m.rights r)) run ≡ true
 
 -- the run holds all rows of the key among these right rows, and among those that may come behind them while all rise. Where
 -- it is not closed, none may come
 abbrev pub HoldsKey : MergeState → Bool → List Row → Type 0
 HoldsKey m closed rs =
-    (more : List Row) → (closed ≡ false → more ≡ []) → sorted m.rights (rs ++ more) ≡ true → of_key m.rights m.key (rs ++ more) ≡ slice_range rs m.start m.end
+    (more : List Row) → (closed ≡ false → more ≡ []) → sorted m.rights (rs ++ more) ≡ true → of_key (order_columns m.rights) m.key (rs ++ more) ≡ slice_range rs m.start m.end
 
 -- the state after these left rows, where the run starts and ends at these of the right rows behind those that were dropped
-abbrev pub state_at : List ℕ → List ℕ → List Row → List Row → ℕ → ℕ → MergeState
+abbrev pub state_at : List OrderEntry → List OrderEntry → List Row → List Row → ℕ → ℕ → MergeState
 state_at lefts rights ls passed start end =
     record { lefts = lefts; rights = rights; key = last_key lefts ls; start = length passed + start; end = length passed + end }
 
@@ -65,11 +68,11 @@ beside ls rs = map (λ p. p.0 ++ p.1) (zip ls rs)
 abbrev pub rows_at : RowsView → RowsView → List ℕ → List ℕ → List Row
 rows_at left right ls rs = map (λ p. row left p.0 ++ row right p.1) (zip ls rs)
 
--- what a merge shows: its columns; the left rows at hand, and how many of them were joined; the right rows at hand, and
+-- what a merge shows: the orders of its inputs; the left rows at hand, and how many of them were joined; the right rows at hand, and
 -- where among them the run starts and ends; and which inputs have ended
 pub record MergeView : Type 0 where
-  pub lefts : List ℕ
-  pub rights : List ℕ
+  pub lefts : List OrderEntry
+  pub rights : List OrderEntry
   pub left : RowsView
   pub next : ℕ
   pub right : RowsView
@@ -94,7 +97,7 @@ pub record IsMerged (s : MergeView) (earlier passed ys : List Row) : Type 0 wher
   pub rises : sorted s.rights (passed ++ s.right.rows) ≡ true
   pub merged : (s.left_ended ≡ true → s.next < length s.left.rows) → HasMerged (state_at s.lefts s.rights (begun s earlier) passed s.start s.end) (begun s earlier) (passed ++ take s.end s.right.rows)
   pub holds : (more : List Row) → (s.right_ended ≡ true → more ≡ []) → sorted s.rights ((passed ++ s.right.rows) ++ more) ≡ true
-      → ys ≡ flat_map (matched s.lefts s.rights ((passed ++ s.right.rows) ++ more)) (joined_rows s earlier)
+      → ys ≡ flat_map (matched (order_columns s.lefts) (order_columns s.rights) ((passed ++ s.right.rows) ++ more)) (joined_rows s earlier)
 
 -- these left and right rows came, and it has returned these rows
 pub record HasJoined (s : MergeView) (ls rs ys : List Row) : Type 0 where
@@ -113,7 +116,7 @@ pub record HasSameInputs (a b : MergeView) : Type 0 where
   pub left_ended : b.left_ended ≡ a.left_ended
   pub right_ended : b.right_ended ≡ a.right_ended
 
--- the second has the same columns, types of rows and ends of inputs as the first
+-- the second has the same orders, types of rows and ends of inputs as the first
 pub record HasSameShape (a b : MergeView) : Type 0 where
   pub lefts : b.lefts ≡ a.lefts
   pub rights : b.rights ≡ a.rights
@@ -124,7 +127,7 @@ pub record HasSameShape (a b : MergeView) : Type 0 where
 abbrev pub HoldsRun : MergeView → List Row → Type 0
 HoldsRun s passed =
     (more : List Row) → (s.right_ended ≡ true → more ≡ []) → sorted s.rights ((passed ++ s.right.rows) ++ more) ≡ true
-    → of_key s.rights (pick s.lefts (row s.left s.next)) ((passed ++ s.right.rows) ++ more) ≡ slice_range s.right.rows s.start s.end
+    → of_key (order_columns s.rights) (key_of s.lefts (row s.left s.next)) ((passed ++ s.right.rows) ++ more) ≡ slice_range s.right.rows s.start s.end
 
 -- the next left row joined with each row of the run
 abbrev pub run_rows : MergeView → List Row

@@ -1,4 +1,4 @@
-//! The merge join: two inputs that rise on their columns. The serial evaluator and the workers have their rows from it.
+//! The merge join: two inputs that are in order on their columns. The serial evaluator and the workers have their rows from it.
 #![tactic(auto)]
 
 mod key_run;

@@ -1,13 +1,14 @@
-//! The merge join: inputs that rise on their columns are gone through once, side by side (Blasgen and Eswaran, 1977).
+//! The merge join: inputs that are in order on their columns are gone through once, side by side (Blasgen and Eswaran, 1977).
 
 ghost use Rattle.std.specs.Prelude.{◌≡◌, ◌<◌, ◌≤◌, ◌+◌, ◌++◌, ◌&&◌, [], ℕ, List, length, map, cond, true, false, OnOk, IfOk, IfErr};
 ghost use Rattle.std.specs.Ordering.{is_lt, is_le};
-ghost use Rattle.vx_rows_values.specs.Values.{Row as Cells, row_cmp, pick};
-ghost use Rattle.vx_rows_values.specs.Order.{sorted};
+ghost use Rattle.vx_rows_values.specs.Values.{Row as Cells};
+ghost use Rattle.vx_rows_values.specs.Order.{order_columns, sorted};
 ghost use Rattle.vx_rows.specs.View.{row, AreColumns, ArePositions};
 ghost use Rattle.vx_plan_nodes.specs.Serial.{join_rows};
 ghost use Rattle.vx_match_merging.specs.declared.merging.MergeFault.TheVariants.{Falls};
 ghost use Rattle.vx_match_merging.specs.declared.merging.MergeNeed.TheVariants as need;
+ghost use Rattle.vx_match_merging.specs.Keys.{directions, key_of, key_cmp};
 ghost use Rattle.vx_match_merging.specs.AtHand.{lefts_at_hand, rights_at_hand, rows_at_hand, pairs_at_hand};
 ghost use Rattle.vx_match_merging.specs.Merged.{HasJoined, IsMerged, HasSameInputs, HasSameShape, HoldsRun, MergeBlame, last_key, merge_need, rows_at, run_rows};
 
@@ -17,13 +18,13 @@ use std::alloc::{AllocError, Global};
 use std::cmp::Ordering;
 use std::marker::Model;
 use vx_match_keys::rises;
-use vx_rows_values::ColType;
+use vx_rows_values::{ColType, OrderEntry};
 use vx_rows_views::Rows;
 
 /// Why a merge stops.
 #[derive(Clone, Copy, PartialEq, Eq)]
 pub enum MergeFault {
-    /// A row is smaller than an earlier one of its input.
+    /// A row goes before an earlier one of its input, in the order that its input must have.
     Falls,
     /// Out of memory.
     NoMemory,
@@ -55,12 +56,12 @@ pub enum MergeNeed {
 
 /// Calls: `new (take_left | end_left | take_right | end_right | join_some)*`, and none after an `Err`.
 ///
-/// A merge of two inputs that come in batches. It keeps the batch at hand of each, and of the right rows before that only
+/// A merge of two inputs that come in batches, each in its order. It keeps the batch at hand of each, and of the right rows before that only
 /// those with the key of the left row at hand.
 pub struct MergeRows {
     alloc: Global,
-    left_columns: Vec<usize>,
-    right_columns: Vec<usize>,
+    left_order: Vec<OrderEntry>,
+    right_order: Vec<OrderEntry>,
     left: Rows,
     next: usize,
     right: Rows,
@@ -74,8 +75,8 @@ impl Drop for MergeRows {
     fn drop(self) {
         let MergeRows {
             alloc: _,
-            left_columns: _,
-            right_columns: _,
+            left_order: _,
+            right_order: _,
             left: _,
             next: _,
             right: _,
@@ -89,32 +90,34 @@ impl Drop for MergeRows {
 
 impl Model for MergeRows {
     ghost use Rattle.std.specs.Prelude.{◌≡◌, ◌≤◌, length, true};
-    ghost use Rattle.vx_rows_values.specs.Order.{sorted};
+    ghost use Rattle.vx_rows_values.specs.Order.{order_columns, sorted};
     ghost use Rattle.vx_rows.specs.View.{AreColumns};
+    ghost use Rattle.vx_match_merging.specs.Keys.{directions};
     ghost use Rattle.vx_match_merging.specs.Merged.{MergeView};
 
     ghost Value = { MergeView };
 
-    ghost view = { λ m. record { lefts = m.left_columns.items; rights = m.right_columns.items; left = m.left; next = m.next; right = m.right; start = m.start; end = m.end; left_ended = m.left_ended; right_ended = m.right_ended } };
+    ghost view = { λ m. record { lefts = m.left_order.items; rights = m.right_order.items; left = m.left; next = m.next; right = m.right; start = m.start; end = m.end; left_ended = m.left_ended; right_ended = m.right_ended } };
 
-    ghost invariant = { λ m. AreColumns (length m.left.types) m.left_columns.items × AreColumns (length m.right.types) m.right_columns.items
+    ghost invariant = { λ m. AreColumns (length m.left.types) (order_columns m.left_order.items) × AreColumns (length m.right.types) (order_columns m.right_order.items)
         × (m.next ≤ length m.left.rows) × (m.start ≤ m.end) × (m.end ≤ length m.right.rows)
-        × (sorted m.left_columns.items m.left.rows ≡ true) };
+        × (sorted m.left_order.items m.left.rows ≡ true) × (directions m.left_order.items ≡ directions m.right_order.items) };
 }
 
 impl MergeRows {
-    /// A merge to which nothing came, with its columns and the types of both inputs.
+    /// A merge to which nothing came, with the orders and the types of both inputs. The orders have the same directions.
     pub fn new(
         alloc: Global,
-        left_columns: Vec<usize>,
+        left_order: Vec<OrderEntry>,
         left_types: &[ColType],
-        right_columns: Vec<usize>,
+        right_order: Vec<OrderEntry>,
         right_types: &[ColType],
     ) -> Result<MergeRows, AllocError>
-        requires left { AreColumns (length left_types.now) left_columns.items }
-        requires right { AreColumns (length right_types.now) right_columns.items }
-        ensures lefts { IfOk result (λ m. m.lefts ≡ left_columns.items) }
-        ensures rights { IfOk result (λ m. m.rights ≡ right_columns.items) }
+        requires left { AreColumns (length left_types.now) (order_columns left_order.items) }
+        requires right { AreColumns (length right_types.now) (order_columns right_order.items) }
+        requires alike { directions left_order.items ≡ directions right_order.items }
+        ensures lefts { IfOk result (λ m. m.lefts ≡ left_order.items) }
+        ensures rights { IfOk result (λ m. m.rights ≡ right_order.items) }
         ensures left { IfOk result (λ m. m.left.types ≡ left_types.now) }
         ensures right { IfOk result (λ m. m.right.types ≡ right_types.now) }
         ensures left_ended { IfOk result (λ m. m.left_ended ≡ false) }
@@ -126,8 +129,8 @@ impl MergeRows {
         let right = Rows::new(alloc, right_types)?;
         Ok(MergeRows {
             alloc,
-            left_columns,
-            right_columns,
+            left_order,
+            right_order,
             left,
             next: 0,
             right,
@@ -174,7 +177,7 @@ impl MergeRows {
             return Ok(());
         }
         let order = self.order_of_next(&batch);
-        if !rises(&batch, &self.left_columns) {
+        if !rises(&batch, &self.left_order) {
             return Err(MergeFault::Falls);
         }
         self.start = run_start(order, self.start, self.end)?;
@@ -208,12 +211,12 @@ impl MergeRows {
         ensures err { IfErr result (λ e. (ls rs ys : List Cells) → HasJoined self.old ls rs ys → MergeBlame e (sorted self.old.rights (rs ++ batch.rows))) }
     {
         self.drop_passed()?;
-        if !rises(&batch, &self.right_columns) {
+        if !rises(&batch, &self.right_order) {
             return Err(MergeFault::Falls);
         }
         let from = self.right.len();
         self.right.append(batch)?;
-        if !rise_across(&self.right, from, &self.right_columns) {
+        if !rise_across(&self.right, from, &self.right_order) {
             return Err(MergeFault::Falls);
         }
         Ok(())
@@ -298,9 +301,9 @@ impl MergeRows {
         let run = run_of(
             &self.left,
             self.next,
-            &self.left_columns,
+            &self.left_order,
             &self.right,
-            &self.right_columns,
+            &self.right_order,
             KeyRun {
                 start: self.start,
                 end: self.end,
@@ -321,21 +324,21 @@ impl MergeRows {
     {
         let count = self.left.len();
         let next = self.next + 1;
-        // no key follows at hand, or the run is empty and stays so: the next key is not below this one
+        // no key follows at hand, or the run is empty and stays so: the next key does not go before this one
         if next >= count || self.start >= self.end {
             self.next = next;
             return;
         }
-        let columns = &self.left_columns;
-        let order = compare_rows(&self.left, self.next, columns, &self.left, next, columns);
-        // a larger key has a new run, behind this one
-        if order.is_lt() {
+        let order = &self.left_order;
+        let step = compare_rows(&self.left, self.next, order, &self.left, next, order);
+        // a later key has a new run, behind this one
+        if step.is_lt() {
             self.start = self.end;
         }
         self.next = next;
     }
 
-    // Goes on behind all left rows at hand, where the right input has ended and all its rows are below the next left row:
+    // Goes on behind all left rows at hand, where the right input has ended and all its rows go before the next left row:
     // as left rows rise, none of them has a match.
     fn skip_unmatched(&mut self)
         ensures inputs { HasSameInputs self.old self.new }
@@ -354,16 +357,16 @@ impl MergeRows {
     fn order_of_next(&self, batch: &Rows) -> Ordering
         requires row { 0 < length batch.now.rows }
         requires typed { batch.now.types ≡ self.now.left.types }
-        ensures { result ≡ row_cmp (last_key self.now.lefts self.now.left.rows) (pick self.now.lefts (row batch.now 0)) }
+        ensures { result ≡ key_cmp (directions self.now.lefts) (last_key self.now.lefts self.now.left.rows) (key_of self.now.lefts (row batch.now 0)) }
     {
-        let columns = &self.left_columns;
+        let order = &self.left_order;
         if self.left.is_empty() {
-            return 0.cmp(&columns.len());
+            return 0.cmp(&order.len());
         }
-        compare_rows(&self.left, self.left.len() - 1, columns, batch, 0, columns)
+        compare_rows(&self.left, self.left.len() - 1, order, batch, 0, order)
     }
 
-    // Drops the right rows that are not needed any more. The last one is kept: the next must not be smaller.
+    // Drops the right rows that are not needed any more. The last one is kept: the next must not go before it.
     fn drop_passed(&mut self) -> Result<(), AllocError>
         ensures shape { HasSameShape self.old self.new }
         ensures left { self.new.left ≡ self.old.left }
@@ -398,7 +401,7 @@ impl MergeRows {
     }
 }
 
-// Where the run starts after a left row that is in this order to the one before it: a larger one has a new run.
+// Where the run starts after a left row that is in this order to the one before it: a later one has a new run.
 fn run_start(order: Ordering, start: usize, end: usize) -> Result<usize, MergeFault>
     ensures ok { IfOk result (λ s. s ≡ cond (is_lt order) end start) }
     ensures rises { OnOk result (is_le order ≡ true) }
@@ -411,26 +414,27 @@ fn run_start(order: Ordering, start: usize, end: usize) -> Result<usize, MergeFa
     }
 }
 
-/// Each left row joined with the right rows that agree with it on the pairs of columns, where both inputs rise on
-/// them: in the order of the left rows, and for one left row in the order of the right rows.
+/// Each left row joined with the right rows that agree with it on the pairs of columns, where both inputs are in
+/// order on them, in the same directions: in the order of the left rows, and for one left row in the order of the right rows.
 ///
 /// Both inputs are read to their end: it fails if one of them falls, wherever that is.
 pub fn merge_join(
     alloc: Global,
     left: &Rows,
-    left_columns: &[usize],
+    left_order: &[OrderEntry],
     right: &Rows,
-    right_columns: &[usize],
+    right_order: &[OrderEntry],
 ) -> Result<Rows, MergeFault>
-    requires left { AreColumns (length left.now.types) left_columns.now }
-    requires right { AreColumns (length right.now.types) right_columns.now }
+    requires left { AreColumns (length left.now.types) (order_columns left_order.now) }
+    requires right { AreColumns (length right.now.types) (order_columns right_order.now) }
+    requires alike { directions left_order.now ≡ directions right_order.now }
     ensures types { IfOk result (λ r. r.types ≡ left.now.types ++ right.now.types) }
-    ensures rows { IfOk result (λ r. (on : List (ℕ × ℕ)) → left_columns.now ≡ map (λ p. p.0) on → right_columns.now ≡ map (λ p. p.1) on → r.rows ≡ join_rows on left.now.rows right.now.rows) }
-    ensures rise { OnOk result ((sorted left_columns.now left.now.rows && sorted right_columns.now right.now.rows) ≡ true) }
-    ensures err { IfErr result (λ e. MergeBlame e (sorted left_columns.now left.now.rows && sorted right_columns.now right.now.rows)) }
+    ensures rows { IfOk result (λ r. (on : List (ℕ × ℕ)) → order_columns left_order.now ≡ map (λ p. p.0) on → order_columns right_order.now ≡ map (λ p. p.1) on → r.rows ≡ join_rows on left.now.rows right.now.rows) }
+    ensures rise { OnOk result ((sorted left_order.now left.now.rows && sorted right_order.now right.now.rows) ≡ true) }
+    ensures err { IfErr result (λ e. MergeBlame e (sorted left_order.now left.now.rows && sorted right_order.now right.now.rows)) }
 {
-    let lefts = Vec::from_slice(alloc, left_columns)?;
-    let rights = Vec::from_slice(alloc, right_columns)?;
+    let lefts = Vec::from_slice(alloc, left_order)?;
+    let rights = Vec::from_slice(alloc, right_order)?;
     let mut merge = MergeRows::new(alloc, lefts, left.types(), rights, right.types())?;
     merge.take_left(left.slice(alloc, 0, left.len())?)?;
     merge.take_right(right.slice(alloc, 0, right.len())?)?;

@@ -1,7 +1,7 @@
 -- What the proofs of the turns of both machines rest on.
-use Rattle.std.proofs.Common.{◌≡◌, ◌⊎◌, ℕ, List, [], ◌++◌, subst, true, false}
+use Rattle.std.proofs.Common.{◌≡◌, ◌⊎◌, ℕ, List, [], ◌++◌, subst}
 use Rattle.vx_rows_values.specs.Values.{Row}
-use Rattle.vx_plan_nodes.specs.Plan.{Unary, select, project, distinct, sort, group, limit, Binary, union, join, semi_join}
+use Rattle.vx_plan_nodes.specs.Plan.{Unary, select, project, distinct, sort, group, limit, by_hashing, by_merging, Binary, union, join, semi_join}
 use Rattle.vx_ops.specs.Ledger.{Ledger, one_op, two_op, OwnBlame, IsAllGiven, HoldsBack}
 use Rattle.vx_ops.specs.declared.fault.Code.TheVariants.{NoMemory}
 use Rattle.vx_ops.specs.declared.fault.Fault.{Fault}
@@ -40,7 +40,7 @@ own-memory n op m l f e = let P : Fault → Type 0 = λ v. OwnBlame (one_op n op
 -- an operator that has returned all of an input that has ended, or nothing, returned nothing too early
 pub one-held-back : (n : ℕ) (op : Unary) (l : Ledger) → IsAllGiven op l ⊎ (l.gave.rows ≡ []) → HoldsBack (one_op n op) l
 one-held-back n (group phase by aggregates) l h = h
-one-held-back n (sort of_parts cols) l h = h
+one-held-back n (sort of_parts order) l h = h
 one-held-back n (select cs) l h = tt
 one-held-back n (project cols) l h = tt
 one-held-back n (distinct cols) l h = tt
@@ -48,7 +48,7 @@ one-held-back n (limit rows) l h = tt
 
 -- the same of one whose right input has ended
 pub two-held-back : (n : ℕ) (op : Binary) (l : Ledger) → (l.right.over ≡ Ended) ⊎ (l.gave.rows ≡ []) → HoldsBack (two_op n op) l
-two-held-back n (join false on) l h = h
-two-held-back n (join true on) l h = tt
+two-held-back n (join by_hashing on) l h = h
+two-held-back n (join (by_merging falls) on) l h = tt
 two-held-back n (semi_join matched on conditions) l h = h
 two-held-back n union l h = tt

@@ -1,9 +1,10 @@
 -- What one source received and returned so far, and what is known of a source at any moment (Volcano's iterators).
-use Rattle.std.specs.Prelude.{ℕ, ◌≡◌, ◌<◌, ◌⊎◌, true, false, List, [], ◌∷◌, ◌++◌, length, map, Some, None, Bool}
+use Rattle.std.specs.Prelude.{ℕ, ◌≡◌, ◌<◌, ◌⊎◌, true, false, List, [], ◌∷◌, ◌++◌, length, Some, None, Bool}
 use Rattle.vx_rows_values.specs.Values.{Row}
 use Rattle.vx_rows_values.specs.Order.{sorted}
+use Rattle.vx_rows_values.specs.declared.order.OrderEntry.{OrderEntry}
 use Rattle.vx_rows_values.specs.declared.value.ColType.{ColType}
-use Rattle.vx_plan_nodes.specs.Plan.{Unary, sort, group, Binary, join, semi_join}
+use Rattle.vx_plan_nodes.specs.Plan.{Unary, sort, group, by_hashing, by_merging, Binary, join, semi_join, left_order, right_order}
 use Rattle.vx_plan_nodes.specs.Serial.{unary_rows, binary_rows, group_rows}
 use Rattle.vx_plan_nodes.specs.Streams.{Dealt, joined}
 use Rattle.vx_ports.specs.Packets.{PacketView, rows_of, has_last, has_fault}
@@ -30,13 +31,13 @@ pub record Ledger : Type 0 where
   pub came : ℕ → List PacketView
   pub gave : Stream
 
--- the consumer end of an exchange, at one of its places; it merges on the list of columns, if that is not empty; or it takes the producers in the order of their numbers
+-- the consumer end of an exchange, at one of its places; it merges by an order, if that is not empty; or it takes the producers in the order of their numbers
 pub record ConsumerEnd : Type 0 where
   pub exchange : ℕ
   pub place : ℕ
   pub producers : ℕ
   pub types : List ColType
-  pub merge : List ℕ
+  pub merge : List OrderEntry
   pub in_order : Bool
 
 -- what a source does; with its node's number
@@ -81,8 +82,8 @@ abbrev pub OwnBlame : Op → Ledger → Fault → Type 0
 OwnBlame op l (Own NoMemory node) = Unit {0}
 OwnBlame (one_op n (group phase by aggregates)) l (Own Overflow node) =
     (node ≡ n) × (l.left.over ≡ Ended) × ((group_rows by aggregates l.left.rows ≡ None) ⊎ (4611686018427387904 < length l.left.rows))
-OwnBlame (two_op n (join true on)) l (Own Unsorted node) =
-    (node ≡ n) × ((sorted (map (λ x. x.0) on) l.left.rows ≡ false) ⊎ (sorted (map (λ x. x.1) on) l.right.rows ≡ false))
+OwnBlame (two_op n (join (by_merging falls) on)) l (Own Unsorted node) =
+    (node ≡ n) × ((sorted (left_order falls on) l.left.rows ≡ false) ⊎ (sorted (right_order falls on) l.right.rows ≡ false))
 OwnBlame (receive port) l (Own Unsorted node) =
     (node ≡ port.exchange) × ((i : ℕ) × (i < port.producers) × (sorted port.merge (rows_of (l.came i)) ≡ false))
 OwnBlame (receive port) l (Own Stranger node) =
@@ -124,8 +125,8 @@ IsAllGiven op l = (l.left.over ≡ Ended) × (unary_rows op l.left.rows ≡ Some
 -- right input has
 abbrev pub HoldsBack : Op → Ledger → Type 0
 HoldsBack (one_op n (group phase by aggregates)) l = IsAllGiven (group phase by aggregates) l ⊎ (l.gave.rows ≡ [])
-HoldsBack (one_op n (sort of_parts cols)) l = IsAllGiven (sort of_parts cols) l ⊎ (l.gave.rows ≡ [])
-HoldsBack (two_op n (join false on)) l = (l.right.over ≡ Ended) ⊎ (l.gave.rows ≡ [])
+HoldsBack (one_op n (sort of_parts order)) l = IsAllGiven (sort of_parts order) l ⊎ (l.gave.rows ≡ [])
+HoldsBack (two_op n (join by_hashing on)) l = (l.right.over ≡ Ended) ⊎ (l.gave.rows ≡ [])
 HoldsBack (two_op n (semi_join matched on conditions)) l = (l.right.over ≡ Ended) ⊎ (l.gave.rows ≡ [])
 HoldsBack op l = Unit {0}
 

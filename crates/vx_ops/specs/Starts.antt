@@ -12,7 +12,7 @@ abbrev pub op_most : Op → Coming → ℕ
 op_most scan_op c = c.left
 op_most (one_op n op) c = c.left
 op_most (two_op n union) c = c.left + c.right
-op_most (two_op n (join merging on)) c = c.left * c.right
+op_most (two_op n (join method on)) c = c.left * c.right
 op_most (two_op n (semi_join matched on conditions)) c = c.left
 op_most (receive port) c = sum_below port.producers c.packets
 

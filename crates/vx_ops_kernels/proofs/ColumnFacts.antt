@@ -10,8 +10,8 @@ use Rattle.vx_rows_values.specs.Types.{type_at}
 use Rattle.vx_rows_values.proofs.Booleans.{and-left, and-right, and-both}
 use Rattle.vx_rows.specs.View.{AreColumns}
 use Rattle.vx_catalog_relations.specs.Catalog.{all_below}
-use Rattle.vx_plan_nodes.specs.Plan.{union, join}
-use Rattle.vx_plan_nodes.specs.Typed.{type_eq, types_eq, is_pair, are_distinct_pairs, is_binary}
+use Rattle.vx_plan_nodes.specs.Plan.{union, JoinMethod, join}
+use Rattle.vx_plan_nodes.specs.Typed.{type_eq, types_eq, is_pair, are_distinct_pairs, has_directions, is_binary}
 
 pub columns-below : (w : ℕ) (cols : List ℕ) → all_below w cols ≡ true → AreColumns w cols
 columns-below w cols h k d l = (Decides-ltb (get_or cols k d) w).0 (AllPass-from_list_all (λ c. nat_lt c w) cols h k d l)
@@ -40,15 +40,15 @@ left-columns ts us on h = columns-below (length ts) (map (λ p. p.0) on) (left-b
 pub right-columns : (ts us : List ColType) (on : List (ℕ × ℕ)) → list_all (is_pair ts us) on ≡ true → AreColumns (length us) (map (λ p. p.1) on)
 right-columns ts us on h = columns-below (length us) (map (λ p. p.1) on) (right-below ts us on h)
 
-pub join-pairs : (ts us : List ColType) (merging : Bool) (on : List (ℕ × ℕ)) → is_binary ts us (join merging on) ≡ true → list_all (is_pair ts us) on ≡ true
-join-pairs ts us merging on h =
-    and-left (list_all (is_pair ts us) on) (are_distinct_pairs on) (and-right (is_some_list on) (list_all (is_pair ts us) on && are_distinct_pairs on) h)
+pub join-pairs : (ts us : List ColType) (method : JoinMethod) (on : List (ℕ × ℕ)) → is_binary ts us (join method on) ≡ true → list_all (is_pair ts us) on ≡ true
+join-pairs ts us method on h =
+    and-left (list_all (is_pair ts us) on) (are_distinct_pairs on && has_directions method on) (and-right (is_some_list on) (list_all (is_pair ts us) on && (are_distinct_pairs on && has_directions method on)) h)
 
-pub join-left-columns : (ts us : List ColType) (merging : Bool) (on : List (ℕ × ℕ)) → is_binary ts us (join merging on) ≡ true → AreColumns (length ts) (map (λ p. p.0) on)
-join-left-columns ts us merging on h = left-columns ts us on (join-pairs ts us merging on h)
+pub join-left-columns : (ts us : List ColType) (method : JoinMethod) (on : List (ℕ × ℕ)) → is_binary ts us (join method on) ≡ true → AreColumns (length ts) (map (λ p. p.0) on)
+join-left-columns ts us method on h = left-columns ts us on (join-pairs ts us method on h)
 
-pub join-right-columns : (ts us : List ColType) (merging : Bool) (on : List (ℕ × ℕ)) → is_binary ts us (join merging on) ≡ true → AreColumns (length us) (map (λ p. p.1) on)
-join-right-columns ts us merging on h = right-columns ts us on (join-pairs ts us merging on h)
+pub join-right-columns : (ts us : List ColType) (method : JoinMethod) (on : List (ℕ × ℕ)) → is_binary ts us (join method on) ≡ true → AreColumns (length us) (map (λ p. p.1) on)
+join-right-columns ts us method on h = right-columns ts us on (join-pairs ts us method on h)
 
 -- ---- equal types
 

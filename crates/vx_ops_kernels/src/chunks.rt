@@ -6,7 +6,7 @@ ghost use Rattle.vx_rows_values.specs.declared.value.ColType.TheVariants as kind
 ghost use Rattle.vx_rows_values.specs.Types.{type_at};
 ghost use Rattle.vx_rows_values.specs.Values.{num};
 ghost use Rattle.vx_rows_values.specs.ValueView.{cell_val, test_of};
-ghost use Rattle.vx_rows_values.specs.Order.{sort_on};
+ghost use Rattle.vx_rows_values.specs.Order.{order_columns, sort_on};
 ghost use Rattle.vx_rows.specs.View.{row, AreColumns};
 ghost use Rattle.vx_plan_nodes.specs.Conditions.{conditions_of};
 ghost use Rattle.vx_plan_nodes.specs.Outline.{side_of};
@@ -21,7 +21,7 @@ use crate::cells::cell_or_zero;
 use std::alloc::{AllocError, Global};
 use std::cmp::Ordering;
 use vx_plan_nodes::{Condition, Side};
-use vx_rows_values::{Cell, ColType, Test, Value, compare_cells};
+use vx_rows_values::{Cell, ColType, OrderEntry, Test, Value, compare_cells};
 use vx_rows_views::{Chunk, NumberTest, Rows, places_are_a_filter, push_place_if};
 
 // What a test says of a comparison.
@@ -216,14 +216,14 @@ pub fn chosen(alloc: Global, conditions: &[Condition], rows: &Rows) -> Result<Ro
     Ok(found)
 }
 
-/// The rows sorted on these columns; rows that agree on them stay in their order. They are gathered into one table, whose rows are seen by their positions.
-pub fn sorted_chunks(alloc: Global, rows: &Rows, columns: &[usize]) -> Result<Rows, AllocError>
-    requires { AreColumns (length rows.now.types) columns.now }
+/// The rows in this order; rows that are equal in it stay as they stood. They are gathered into one table, whose rows are seen by their positions.
+pub fn sorted_chunks(alloc: Global, rows: &Rows, order: &[OrderEntry]) -> Result<Rows, AllocError>
+    requires { AreColumns (length rows.now.types) (order_columns order.now) }
     ensures types { IfOk result (λ r. r.types ≡ rows.now.types) }
-    ensures rows { IfOk result (λ r. r.rows ≡ sort_on columns.now rows.now.rows) }
+    ensures rows { IfOk result (λ r. r.rows ≡ sort_on order.now rows.now.rows) }
 {
     let table = rows.gathered(alloc)?;
-    let order = table.sorted_positions(alloc, columns)?;
+    let positions = table.sorted_positions(alloc, order)?;
     let risen = Rows::of_table(alloc, table)?;
-    Ok(risen.at(alloc, order.as_slice())?)
+    Ok(risen.at(alloc, positions.as_slice())?)
 }

@@ -3,6 +3,7 @@ use Rattle.std.proofs.Common.{◌≡◌, ℕ, nat_lt, List, [], ◌∷◌, Bool,
 use Rattle.std.specs.Prelude.{⊤}
 use Rattle.std.specs.List.{list_all}
 use Rattle.vx_rows_values.specs.declared.value.ColType.{ColType}
+use Rattle.vx_rows_values.specs.Order.{order_columns}
 use Rattle.vx_rows_values.specs.Types.{type_at}
 use Rattle.vx_rows_values.specs.Values.{Name}
 use Rattle.vx_rows_values.specs.Lists.{is_some_list}
@@ -16,12 +17,13 @@ use Rattle.vx_plan_nodes.specs.Outline.{Columns, Top}
 use Rattle.vx_plan_nodes.specs.Names.{Names, scope_of}
 use Rattle.vx_plan_json.specs.Document.{PartForm, hash_part, range_part, ClaimForm}
 use Rattle.vx_plan_json.specs.Document as form
-use Rattle.vx_plan.specs.Lookup.{tested_onto, find_column, find_columns, find_keys, test_distinct, test_match, find_range}
+use Rattle.vx_plan.specs.Lookup.{tested_onto, find_column, find_columns, find_order, find_keys, test_distinct, test_match, find_range}
 use Rattle.vx_plan.specs.Resolve.{find_part, part_names, part_fits, route_fits, claim_columns, test_claim, find_claim, with_claim}
 use Rattle.vx_plan.specs.ByName.{first_name, part_by_name, claim_by_name, top_by_name}
 use Rattle.vx_plan.proofs.Apart.{apart}
 use Rattle.vx_plan.proofs.Each.{ok_then, ok_last}
 use Rattle.vx_plan.proofs.Looked.{AreDeclared, column-said, columns-said, keys-said, range-said, column-again, columns-again, keys-again, range-again, columns_once-again, test_distinct_keys-again}
+use Rattle.vx_plan.proofs.OrderFacts.{order-said, order-again, order_once-again}
 
 -- ---- what was found
 
@@ -45,9 +47,9 @@ claim_columns-said : (s : Names) (node : ℕ) (names : List Name) (c : ClaimForm
 unfolding claim_columns
 claim_columns-said s node names c k h =
     let t = ok_then _ (find_part s node names c.part) k h in
-    let u = ok_then _ (find_columns node names c.order) k t.2 in
+    let u = ok_then _ (find_order node names c.order) k t.2 in
     let v = ok_last (λ (ks : List (List ℕ)). record { part = t.0; order = u.0; keys = ks }) (find_keys node names c.keys) k u.2 in
-    rw (← v.2) (rw (part-said s node names c.part t.0 t.1, columns-said node names c.order u.0 u.1, keys-said node names c.keys v.0 v.1) refl)
+    rw (← v.2) (rw (part-said s node names c.part t.0 t.1, order-said node names c.order u.0 u.1, keys-said node names c.keys v.0 v.1) refl)
 
 claim-said : (s : Names) (node : ℕ) (cols : Columns) (c : ClaimForm) (k : Claim) → find_claim s node cols c ≡ Ok k → claim_by_name s cols.names k ≡ c
 unfolding find_claim
@@ -126,13 +128,13 @@ pub top-again : (s : Names) (node : ℕ) (h : Top) → AreDeclared s → apart b
 unfolding with_claim find_claim claim_columns test_claim
 top-again s node h d a e k n =
     let w : ℕ = length h.columns.types in
-    let rest = and-right (is_part (scope_of s) h.columns.types h.claim.part) (are_columns w h.claim.order && list_all (are_columns w) h.claim.keys) k in
-    let p = part-again s node h.columns h.claim.part d a e (and-left (is_part (scope_of s) h.columns.types h.claim.part) (are_columns w h.claim.order && list_all (are_columns w) h.claim.keys) k) in
-    let o = along h.columns.names h.columns.types h.claim.order e (and-left (are_columns w h.claim.order) (list_all (are_columns w) h.claim.keys) rest) in
+    let rest = and-right (is_part (scope_of s) h.columns.types h.claim.part) (are_columns w (order_columns h.claim.order) && list_all (are_columns w) h.claim.keys) k in
+    let p = part-again s node h.columns h.claim.part d a e (and-left (is_part (scope_of s) h.columns.types h.claim.part) (are_columns w (order_columns h.claim.order) && list_all (are_columns w) h.claim.keys) k) in
+    let o = along h.columns.names h.columns.types (order_columns h.claim.order) e (and-left (are_columns w (order_columns h.claim.order)) (list_all (are_columns w) h.claim.keys) rest) in
     let P : ℕ → Type 0 = λ n. list_all (are_columns n) h.claim.keys ≡ true in
-    let ks = subst P (sym e) (and-right (are_columns w h.claim.order) (list_all (are_columns w) h.claim.keys) rest) in
-    let order = columns-again node h.columns.names h.claim.order a (and-left (all_below (length h.columns.names) h.claim.order) (are_distinct h.claim.order) o) in
+    let ks = subst P (sym e) (and-right (are_columns w (order_columns h.claim.order)) (list_all (are_columns w) h.claim.keys) rest) in
+    let order = order-again node h.columns.names h.claim.order a o in
     let keys = keys-again node h.columns.names h.claim.keys a ks in
-    let distinct_order = columns_once-again node h.columns.names h.claim.order a o in
+    let distinct_order = order_once-again node h.columns.names h.claim.order a o in
     let distinct_keys = test_distinct_keys-again node h.columns.names h.claim.keys a ks in
     rw (p.found, order, keys, p.alone, distinct_order, distinct_keys, test_match-again node (part_fits s h.columns.types h.claim.part) p.fits, ← n) refl

@@ -5,6 +5,7 @@ use Rattle.std.specs.List.{list_all}
 use Rattle.std.proofs.lemmas.List.{length-map}
 use Rattle.std.proofs.lemmas.List.Quantifiers.{position-Some}
 use Rattle.vx_rows_values.specs.declared.value.ColType.{ColType}
+use Rattle.vx_rows_values.specs.Order.{order_columns}
 use Rattle.vx_rows_values.specs.Types.{type_at}
 use Rattle.vx_plan_nodes.specs.Plan.{one_worker, by_hash, by_range, Part, routed, Claim}
 use Rattle.vx_plan_nodes.specs.Typed.{are_columns, is_size, is_routed, is_part, is_claim, range_type, bounds_at, type_eq}
@@ -15,14 +16,15 @@ use Rattle.vx_rows_values.specs.Ranges.{RangeForm}
 use Rattle.vx_plan_json.specs.Document as form
 use Rattle.vx_plan_nodes.specs.Outline.{Columns, Top}
 use Rattle.vx_plan_json.specs.Fault.{Refusal, too_wide, ◌>>=◌}
-use Rattle.vx_plan.specs.Lookup.{find_column, find_columns, find_keys, test_distinct, test_distinct_keys, test_match, test_width, size_or, find_size, range_or, find_range}
+use Rattle.vx_plan.specs.Lookup.{find_column, find_columns, order_names, find_order, find_keys, test_distinct, test_distinct_keys, test_match, test_width, size_or, find_size, range_or, find_range}
 use Rattle.vx_plan_nodes.specs.Names.{Names, scope_of}
 use Rattle.vx_plan.specs.Resolve.{find_part, part_names, part_fits, claim_columns, test_claim, find_claim, with_claim}
-use Rattle.vx_plan_json.specs.Formed.{are_names, are_some_names, is_part_form, is_claim_form}
+use Rattle.vx_plan_json.specs.Formed.{are_names, are_some_names, is_order, is_part_form, is_claim_form}
 use Rattle.vx_plan_json.proofs.Holds.{Holds, holds_then}
 use Rattle.vx_rows_values.proofs.Booleans.{and-left, and-right, and-both}
 use Rattle.vx_plan.proofs.Apart.{apart, test_distinct-apart}
 use Rattle.vx_plan.proofs.FoundFacts.{AreColumns, IsColumn, AreKeys, column-found, columns-found, keys-found, test_distinct_keys-apart, test_distinct-columns, test_distinct-keys, some-columns}
+use Rattle.vx_plan.proofs.OrderFacts.{IsOrder, order-found}
 
 pub test_match-holds : (node : ℕ) (b : Bool) → Holds (λ (u : ⊤). b ≡ true) (test_match node b)
 unfolding test_match
@@ -93,31 +95,31 @@ part-holds s node names types (range_part range col) e h =
 
 record IsClaimFound (s : Names) (cols : Columns) (form : ClaimForm) (k : Claim) : Type 0 where
   part : IsPart s cols.types form.part k.part
-  order : AreColumns cols.names form.order k.order
+  order : IsOrder cols.names form.order k.order
   keys : AreKeys cols.names form.keys k.keys
 
 claim_columns-holds : (s : Names) (node : ℕ) (cols : Columns) (c : ClaimForm) → length cols.names ≡ length cols.types → is_claim_form c ≡ true → Holds (IsClaimFound s cols c) (claim_columns s node cols.names c)
 unfolding claim_columns
 claim_columns-holds s node cols c e h =
-    holds_then (IsPart s cols.types c.part) (IsClaimFound s cols c) (λ p. find_columns node cols.names c.order >>= λ o. find_keys node cols.names c.keys >>= λ ks. Ok (record { part = p; order = o; keys = ks }))
-    (find_part s node cols.names c.part) (part-holds s node cols.names cols.types c.part e (and-left (is_part_form c.part) (are_names c.order && list_all are_names c.keys) h))
-    (λ p hp. holds_then (AreColumns cols.names c.order) (IsClaimFound s cols c) (λ o. find_keys node cols.names c.keys >>= λ ks. Ok (record { part = p; order = o; keys = ks })) (find_columns node cols.names c.order) (columns-found node cols.names c.order)
+    holds_then (IsPart s cols.types c.part) (IsClaimFound s cols c) (λ p. find_order node cols.names c.order >>= λ o. find_keys node cols.names c.keys >>= λ ks. Ok (record { part = p; order = o; keys = ks }))
+    (find_part s node cols.names c.part) (part-holds s node cols.names cols.types c.part e (and-left (is_part_form c.part) (is_order c.order && list_all are_names c.keys) h))
+    (λ p hp. holds_then (IsOrder cols.names c.order) (IsClaimFound s cols c) (λ o. find_keys node cols.names c.keys >>= λ ks. Ok (record { part = p; order = o; keys = ks })) (find_order node cols.names c.order) (order-found node cols.names c.order)
     (λ o ho. holds_then (AreKeys cols.names c.keys) (IsClaimFound s cols c) (λ ks. Ok (record { part = p; order = o; keys = ks })) (find_keys node cols.names c.keys) (keys-found node cols.names c.keys)
     (λ ks hk. record { part = hp; order = ho; keys = hk })))
 
 record StandsOnce (c : ClaimForm) : Type 0 where
   part : apart bytes_eq (part_names c.part) ≡ true
-  order : apart bytes_eq c.order ≡ true
+  order : apart bytes_eq (order_names c.order) ≡ true
   keys : list_all (apart bytes_eq) c.keys ≡ true
 
 test_claim-holds : (node : ℕ) (c : ClaimForm) → Holds (λ (u : ⊤). StandsOnce c) (test_claim node c)
 unfolding test_claim
 test_claim-holds node c =
-    holds_then (λ (u : ⊤). apart bytes_eq (part_names c.part) ≡ true) (λ (u : ⊤). StandsOnce c) (λ u. test_distinct node c.order >>= λ v. test_distinct_keys node c.keys) (test_distinct node (part_names c.part)) (test_distinct-apart node (part_names c.part))
-    (λ u p. holds_then (λ (u : ⊤). apart bytes_eq c.order ≡ true) (λ (u : ⊤). StandsOnce c) (λ v. test_distinct_keys node c.keys) (test_distinct node c.order) (test_distinct-apart node c.order)
+    holds_then (λ (u : ⊤). apart bytes_eq (part_names c.part) ≡ true) (λ (u : ⊤). StandsOnce c) (λ u. test_distinct node (order_names c.order) >>= λ v. test_distinct_keys node c.keys) (test_distinct node (part_names c.part)) (test_distinct-apart node (part_names c.part))
+    (λ u p. holds_then (λ (u : ⊤). apart bytes_eq (order_names c.order) ≡ true) (λ (u : ⊤). StandsOnce c) (λ v. test_distinct_keys node c.keys) (test_distinct node (order_names c.order)) (test_distinct-apart node (order_names c.order))
     (λ v o. go p o (test_distinct_keys node c.keys) (test_distinct_keys-apart node c.keys)))
   where
-    go : apart bytes_eq (part_names c.part) ≡ true → apart bytes_eq c.order ≡ true → (r : Result ⊤ Refusal) → Holds (λ (u : ⊤). list_all (apart bytes_eq) c.keys ≡ true) r → Holds (λ (u : ⊤). StandsOnce c) r
+    go : apart bytes_eq (part_names c.part) ≡ true → apart bytes_eq (order_names c.order) ≡ true → (r : Result ⊤ Refusal) → Holds (λ (u : ⊤). list_all (apart bytes_eq) c.keys ≡ true) r → Holds (λ (u : ⊤). StandsOnce c) r
     go p o (Ok u) k = record { part = p; order = o; keys = k }
     go p o (Err e) k = tt
 
@@ -128,8 +130,8 @@ claim-holds s node cols c e h =
     (λ k f. holds_then (λ (u : ⊤). StandsOnce c) (λ k. is_claim (scope_of s) cols.types k ≡ true) (λ u. test_match node (part_fits s cols.types k.part) >>= λ v. Ok k) (test_claim node c) (test_claim-holds node c)
     (λ u o. holds_then (λ (v : ⊤). part_fits s cols.types k.part ≡ true) (λ k. is_claim (scope_of s) cols.types k ≡ true) (λ v. Ok k) (test_match node (part_fits s cols.types k.part)) (test_match-holds node (part_fits s cols.types k.part))
     (λ v m. let w : ℕ = length cols.types in
-    and-both (is_part (scope_of s) cols.types k.part) (are_columns w k.order && list_all (are_columns w) k.keys) (f.part o.part m)
-    (and-both (are_columns w k.order) (list_all (are_columns w) k.keys) (test_distinct-columns cols.names c.order k.order w e f.order o.order) (test_distinct-keys cols.names c.keys k.keys w e f.keys o.keys)))))
+    and-both (is_part (scope_of s) cols.types k.part) (are_columns w (order_columns k.order) && list_all (are_columns w) k.keys) (f.part o.part m)
+    (and-both (are_columns w (order_columns k.order)) (list_all (are_columns w) k.keys) (test_distinct-columns cols.names (order_names c.order) (order_columns k.order) w e f.order.columns o.order) (test_distinct-keys cols.names c.keys k.keys w e f.keys o.keys)))))
 
 -- a top has its number, its columns and a typed claim
 pub record IsTop (s : Names) (node : ℕ) (cols : Columns) (h : Top) : Type 0 where

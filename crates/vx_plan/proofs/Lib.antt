@@ -1,3 +1,4 @@
+pub mod RisingFacts
 pub mod WalkFacts
 pub mod TestFacts
 pub mod SeenFacts
@@ -12,6 +13,7 @@ pub mod PlanFacts
 pub mod Each
 pub mod Passed
 pub mod Looked
+pub mod OrderFacts
 pub mod ClaimExact
 pub mod UnarySaid
 pub mod MatchExact

@@ -7,6 +7,7 @@ use Rattle.vx_rows_values.specs.declared.value.ColType.TheVariants.{Int}
 use Rattle.vx_rows_values.specs.Types.{type_at}
 use Rattle.vx_rows_values.specs.Lists.{is_some_list}
 use Rattle.vx_catalog_relations.specs.Catalog.{relation_at, all_below, are_distinct}
+use Rattle.vx_rows_values.specs.Order.{order_columns}
 use Rattle.vx_plan_nodes.specs.Plan.{Aggregate, least, greatest, sum, count_rows, select, project, distinct, sort, group, limit, plain, partial, final}
 use Rattle.vx_plan_nodes.specs.Types.{types_of, aggregate_type}
 use Rattle.vx_plan_nodes.specs.Typed.{type_eq, are_columns, is_aggregate, is_unary, is_output, is_kind, may_merge, typed}
@@ -100,8 +101,8 @@ parts-found (scan h r m z p) = refl
 parts-found (unary h (select cs) flags t) = refl
 parts-found (unary h (project cols) flags t) = refl
 parts-found (unary h (distinct cols) flags t) = refl
-parts-found (unary h (sort false cols) flags t) = refl
-parts-found (unary h (sort true cols) flags t) = parts-found t
+parts-found (unary h (sort false order) flags t) = refl
+parts-found (unary h (sort true order) flags t) = parts-found t
 parts-found (unary h (group plain bs ks) flags t) = refl
 parts-found (unary h (group partial bs ks) flags t) = refl
 parts-found (unary h (group final bs ks) flags t) = refl
@@ -115,13 +116,13 @@ parts-open (scan h r m z p) g e b = cc
 parts-open (unary h (select cs) flags t) g e b = cc
 parts-open (unary h (project cols) flags t) g e b = cc
 parts-open (unary h (distinct cols) flags t) g e b = cc
-parts-open (unary h (sort false cols) flags t) g e b = cc
-parts-open (unary h (sort true cols) flags t) g e b =
+parts-open (unary h (sort false order) flags t) g e b = cc
+parts-open (unary h (sort true order) flags t) g e b =
     let keys : List ℕ = first_columns (length g.0) in
-    let P : ℕ → Type 0 = λ n. all_below n cols ≡ true in
-    and-both (all_below (length keys) cols) (opens keys (merged (length g.0) g.1) (plan_in t))
-    (subst P (sym (columns-length 0 (length g.0))) (and-left (all_below (length g.0) cols) (sorts_before (length g.0) t) b))
-    (parts-open t g e (and-right (all_below (length g.0) cols) (sorts_before (length g.0) t) b))
+    let P : ℕ → Type 0 = λ n. all_below n (order_columns order) ≡ true in
+    and-both (all_below (length keys) (order_columns order)) (opens keys (merged (length g.0) g.1) (plan_in t))
+    (subst P (sym (columns-length 0 (length g.0))) (and-left (all_below (length g.0) (order_columns order)) (sorts_before (length g.0) t) b))
+    (parts-open t g e (and-right (all_below (length g.0) (order_columns order)) (sorts_before (length g.0) t) b))
 parts-open (unary h (group plain bs ks) flags t) g e b = cc
 parts-open (unary h (group partial bs ks) flags t) g e b =
     let same : (bs, ks) ≡ g = cc in
@@ -172,8 +173,8 @@ final-unary s (scan h r m z p) g e ok = cc
 final-unary s (unary h (select cs) flags t) g e ok = cc
 final-unary s (unary h (project cols) flags t) g e ok = cc
 final-unary s (unary h (distinct cols) flags t) g e ok = cc
-final-unary s (unary h (sort false cols) flags t) g e ok = cc
-final-unary s (unary h (sort true cols) flags t) g e ok = final-unary s t g e (and-left (typed (scope_of s) (plan_in t)) _ ok)
+final-unary s (unary h (sort false order) flags t) g e ok = cc
+final-unary s (unary h (sort true order) flags t) g e ok = final-unary s t g e (and-left (typed (scope_of s) (plan_in t)) _ ok)
 final-unary s (unary h (group plain bs ks) flags t) g e ok = cc
 final-unary s (unary h (group partial bs ks) flags t) g e ok =
     let same : (bs, ks) ≡ g = cc in
@@ -188,4 +189,4 @@ final-unary s (unary h (limit rows) flags t) g e ok = cc
 final-unary s (binary h op t u) g e ok = cc
 final-unary s (exchange h k m t) g e ok =
     let ts : List ColType = types_of (relation_at s.catalog) (plan_in t) in
-    final-unary s t g e (and-left (typed (scope_of s) (plan_in t)) (is_kind (scope_of s) ts k && (are_columns (length ts) m && (may_merge k m && is_output (scope_of s) ts h.claim))) ok)
+    final-unary s t g e (and-left (typed (scope_of s) (plan_in t)) (is_kind (scope_of s) ts k && (are_columns (length ts) (order_columns m) && (may_merge k m && is_output (scope_of s) ts h.claim))) ok)

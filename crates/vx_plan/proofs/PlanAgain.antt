@@ -2,6 +2,9 @@
 use Rattle.std.proofs.Common.{◌≡◌, ℕ, suc, ◌+◌, ◌==◌, nat_lt, nat_le, List, Bool, true, false, not, ◌&&◌, Ok, length, bytes_eq, refl, sym, ap, ◌∙◌, subst, arith, true≢false, eqb-true}
 use Rattle.std.proofs.lemmas.Bool.{not-true}
 use Rattle.vx_rows_values.specs.declared.value.ColType.{ColType}
+use Rattle.vx_rows_values.specs.declared.order.OrderEntry.{OrderEntry}
+use Rattle.vx_rows_values.specs.Order.{order_columns}
+use Rattle.vx_catalog_relations.specs.Naming.{order_text}
 use Rattle.vx_rows_values.specs.Values.{Name}
 use Rattle.vx_rows_values.proofs.Booleans.{and-left, and-right}
 use Rattle.vx_catalog_relations.specs.Relation.{Relation}
@@ -18,7 +21,7 @@ use Rattle.vx_plan_nodes.specs.Names.{Names, scope_of}
 use Rattle.vx_plan_nodes.proofs.ErasedFacts.{final-types}
 use Rattle.vx_plan_nodes.proofs.OutputFacts.{top-output}
 use Rattle.vx_plan.specs.Resolve.{scan_columns, scan_typed, with_claim, under_final, unary_typed, binary_typed, exchange_typed, typed_in}
-use Rattle.vx_plan.specs.ByName.{names_at, relation_name, size_name, top_by_name, unary_by_name, binary_by_name, kind_by_name, tree_by_name, column_names}
+use Rattle.vx_plan.specs.ByName.{relation_name, size_name, top_by_name, unary_by_name, binary_by_name, kind_by_name, tree_by_name, column_names}
 use Rattle.vx_plan.specs.Exact.{AreNamed}
 use Rattle.vx_plan.proofs.Apart.{apart}
 use Rattle.vx_plan.proofs.Passed.{distinct-apart}
@@ -72,8 +75,8 @@ final-above : (under : Bool) (names output : List Name) (op : Unary) (renamed : 
 final-above under names output (plan.select cs) renamed p h above e = absurd (true≢false (sym e ∙ not-true (is_open p) h))
 final-above under names output (plan.project cols) renamed p h above e = absurd (true≢false (sym e ∙ not-true (is_open p) h))
 final-above under names output (plan.distinct cols) renamed p h above e = absurd (true≢false (sym e ∙ not-true (is_open p) h))
-final-above under names output (plan.sort false cols) renamed p h above e = absurd (true≢false (sym e ∙ not-true (is_open p) h))
-final-above under names output (plan.sort true cols) renamed p h above e = above e
+final-above under names output (plan.sort false order) renamed p h above e = absurd (true≢false (sym e ∙ not-true (is_open p) h))
+final-above under names output (plan.sort true order) renamed p h above e = above e
 final-above under names output (plan.group plan.plain by aggregates) renamed p h above e = absurd (true≢false (sym e ∙ not-true (is_open p) h))
 final-above under names output (plan.group plan.partial by aggregates) renamed p h above e = absurd (true≢false (sym e ∙ not-true (is_open p) h))
 final-above under names output (plan.group plan.final by aggregates) renamed p h above e = refl
@@ -158,25 +161,26 @@ binary-again s n h op t u d ok outputs named number =
       few = node.few;
       distinct = node.own;
       firsts = named.4;
+      rising = named.5;
     } in
     rw (joint-again n (columns t) (columns u) op h.columns join, node.top) refl
 
-exchanged-again : (s : Names) (n : ℕ) (h : Top) (k : ExchangeKind) (merge : List ℕ) (t : Outline) → AreDeclared s → typed (scope_of s) (plan_in (exchange h k merge t)) ≡ true → HasOutputs (relation_at s.catalog) (exchange h k merge t)
+exchanged-again : (s : Names) (n : ℕ) (h : Top) (k : ExchangeKind) (merge : List OrderEntry) (t : Outline) → AreDeclared s → typed (scope_of s) (plan_in (exchange h k merge t)) ≡ true → HasOutputs (relation_at s.catalog) (exchange h k merge t)
     → AreNamed s.catalog (exchange h k merge t) → (h.number == n) ≡ true
-    → exchange_typed s n (top_by_name s h) (kind_by_name s (column_names t) k) (names_at (column_names t) merge) t ≡ Ok (exchange h k merge t)
+    → exchange_typed s n (top_by_name s h) (kind_by_name s (column_names t) k) (order_text (column_names t) merge) t ≡ Ok (exchange h k merge t)
 unfolding exchange_typed
 exchanged-again s n h k merge t d ok outputs named number =
     let ts : List ColType = types_of (relation_at s.catalog) (plan_in t) in
     let last : Bool = is_output (scope_of s) ts h.claim in
-    let one = and-right (typed (scope_of s) (plan_in t)) (is_kind (scope_of s) ts k && (are_columns (length ts) merge && (may_merge k merge && last))) ok in
-    let two = and-right (is_kind (scope_of s) ts k) (are_columns (length ts) merge && (may_merge k merge && last)) one in
-    let three = and-right (are_columns (length ts) merge) (may_merge k merge && last) two in
+    let one = and-right (typed (scope_of s) (plan_in t)) (is_kind (scope_of s) ts k && (are_columns (length ts) (order_columns merge) && (may_merge k merge && last))) ok in
+    let two = and-right (is_kind (scope_of s) ts k) (are_columns (length ts) (order_columns merge) && (may_merge k merge && last)) one in
+    let three = and-right (are_columns (length ts) (order_columns merge)) (may_merge k merge && last) two in
     let node = node-again s n ts h d outputs.0 named.1 (and-right (may_merge k merge) last three) number in
     let input = input-of s t outputs.1 named.2 in
     let P : List ColType → Type 0 = λ xs. is_kind (scope_of s) xs k ≡ true in
-    let Q : List ColType → Type 0 = λ xs. are_columns (length xs) merge ≡ true in
-    let sent = exchange-again s n (columns t) k merge d input.own input.wide (subst P (sym input.typed) (and-left (is_kind (scope_of s) ts k) (are_columns (length ts) merge && (may_merge k merge && last)) one))
-    (subst Q (sym input.typed) (and-left (are_columns (length ts) merge) (may_merge k merge && last) two)) in
+    let Q : List ColType → Type 0 = λ xs. are_columns (length xs) (order_columns merge) ≡ true in
+    let sent = exchange-again s n (columns t) k merge d input.own input.wide (subst P (sym input.typed) (and-left (is_kind (scope_of s) ts k) (are_columns (length ts) (order_columns merge) && (may_merge k merge && last)) one))
+    (subst Q (sym input.typed) (and-left (are_columns (length ts) (order_columns merge)) (may_merge k merge && last) two)) in
     let same : h.columns ≡ columns t = columns-same h.columns (columns t) named.0 (node.typed ∙ sym input.typed) in
     let R : Columns → Type 0 = λ c. with_claim s n c (top_by_name s h) ≡ Ok h in
     rw (sent, subst R same node.top) refl
@@ -222,7 +226,7 @@ tree-again s under n (exchange h k merge t) d ok outputs named numbered above =
     let ts : List ColType = types_of (relation_at s.catalog) (plan_in t) in
     let up : suc n ≡ n + 1 = omega arith in
     let P : ℕ → Type 0 = λ k. is_numbered k (plan_in t) ≡ true in
-    let below = tree-again s under (n + 1) t d (and-left (typed (scope_of s) (plan_in t)) (is_kind (scope_of s) ts k && (are_columns (length ts) merge && (may_merge k merge && is_output (scope_of s) ts h.claim))) ok) outputs.1 named.2
+    let below = tree-again s under (n + 1) t d (and-left (typed (scope_of s) (plan_in t)) (is_kind (scope_of s) ts k && (are_columns (length ts) (order_columns merge) && (may_merge k merge && is_output (scope_of s) ts h.claim))) ok) outputs.1 named.2
     (subst P up (and-right (h.number == n) (is_numbered (suc n) (plan_in t)) numbered)) above in
     let count : n + 1 + nodes (plan_in t) ≡ n + suc (nodes (plan_in t)) = omega arith in
     rw (below, exchanged-again s n h k merge t d ok outputs named (and-left (h.number == n) (is_numbered (suc n) (plan_in t)) numbered), count) refl

@@ -5,6 +5,8 @@ use Rattle.std.proofs.lemmas.List.{length-map, length_push}
 use Rattle.std.proofs.lemmas.Bool.{leb-false, le-leb, or_parts, not-false}
 use Rattle.std.proofs.lemmas.List.Quantifiers.{position-Some}
 use Rattle.vx_rows_values.specs.declared.value.ColType.{ColType}
+use Rattle.vx_catalog_json.specs.Look.{OrderText}
+use Rattle.vx_rows_values.specs.Order.{order_columns}
 use Rattle.vx_catalog_relations.specs.Relation.{Relation}
 use Rattle.vx_catalog_relations.specs.Catalog.{relation_at, IsRelation, IsCatalog}
 use Rattle.vx_plan_nodes.specs.Types.{types_of, unary_types, binary_types}
@@ -143,7 +145,7 @@ binary-holds s under n c op l r between next hc ho hl hr =
       count = omega (arith, hl.count, hr.count);
     }))
 
-exchanged-holds : (s : Names) (under : Bool) (n : ℕ) (c : ClaimForm) (kind : KindForm) (merge : List Name) (i : Outline) (next : ℕ) → is_claim_form c ≡ true → is_kind_form kind ≡ true → is_merge_form kind merge ≡ true → IsResolved s under (n + 1) i next
+exchanged-holds : (s : Names) (under : Bool) (n : ℕ) (c : ClaimForm) (kind : KindForm) (merge : List OrderText) (i : Outline) (next : ℕ) → is_claim_form c ≡ true → is_kind_form kind ≡ true → is_merge_form kind merge ≡ true → IsResolved s under (n + 1) i next
     → Holds (λ o. IsResolved s under n o next) (exchange_typed s n c kind merge i)
 unfolding exchange_typed
 exchanged-holds s under n c kind merge i next hc hk hm hi =
@@ -152,15 +154,15 @@ exchanged-holds s under n c kind merge i next hc hk hm hi =
     (λ x hx. holds_then (IsTop s n (columns i)) (λ o. IsResolved s under n o next) (λ h. Ok (exchange h x.0 x.1 i)) (with_claim s n (columns i) c) (top-holds s n (columns i) c hi.output.names_are hc)
     (λ t ht.
     let P : List ColType → Type 0 = λ us. is_kind (scope_of s) us x.0 ≡ true in
-    let Q : List ColType → Type 0 = λ us. are_columns (length us) x.1 ≡ true in
+    let Q : List ColType → Type 0 = λ us. are_columns (length us) (order_columns x.1) ≡ true in
     let R : ℕ → Type 0 = λ k. is_numbered k (plan_in i) ≡ true in
     let last : Bool = is_output (scope_of s) ts t.claim in
     record {
       output = top-columns s n ts (columns i) t hi.output ht;
       outputs = (output-of (top-columns s n ts (columns i) t hi.output ht), hi.outputs);
-      typed = and-both (typed (scope_of s) (plan_in i)) (is_kind (scope_of s) ts x.0 && (are_columns (length ts) x.1 && (may_merge x.0 x.1 && last))) hi.typed
-          (and-both (is_kind (scope_of s) ts x.0) (are_columns (length ts) x.1 && (may_merge x.0 x.1 && last)) (subst P hi.output.types_are hx.kind)
-          (and-both (are_columns (length ts) x.1) (may_merge x.0 x.1 && last) (subst Q hi.output.types_are hx.merge)
+      typed = and-both (typed (scope_of s) (plan_in i)) (is_kind (scope_of s) ts x.0 && (are_columns (length ts) (order_columns x.1) && (may_merge x.0 x.1 && last))) hi.typed
+          (and-both (is_kind (scope_of s) ts x.0) (are_columns (length ts) (order_columns x.1) && (may_merge x.0 x.1 && last)) (subst P hi.output.types_are hx.kind)
+          (and-both (are_columns (length ts) (order_columns x.1)) (may_merge x.0 x.1 && last) (subst Q hi.output.types_are hx.merge)
           (and-both (may_merge x.0 x.1) last hx.may (top-output s n ts (columns i) t hi.output ht))));
       closed = hi.closed;
       numbered = and-both (t.number == n) (is_numbered (suc n) (plan_in i)) (eq-eqb t.number n ht.number) (let up : n + 1 ≡ suc n = omega arith in subst R up hi.numbered);

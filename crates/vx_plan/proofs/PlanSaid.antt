@@ -3,6 +3,7 @@ use Rattle.std.proofs.Common.{◌≡◌, ℕ, ◌+◌, nat_lt, List, [], ◌∷�
 use Rattle.std.specs.List.{list_all}
 use Rattle.std.proofs.lemmas.List.{append_cancel_left}
 use Rattle.std.proofs.lemmas.Slice.Eq.{bytes_eq-Decides}
+use Rattle.vx_catalog_json.specs.Look.{OrderText}
 use Rattle.vx_rows_values.specs.Values.{Name}
 use Rattle.vx_catalog_relations.specs.Relation.{Relation}
 use Rattle.vx_catalog_relations.specs.Catalog.{relation_at, are_distinct_names, IsCatalog}
@@ -55,7 +56,7 @@ unary-tree e f g = cc
 binary-tree : {c d : ClaimForm} {f g : BinaryForm} {t u v w : Tree} → c ≡ d → f ≡ g → t ≡ u → v ≡ w → form.binary c f t v ≡ form.binary d g u w
 binary-tree e f g h = cc
 
-exchange-tree : {c d : ClaimForm} {f g : KindForm} {m l : List Name} {t u : Tree} → c ≡ d → f ≡ g → m ≡ l → t ≡ u → form.exchange c f m t ≡ form.exchange d g l u
+exchange-tree : {c d : ClaimForm} {f g : KindForm} {m l : List OrderText} {t u : Tree} → c ≡ d → f ≡ g → m ≡ l → t ≡ u → form.exchange c f m t ≡ form.exchange d g l u
 exchange-tree e f g h = cc
 
 scan-said : (s : Names) (n : ℕ) (c : ClaimForm) (f : ScanForm) (o : Outline) → IsCatalog s.catalog → scan_typed s n c f ≡ Ok o → IsTreeSaid s (form.scan c f) o
@@ -99,9 +100,9 @@ binary-said s n c op first second l r o hl hr h =
     let P : Columns → Type 0 = λ c. (c.names ≡ binary_names t.0.op (column_names l) (column_names r)) × (are_distinct_names c.names ≡ true) in
     let Q : Outline → Type 0 = λ o. IsTreeSaid s (form.binary c op first second) o in
     let named = subst P (sym said.columns) (joint.named, joint.distinct) in
-    subst Q u.2 (record { says = binary-tree said.claim joint.says hl.says hr.says; named = (named.0, named.1, hl.named, hr.named, joint.firsts) })
+    subst Q u.2 (record { says = binary-tree said.claim joint.says hl.says hr.says; named = (named.0, named.1, hl.named, hr.named, joint.firsts, joint.rising) })
 
-exchanged-said : (s : Names) (n : ℕ) (c : ClaimForm) (kind : KindForm) (merge : List Name) (below : Tree) (i o : Outline) → IsTreeSaid s below i → exchange_typed s n c kind merge i ≡ Ok o → IsTreeSaid s (form.exchange c kind merge below) o
+exchanged-said : (s : Names) (n : ℕ) (c : ClaimForm) (kind : KindForm) (merge : List OrderText) (below : Tree) (i o : Outline) → IsTreeSaid s below i → exchange_typed s n c kind merge i ≡ Ok o → IsTreeSaid s (form.exchange c kind merge below) o
 unfolding exchange_typed
 exchanged-said s n c kind merge below i o hi h =
     let t = ok_then _ (exchange_shape s n (columns i) kind merge) o h in

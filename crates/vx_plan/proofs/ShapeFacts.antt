@@ -1,9 +1,12 @@
 -- Operators that were found are typed, and give the columns that they say.
-use Rattle.std.proofs.Common.{◌≡◌, ℕ, ◌+◌, nat_lt, nat_le, List, [], ◌∷◌, ◌++◌, true, ◌&&◌, ◌||◌, is_some, Result, Ok, Err, map, length, bytes_eq, refl, sym, ap, ◌∙◌, subst, length-append, not, false, Bool, Option, Some, None, true≢false}
+use Rattle.std.proofs.Common.{◌≡◌, ℕ, ◌+◌, nat_lt, nat_le, List, [], ◌∷◌, ◌++◌, true, ◌&&◌, ◌||◌, is_some, Result, Ok, Err, map, length, bytes_eq, refl, sym, ap, ◌∙◌, subst, length-append, not, false, Bool, Option, Some, None, true≢false, eq-eqb}
 use Rattle.std.specs.Prelude.{⊤}
 use Rattle.std.specs.List.{list_all}
 use Rattle.std.proofs.lemmas.List.{length-map, length_push, map_push}
 use Rattle.vx_rows_values.specs.declared.value.ColType.{ColType}
+use Rattle.vx_catalog_json.specs.Look.{OrderText}
+use Rattle.vx_rows_values.specs.declared.order.OrderEntry.{OrderEntry}
+use Rattle.vx_rows_values.specs.Order.{order_columns}
 use Rattle.vx_rows_values.specs.Types.{type_at}
 use Rattle.vx_catalog_relations.specs.Catalog.{all_below, relation_at}
 use Rattle.vx_plan_nodes.specs.declared.typed.Projected.{Projected}
@@ -11,21 +14,22 @@ use Rattle.vx_plan_nodes.specs.Plan.{Aggregate, Phase, Unary, Condition, Exchang
 use Rattle.vx_plan_nodes.specs.Plan as plan
 use Rattle.vx_plan_nodes.specs.Types.{types_of, unary_types, binary_types, aggregate_type}
 use Rattle.vx_plan_nodes.specs.Phases.{first_columns, merged, unary_open, is_open, phase_fits}
-use Rattle.vx_plan_nodes.specs.Typed.{are_columns, is_condition, is_aggregate, is_unary, is_pair, are_distinct_pairs, is_binary, types_eq, is_kind, may_merge, is_size, is_routed, typed}
+use Rattle.vx_plan_nodes.specs.Typed.{are_columns, is_condition, is_aggregate, is_unary, is_pair, are_distinct_pairs, has_directions, is_binary, types_eq, is_kind, may_merge, is_size, is_routed, typed}
 use Rattle.vx_rows_values.specs.Lists.{is_some_list}
 use Rattle.vx_rows_values.specs.Values.{Name}
 use Rattle.vx_plan_json.specs.Document.{ConditionForm, OutputForm, AggregateForm, UnaryForm, BinaryForm, KindForm}
 use Rattle.vx_plan_json.specs.Document as form
 use Rattle.vx_plan_nodes.specs.Outline.{Columns, Outline, columns, plan_in}
 use Rattle.vx_plan_json.specs.Fault.{Refusal, ◌>>=◌}
-use Rattle.vx_plan.specs.Lookup.{walk_onto, find_column, find_columns, test_distinct, test_distinct_pairs, pair_eq, test_match, test_width, find_size, find_range}
+use Rattle.vx_plan.specs.Lookup.{walk_onto, find_column, find_columns, order_names, find_order, test_distinct, test_distinct_pairs, pair_eq, test_match, test_width, find_size, find_range}
 use Rattle.vx_plan_nodes.specs.Names.{Names, scope_of}
-use Rattle.vx_plan.specs.Resolve.{find_condition, find_conditions, select_shape, Shape, output_name, find_kept, find_all_kept, kept_shape, kept_columns, project_shape, distinct_shape, sort_shape, partial_sort_shape, limit_shape, find_function, find_aggregates, find_group, test_group, group_columns, group_shape, test_phase, partial_shape, parts_of, sorts_before, final_shape, under_final, unary_shape, find_pair, find_pairs, test_join, join_pairs, both_columns, find_matches, join_matches, Joint, binary_shape, find_kind, kind_names, kind_fits, exchange_columns, test_exchange, exchange_shape}
-use Rattle.vx_plan_json.specs.Formed.{are_names, are_some_names, is_condition_form, is_output_form, is_aggregate_form, is_unary_form, is_pair_form, is_binary_form, is_kind_form, is_merge_form}
+use Rattle.vx_plan.specs.Resolve.{find_condition, find_conditions, select_shape, Shape, output_name, find_kept, find_all_kept, kept_shape, kept_columns, project_shape, distinct_shape, sort_shape, partial_sort_shape, limit_shape, find_function, find_aggregates, find_group, test_group, group_columns, group_shape, test_phase, partial_shape, parts_of, sorts_before, final_shape, under_final, unary_shape, find_pair, find_pairs, test_join, join_pairs, both_columns, find_matches, join_matches, method_of, Joint, binary_shape, find_kind, kind_names, kind_fits, exchange_columns, test_exchange, exchange_shape}
+use Rattle.vx_plan_json.specs.Formed.{are_names, are_some_names, is_order, is_condition_form, is_output_form, is_aggregate_form, is_unary_form, is_pair_form, is_binary_form, is_kind_form, is_merge_form}
 use Rattle.vx_plan_json.proofs.Holds.{all_push, Holds, holds_then}
 use Rattle.vx_rows_values.proofs.Booleans.{and-left, and-right, and-both}
 use Rattle.vx_plan.proofs.Apart.{apart, apart-prefix, test_distinct-apart, test_distinct_pairs-apart, distinct-pairs}
 use Rattle.vx_plan.proofs.FoundFacts.{name_of, AreColumns, IsColumn, column-found, columns-found, walk-holds, walk-length, test_distinct-columns, some-columns}
+use Rattle.vx_plan.proofs.OrderFacts.{IsOrder, order-found, order-count}
 use Rattle.vx_plan_nodes.proofs.ErasedFacts.{final-types}
 use Rattle.vx_plan.proofs.PhaseFacts.{some-alike, parts-found, parts-open, final-unary}
 use Rattle.vx_plan.proofs.ClaimFacts.{test_match-holds, test_width-holds, size-holds, range-holds, hash-routed, range-routed}
@@ -120,17 +124,18 @@ distinct-holds under p node cols os out h shut =
     holds_then (IsKeptShape cols os) (IsShape under p cols) (λ ks. Ok (record { op = plan.distinct (map (λ (k : Projected). k.column) ks); renamed = map (λ (k : Projected). k.renamed) ks; columns = kept_columns cols os ks })) (kept_shape node cols os) (kept-holds node cols os)
     (λ ks k. record { op = kept-below cols os ks out.names_are h k; output = kept-output cols os ks k; fits = ap not shut; closed = λ e. refl })
 
-sort-holds : (under : Bool) (p : Plan) (of_parts : Bool) (node : ℕ) (cols : Columns) (names : List Name) → IsOutput cols.types cols → is_some_list names ≡ true
-    → ((ps : List ℕ) → phase_fits (plan.sort of_parts ps) p ≡ true) → ((ps : List ℕ) → under ≡ false → unary_open (plan.sort of_parts ps) (is_open p) ≡ false) → Holds (IsShape under p cols) (sort_shape of_parts node cols names)
+sort-holds : (under : Bool) (p : Plan) (of_parts : Bool) (node : ℕ) (cols : Columns) (order : List OrderText) → IsOutput cols.types cols → is_some_list order ≡ true
+    → ((o : List OrderEntry) → phase_fits (plan.sort of_parts o) p ≡ true) → ((o : List OrderEntry) → under ≡ false → unary_open (plan.sort of_parts o) (is_open p) ≡ false) → Holds (IsShape under p cols) (sort_shape of_parts node cols order)
 unfolding sort_shape
-sort-holds under p of_parts node cols names out h fits shut =
-    holds_then (AreColumns cols.names names) (IsShape under p cols) (λ ps. test_distinct node names >>= λ u. Ok (record { op = plan.sort of_parts ps; renamed = []; columns = cols })) (find_columns node cols.names names) (columns-found node cols.names names)
-    (λ ps f. holds_then (λ (u : ⊤). apart bytes_eq names ≡ true) (IsShape under p cols) (λ u. Ok (record { op = plan.sort of_parts ps; renamed = []; columns = cols })) (test_distinct node names) (test_distinct-apart node names)
+sort-holds under p of_parts node cols order out h fits shut =
+    holds_then (IsOrder cols.names order) (IsShape under p cols) (λ o. test_distinct node (order_names order) >>= λ u. Ok (record { op = plan.sort of_parts o; renamed = []; columns = cols })) (find_order node cols.names order) (order-found node cols.names order)
+    (λ o f. holds_then (λ (u : ⊤). apart bytes_eq (order_names order) ≡ true) (IsShape under p cols) (λ u. Ok (record { op = plan.sort of_parts o; renamed = []; columns = cols })) (test_distinct node (order_names order)) (test_distinct-apart node (order_names order))
     (λ u a. record {
-      op = and-both (is_some_list ps) (are_columns (length cols.types) ps) (some-columns cols.names names ps f h) (test_distinct-columns cols.names names ps (length cols.types) out.names_are f a);
+      op = and-both (is_some_list o) (are_columns (length cols.types) (order_columns o)) (some-alike o order (order-count cols.names order o f) ∙ h)
+          (test_distinct-columns cols.names (order_names order) (order_columns o) (length cols.types) out.names_are f.columns a);
       output = out;
-      fits = fits ps;
-      closed = shut ps;
+      fits = fits o;
+      closed = shut o;
     }))
 
 test_phase-holds : (node : ℕ) (fits : Bool) → Holds (λ (u : ⊤). fits ≡ true) (test_phase node fits)
@@ -139,12 +144,12 @@ test_phase-holds node true = refl
 test_phase-holds node false = tt
 
 -- a partial sort that was found is under a final group, and over a plan that is open
-partial_sort-holds : (under : Bool) (t : Outline) (node : ℕ) (cols : Columns) (names : List Name) → IsOutput cols.types cols → is_some_list names ≡ true
-    → Holds (IsShape under (plan_in t) cols) (partial_sort_shape (under && is_some (parts_of t)) node cols names)
+partial_sort-holds : (under : Bool) (t : Outline) (node : ℕ) (cols : Columns) (order : List OrderText) → IsOutput cols.types cols → is_some_list order ≡ true
+    → Holds (IsShape under (plan_in t) cols) (partial_sort_shape (under && is_some (parts_of t)) node cols order)
 unfolding partial_sort_shape
-partial_sort-holds under t node cols names out h =
-    holds_then (λ (u : ⊤). (under && is_some (parts_of t)) ≡ true) (IsShape under (plan_in t) cols) (λ u. sort_shape true node cols names) (test_phase node (under && is_some (parts_of t))) (test_phase-holds node (under && is_some (parts_of t)))
-    (λ u e. sort-holds under (plan_in t) true node cols names out h (λ ps. sym (parts-found t) ∙ and-right under (is_some (parts_of t)) e)
+partial_sort-holds under t node cols order out h =
+    holds_then (λ (u : ⊤). (under && is_some (parts_of t)) ≡ true) (IsShape under (plan_in t) cols) (λ u. sort_shape true node cols order) (test_phase node (under && is_some (parts_of t))) (test_phase-holds node (under && is_some (parts_of t)))
+    (λ u e. sort-holds under (plan_in t) true node cols order out h (λ ps. sym (parts-found t) ∙ and-right under (is_some (parts_of t)) e)
     (λ ps f. absurd (true≢false (sym (and-left under (is_some (parts_of t)) e) ∙ f))))
 
 record IsGroupFound (cols : Columns) (by : List Name) (aggregates : List AggregateForm) (g : List ℕ × List Aggregate) : Type 0 where
@@ -239,9 +244,9 @@ unfolding unary_shape limit_shape
 shape-holds under s node t (form.select cs) out typed h shut = select-holds under (plan_in t) node (columns t) cs (own-output out) (and-left (is_some_list cs) (list_all is_condition_form cs) h) (shut refl)
 shape-holds under s node t (form.project os) out typed h shut = project-holds under (plan_in t) node (columns t) os (own-output out) (and-left (is_some_list os) (list_all is_output_form os) h) (shut refl)
 shape-holds under s node t (form.distinct os) out typed h shut = distinct-holds under (plan_in t) node (columns t) os (own-output out) (and-left (is_some_list os) (list_all is_output_form os) h) (shut refl)
-shape-holds under s node t (form.sort names) out typed h shut =
-    sort-holds under (plan_in t) false node (columns t) names (own-output out) (and-left (is_some_list names) (are_names names) h) (λ ps. ap not (shut refl)) (λ ps e. refl)
-shape-holds under s node t (form.partial_sort names) out typed h shut = partial_sort-holds under t node (columns t) names (own-output out) (and-left (is_some_list names) (are_names names) h)
+shape-holds under s node t (form.sort order) out typed h shut =
+    sort-holds under (plan_in t) false node (columns t) order (own-output out) (and-left (is_some_list order) (is_order order) h) (λ ps. ap not (shut refl)) (λ ps e. refl)
+shape-holds under s node t (form.partial_sort order) out typed h shut = partial_sort-holds under t node (columns t) order (own-output out) (and-left (is_some_list order) (is_order order) h)
 shape-holds under s node t (form.group by aggregates) out typed h shut =
     group-holds under (plan_in t) plan.plain node (columns t) by aggregates (own-output out) (and-left (is_some_list by || is_some_list aggregates) (are_names by && list_all is_aggregate_form aggregates) h)
     (λ bs ks. ap not (shut refl)) (λ bs ks e. refl)
@@ -337,20 +342,26 @@ pairs-distinct l r on ps f h =
     let Q : List (Name × Name) → Type 0 = λ zs. apart pair_eq zs ≡ true in
     distinct-pairs (name_of l.names) (name_of r.names) ps (subst Q (sym f.named) h)
 
+-- a merge join has a direction for each pair
+directed : (merging : Bool) (ps : List (ℕ × ℕ)) → has_directions (method_of merging ps) ps ≡ true
+directed false ps = refl
+directed true ps = eq-eqb (length (map (λ (p : ℕ × ℕ). false) ps)) (length ps) (length-map ps (λ (p : ℕ × ℕ). false))
+
 pub joint-holds : (node : ℕ) (l r : Columns) (op : BinaryForm) → IsOutput l.types l → IsOutput r.types r → is_binary_form op ≡ true → Holds (IsJoint l r) (binary_shape node l r op)
 unfolding binary_shape
 joint-holds node l r form.union lo ro h =
     holds_then (λ (u : ⊤). types_eq l.types r.types ≡ true) (IsJoint l r) (λ u. Ok (record { op = plan.union; columns = l })) (test_match node (types_eq l.types r.types)) (test_match-holds node (types_eq l.types r.types)) (λ u m. record { op = m; output = lo })
 joint-holds node l r (form.join merging on) lo ro h =
-    holds_then (IsJoined l r on) (IsJoint l r) (λ ps. Ok (record { op = plan.join merging ps; columns = both_columns l r })) (join_pairs node l r on) (join-holds node l r on)
+    holds_then (IsJoined l r on) (IsJoint l r) (λ ps. Ok (record { op = plan.join (method_of merging ps) ps; columns = both_columns l r })) (join_pairs node l r on) (join-holds node l r on)
     (λ ps j.
     let wide : length (l.names ++ r.names) ≡ length (l.types ++ r.types) =
     length-append l.names r.names ∙ ap (λ n. n + length r.names) lo.names_are ∙ ap (λ n. length l.types + n) ro.names_are ∙ sym (length-append l.types r.types) in
     let P : ℕ → Type 0 = λ n. nat_le n 64 ≡ true in
     record {
-      op = and-both (is_some_list ps) (list_all (is_pair l.types r.types) ps && are_distinct_pairs ps)
+      op = and-both (is_some_list ps) (list_all (is_pair l.types r.types) ps && (are_distinct_pairs ps && has_directions (method_of merging ps) ps))
           (some-alike ps on j.found.count ∙ and-left (is_some_list on) (list_all is_pair_form on) h)
-          (and-both (list_all (is_pair l.types r.types) ps) (are_distinct_pairs ps) j.typed (pairs-distinct l r on ps j.found j.tested.pairs));
+          (and-both (list_all (is_pair l.types r.types) ps) (are_distinct_pairs ps && has_directions (method_of merging ps) ps) j.typed
+          (and-both (are_distinct_pairs ps) (has_directions (method_of merging ps) ps) (pairs-distinct l r on ps j.found j.tested.pairs) (directed merging ps)));
       output = record { types_are = refl; names_are = wide; few = subst P wide j.tested.few };
     })
 joint-holds node l r (form.semi_join matched on cs) lo ro h =
@@ -368,10 +379,10 @@ joint-holds node l r (form.semi_join matched on cs) lo ro h =
 
 -- ---- exchanges
 
--- a found kind is typed, where its columns stand once and have its type, and merges on columns where its form does
+-- a found kind is typed, where its columns stand once and have its type, and merges by an order where its form does
 record IsKind (s : Names) (types : List ColType) (form : KindForm) (k : ExchangeKind) : Type 0 where
   sends : apart bytes_eq (kind_names form) ≡ true → kind_fits s types k ≡ true → is_kind (scope_of s) types k ≡ true
-  merges : (names : List Name) (cols : List ℕ) → is_merge_form form names ≡ true → length cols ≡ length names → may_merge k cols ≡ true
+  merges : (order : List OrderText) (o : List OrderEntry) → is_merge_form form order ≡ true → length o ≡ length order → may_merge k o ≡ true
 
 kind-holds : (s : Names) (node : ℕ) (cols : Columns) (kind : KindForm) → IsOutput cols.types cols → is_kind_form kind ≡ true → Holds (IsKind s cols.types kind) (find_kind s node cols.names kind)
 unfolding find_kind
@@ -399,43 +410,43 @@ kind-holds s node cols (form.broadcast size) out h =
 kind-holds s node cols form.gather out h = record { sends = λ a m. refl; merges = λ ns ms g e. refl }
 kind-holds s node cols form.concat out h = record { sends = λ a m. refl; merges = none-merged }
   where
-    none-merged : (names : List Name) (cols : List ℕ) → is_merge_form form.concat names ≡ true → length cols ≡ length names → may_merge plan.concat cols ≡ true
+    none-merged : (order : List OrderText) (o : List OrderEntry) → is_merge_form form.concat order ≡ true → length o ≡ length order → may_merge plan.concat o ≡ true
     none-merged [] [] g e = refl
     none-merged [] (c ∷ cs) g e = cc
     none-merged (n ∷ ns) cs g e = cc
 
-record IsExchangeFound (s : Names) (cols : Columns) (kind : KindForm) (merge : List Name) (x : ExchangeKind × List ℕ) : Type 0 where
+record IsExchangeFound (s : Names) (cols : Columns) (kind : KindForm) (merge : List OrderText) (x : ExchangeKind × List OrderEntry) : Type 0 where
   sends : IsKind s cols.types kind x.0
-  merges : AreColumns cols.names merge x.1
+  merges : IsOrder cols.names merge x.1
 
-exchange_columns-holds : (s : Names) (node : ℕ) (cols : Columns) (kind : KindForm) (merge : List Name) → IsOutput cols.types cols → is_kind_form kind ≡ true → Holds (IsExchangeFound s cols kind merge) (exchange_columns s node cols.names kind merge)
+exchange_columns-holds : (s : Names) (node : ℕ) (cols : Columns) (kind : KindForm) (merge : List OrderText) → IsOutput cols.types cols → is_kind_form kind ≡ true → Holds (IsExchangeFound s cols kind merge) (exchange_columns s node cols.names kind merge)
 unfolding exchange_columns
 exchange_columns-holds s node cols kind merge out h =
-    holds_then (IsKind s cols.types kind) (IsExchangeFound s cols kind merge) (λ k. find_columns node cols.names merge >>= λ ms. Ok (k, ms)) (find_kind s node cols.names kind) (kind-holds s node cols kind out h)
-    (λ k hk. holds_then (AreColumns cols.names merge) (IsExchangeFound s cols kind merge) (λ ms. Ok (k, ms)) (find_columns node cols.names merge) (columns-found node cols.names merge) (λ ms f. record { sends = hk; merges = f }))
+    holds_then (IsKind s cols.types kind) (IsExchangeFound s cols kind merge) (λ k. find_order node cols.names merge >>= λ ms. Ok (k, ms)) (find_kind s node cols.names kind) (kind-holds s node cols kind out h)
+    (λ k hk. holds_then (IsOrder cols.names merge) (IsExchangeFound s cols kind merge) (λ ms. Ok (k, ms)) (find_order node cols.names merge) (order-found node cols.names merge) (λ ms f. record { sends = hk; merges = f }))
 
-record IsExchangeOnce (kind : KindForm) (merge : List Name) : Type 0 where
+record IsExchangeOnce (kind : KindForm) (merge : List OrderText) : Type 0 where
   sends : apart bytes_eq (kind_names kind) ≡ true
-  merges : apart bytes_eq merge ≡ true
+  merges : apart bytes_eq (order_names merge) ≡ true
 
-test_exchange-holds : (node : ℕ) (kind : KindForm) (merge : List Name) → Holds (λ (u : ⊤). IsExchangeOnce kind merge) (test_exchange node kind merge)
+test_exchange-holds : (node : ℕ) (kind : KindForm) (merge : List OrderText) → Holds (λ (u : ⊤). IsExchangeOnce kind merge) (test_exchange node kind merge)
 unfolding test_exchange
 test_exchange-holds node kind merge =
-    holds_then (λ (u : ⊤). apart bytes_eq (kind_names kind) ≡ true) (λ (u : ⊤). IsExchangeOnce kind merge) (λ u. test_distinct node merge) (test_distinct node (kind_names kind)) (test_distinct-apart node (kind_names kind)) (λ u k. go k (test_distinct node merge) (test_distinct-apart node merge))
+    holds_then (λ (u : ⊤). apart bytes_eq (kind_names kind) ≡ true) (λ (u : ⊤). IsExchangeOnce kind merge) (λ u. test_distinct node (order_names merge)) (test_distinct node (kind_names kind)) (test_distinct-apart node (kind_names kind)) (λ u k. go k (test_distinct node (order_names merge)) (test_distinct-apart node (order_names merge)))
   where
-    go : apart bytes_eq (kind_names kind) ≡ true → (r : Result ⊤ Refusal) → Holds (λ (u : ⊤). apart bytes_eq merge ≡ true) r → Holds (λ (u : ⊤). IsExchangeOnce kind merge) r
+    go : apart bytes_eq (kind_names kind) ≡ true → (r : Result ⊤ Refusal) → Holds (λ (u : ⊤). apart bytes_eq (order_names merge) ≡ true) r → Holds (λ (u : ⊤). IsExchangeOnce kind merge) r
     go k (Ok u) m = record { sends = k; merges = m }
     go k (Err e) m = tt
 
-pub record IsExchange (s : Names) (types : List ColType) (x : ExchangeKind × List ℕ) : Type 0 where
+pub record IsExchange (s : Names) (types : List ColType) (x : ExchangeKind × List OrderEntry) : Type 0 where
   pub kind : is_kind (scope_of s) types x.0 ≡ true
-  pub merge : are_columns (length types) x.1 ≡ true
+  pub merge : are_columns (length types) (order_columns x.1) ≡ true
   pub may : may_merge x.0 x.1 ≡ true
 
-pub exchange-holds : (s : Names) (node : ℕ) (cols : Columns) (kind : KindForm) (merge : List Name) → IsOutput cols.types cols → is_kind_form kind ≡ true → is_merge_form kind merge ≡ true → Holds (IsExchange s cols.types) (exchange_shape s node cols kind merge)
+pub exchange-holds : (s : Names) (node : ℕ) (cols : Columns) (kind : KindForm) (merge : List OrderText) → IsOutput cols.types cols → is_kind_form kind ≡ true → is_merge_form kind merge ≡ true → Holds (IsExchange s cols.types) (exchange_shape s node cols kind merge)
 unfolding exchange_shape
 exchange-holds s node cols kind merge out h g =
     holds_then (IsExchangeFound s cols kind merge) (IsExchange s cols.types) (λ x. test_exchange node kind merge >>= λ u. test_match node (kind_fits s cols.types x.0) >>= λ v. Ok x) (exchange_columns s node cols.names kind merge) (exchange_columns-holds s node cols kind merge out h)
     (λ x f. holds_then (λ (u : ⊤). IsExchangeOnce kind merge) (IsExchange s cols.types) (λ u. test_match node (kind_fits s cols.types x.0) >>= λ v. Ok x) (test_exchange node kind merge) (test_exchange-holds node kind merge)
     (λ u o. holds_then (λ (v : ⊤). kind_fits s cols.types x.0 ≡ true) (IsExchange s cols.types) (λ v. Ok x) (test_match node (kind_fits s cols.types x.0)) (test_match-holds node (kind_fits s cols.types x.0))
-    (λ v m. record { kind = f.sends.sends o.sends m; merge = test_distinct-columns cols.names merge x.1 (length cols.types) out.names_are f.merges o.merges; may = f.sends.merges merge x.1 g (columns-count cols.names merge x.1 f.merges) })))
+    (λ v m. record { kind = f.sends.sends o.sends m; merge = test_distinct-columns cols.names (order_names merge) (order_columns x.1) (length cols.types) out.names_are f.merges.columns o.merges; may = f.sends.merges merge x.1 g (order-count cols.names merge x.1 f.merges) })))

@@ -6,6 +6,10 @@ use Rattle.std.proofs.lemmas.List.{length-map, length-append, take-append-drop, 
 use Rattle.std.proofs.lemmas.Slice.Eq.{bytes_eq-Decides}
 use Rattle.vx_rows_values.specs.declared.value.ColType.{ColType}
 use Rattle.vx_rows_values.specs.declared.value.ColType.TheVariants.{Int}
+use Rattle.vx_rows_values.specs.declared.order.OrderEntry.{OrderEntry}
+use Rattle.vx_rows_values.specs.Order.{order_columns}
+use Rattle.vx_catalog_relations.specs.Naming.{order_text}
+use Rattle.vx_plan.proofs.OrderFacts.{order-again, order_once-again}
 use Rattle.vx_rows_values.specs.Types.{type_at}
 use Rattle.vx_rows_values.specs.Lists.{is_some_list}
 use Rattle.vx_rows_values.specs.Values.{Name}
@@ -166,12 +170,12 @@ distinct-again node input cols renamed output o =
     let k = kept_shape-again node input cols renamed output o.own o.wide (and-right (is_some_list cols) (all_below (length input.types) cols) o.fits) o.named o.typed o.long o.few o.distinct in
     rw (k.found, k.which, k.flags, k.gives) refl
 
-sort-again : (of_parts : Bool) (node : ℕ) (input : Columns) (cols : List ℕ) (renamed : List Bool) (output : Columns) → IsOver input (plan.sort of_parts cols) renamed output
-    → sort_shape of_parts node input (names_at input.names cols) ≡ Ok (record { op = plan.sort of_parts cols; renamed = renamed; columns = output })
+sort-again : (of_parts : Bool) (node : ℕ) (input : Columns) (order : List OrderEntry) (renamed : List Bool) (output : Columns) → IsOver input (plan.sort of_parts order) renamed output
+    → sort_shape of_parts node input (order_text input.names order) ≡ Ok (record { op = plan.sort of_parts order; renamed = renamed; columns = output })
 unfolding sort_shape
-sort-again of_parts node input cols renamed output o =
-    let are = along input.names input.types cols o.wide (and-right (is_some_list cols) (are_columns (length input.types) cols) o.fits) in
-    rw (columns-again node input.names cols o.own (and-left (all_below (length input.names) cols) (are_distinct cols) are), columns_once-again node input.names cols o.own are, o.named.0, columns-same output input o.named.1 o.typed) refl
+sort-again of_parts node input order renamed output o =
+    let are = along input.names input.types (order_columns order) o.wide (and-right (is_some_list order) (are_columns (length input.types) (order_columns order)) o.fits) in
+    rw (order-again node input.names order o.own are, order_once-again node input.names order o.own are, o.named.0, columns-same output input o.named.1 o.typed) refl
 
 -- ---- groups
 
@@ -255,17 +259,17 @@ parts-again (scan h r m z p) keys puts e = cc
 parts-again (unary h (plan.select cs) renamed t) keys puts e = cc
 parts-again (unary h (plan.project cols) renamed t) keys puts e = cc
 parts-again (unary h (plan.distinct cols) renamed t) keys puts e = cc
-parts-again (unary h (plan.sort false cols) renamed t) keys puts e = cc
-parts-again (unary h (plan.sort true cols) renamed t) keys puts e =
-    let g = parts-again t keys puts (and-right (all_below (length keys) cols) (opens keys puts (plan_in t)) e) in
+parts-again (unary h (plan.sort false order) renamed t) keys puts e = cc
+parts-again (unary h (plan.sort true order) renamed t) keys puts e =
+    let g = parts-again t keys puts (and-right (all_below (length keys) (order_columns order)) (opens keys puts (plan_in t)) e) in
     let count : length keys ≡ length g.parts.0 = ap length (sym g.keyed) ∙ columns-length 0 (length g.parts.0) in
-    let P : ℕ → Type 0 = λ n. all_below n cols ≡ true in
+    let P : ℕ → Type 0 = λ n. all_below n (order_columns order) ≡ true in
     record {
       parts = g.parts;
       found = g.found;
       keyed = g.keyed;
       put = g.put;
-      sorted = and-both (all_below (length g.parts.0) cols) (sorts_before (length g.parts.0) t) (subst P count (and-left (all_below (length keys) cols) (opens keys puts (plan_in t)) e)) g.sorted;
+      sorted = and-both (all_below (length g.parts.0) (order_columns order)) (sorts_before (length g.parts.0) t) (subst P count (and-left (all_below (length keys) (order_columns order)) (opens keys puts (plan_in t)) e)) g.sorted;
     }
 parts-again (unary h (plan.group plan.plain bs ks) renamed t) keys puts e = cc
 parts-again (unary h (plan.group plan.partial bs ks) renamed t) keys puts e =
@@ -300,10 +304,10 @@ unfolding unary_shape partial_sort_shape partial_shape limit_shape
 shape-again under node t (plan.select cs) renamed output o fits above same = select-again node (columns t) cs renamed output o
 shape-again under node t (plan.project cols) renamed output o fits above same = project-again node (columns t) cols renamed output o
 shape-again under node t (plan.distinct cols) renamed output o fits above same = distinct-again node (columns t) cols renamed output o
-shape-again under node t (plan.sort false cols) renamed output o fits above same = sort-again false node (columns t) cols renamed output o
-shape-again under node t (plan.sort true cols) renamed output o fits above same =
+shape-again under node t (plan.sort false order) renamed output o fits above same = sort-again false node (columns t) order renamed output o
+shape-again under node t (plan.sort true order) renamed output o fits above same =
     rw (test_phase-again node (under && is_some (parts_of t)) (and-both under (is_some (parts_of t)) (above fits) (parts-found t ∙ fits)))
-    (sort-again true node (columns t) cols renamed output o)
+    (sort-again true node (columns t) order renamed output o)
 shape-again under node t (plan.group plan.plain by aggregates) renamed output o fits above same =
     group-again plan.plain node (columns t) by aggregates renamed output o.own o.wide (and-right (is_some_list by || is_some_list aggregates) _ o.fits) o.named o.typed o.long o.few o.distinct
 shape-again under node t (plan.group plan.partial by aggregates) renamed output o fits above same =

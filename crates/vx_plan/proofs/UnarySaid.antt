@@ -4,6 +4,7 @@ use Rattle.std.specs.Prelude.{⊤, if◌then◌else◌}
 use Rattle.std.specs.List.{list_all}
 use Rattle.std.proofs.lemmas.List.{length-map, take_at, drop_at}
 use Rattle.std.proofs.lemmas.Slice.Eq.{bytes_eq-Decides}
+use Rattle.vx_catalog_json.specs.Look.{OrderText}
 use Rattle.vx_rows_values.specs.Values.{Name}
 use Rattle.vx_rows_values.proofs.Booleans.{and-both}
 use Rattle.vx_catalog_relations.specs.Catalog.{are_distinct_names}
@@ -18,7 +19,7 @@ use Rattle.vx_plan_json.specs.Document.{SideForm, ConditionForm, OutputForm, Fun
 use Rattle.vx_plan_json.specs.Document as form
 use Rattle.vx_plan_json.specs.Fault.{Refusal}
 use Rattle.vx_plan_json.proofs.Holds.{holds_at}
-use Rattle.vx_plan.specs.Lookup.{walk_onto, find_column, find_columns, test_distinct, test_match, test_width}
+use Rattle.vx_plan.specs.Lookup.{walk_onto, find_column, find_columns, order_names, find_order, test_distinct, test_match, test_width}
 use Rattle.vx_plan.specs.Resolve.{Shape, find_side, find_condition, find_conditions, select_shape, output_name, find_kept, find_all_kept, kept_shape, kept_columns, project_shape, distinct_shape, sort_shape, partial_sort_shape, limit_shape, find_function, find_aggregates, find_group, test_group, group_columns, group_shape, test_phase, partial_shape, parts_of, sorts_before, final_shape, unary_shape}
 use Rattle.vx_plan.specs.ByName.{names_at, side_by_name, condition_by_name, kept_by_name, function_by_name, aggregates_by_name, unary_by_name, column_names}
 use Rattle.vx_plan.specs.Exact.{are_kept, UnaryNames}
@@ -26,6 +27,7 @@ use Rattle.vx_plan.proofs.Apart.{apart, test_distinct-apart}
 use Rattle.vx_plan.proofs.Each.{ok_then, ok_last, Each, each-walked, each-said}
 use Rattle.vx_plan.proofs.Passed.{apart-distinct}
 use Rattle.vx_plan.proofs.Looked.{column-said, columns-said}
+use Rattle.vx_plan.proofs.OrderFacts.{order-said}
 
 -- over columns of these names
 pub record IsSaid (names : List Name) (f : UnaryForm) (o : Shape) : Type 0 where
@@ -130,22 +132,22 @@ distinct-said node cols os o h =
     let P : Shape → Type 0 = λ o. IsSaid cols.names (form.distinct os) o in
     subst P t.2 (record { says = ap (λ l. form.distinct l) k.kept.says; named = k.kept.named; distinct = k.distinct })
 
-sort-said : (node : ℕ) (cols : Columns) (names : List Name) (o : Shape) → are_distinct_names cols.names ≡ true → sort_shape false node cols names ≡ Ok o → IsSaid cols.names (form.sort names) o
+sort-said : (node : ℕ) (cols : Columns) (order : List OrderText) (o : Shape) → are_distinct_names cols.names ≡ true → sort_shape false node cols order ≡ Ok o → IsSaid cols.names (form.sort order) o
 unfolding sort_shape
-sort-said node cols names o d h =
-    let t = ok_then _ (find_columns node cols.names names) o h in
-    let u = ok_last (λ (w : ⊤). record { op = plan.sort false t.0; renamed = []; columns = cols }) (test_distinct node names) o t.2 in
-    let P : Shape → Type 0 = λ o. IsSaid cols.names (form.sort names) o in
-    subst P u.2 (record { says = ap (λ l. form.sort l) (columns-said node cols.names names t.0 t.1); named = (refl, refl); distinct = d })
+sort-said node cols order o d h =
+    let t = ok_then _ (find_order node cols.names order) o h in
+    let u = ok_last (λ (w : ⊤). record { op = plan.sort false t.0; renamed = []; columns = cols }) (test_distinct node (order_names order)) o t.2 in
+    let P : Shape → Type 0 = λ o. IsSaid cols.names (form.sort order) o in
+    subst P u.2 (record { says = ap (λ l. form.sort l) (order-said node cols.names order t.0 t.1); named = (refl, refl); distinct = d })
 
-partial_sort-said : (between : Bool) (node : ℕ) (cols : Columns) (names : List Name) (o : Shape) → are_distinct_names cols.names ≡ true → partial_sort_shape between node cols names ≡ Ok o → IsSaid cols.names (form.partial_sort names) o
+partial_sort-said : (between : Bool) (node : ℕ) (cols : Columns) (order : List OrderText) (o : Shape) → are_distinct_names cols.names ≡ true → partial_sort_shape between node cols order ≡ Ok o → IsSaid cols.names (form.partial_sort order) o
 unfolding partial_sort_shape sort_shape
-partial_sort-said between node cols names o d h =
+partial_sort-said between node cols order o d h =
     let f = ok_then _ (test_phase node between) o h in
-    let t = ok_then _ (find_columns node cols.names names) o f.2 in
-    let u = ok_last (λ (w : ⊤). record { op = plan.sort true t.0; renamed = []; columns = cols }) (test_distinct node names) o t.2 in
-    let P : Shape → Type 0 = λ o. IsSaid cols.names (form.partial_sort names) o in
-    subst P u.2 (record { says = ap (λ l. form.partial_sort l) (columns-said node cols.names names t.0 t.1); named = (refl, refl); distinct = d })
+    let t = ok_then _ (find_order node cols.names order) o f.2 in
+    let u = ok_last (λ (w : ⊤). record { op = plan.sort true t.0; renamed = []; columns = cols }) (test_distinct node (order_names order)) o t.2 in
+    let P : Shape → Type 0 = λ o. IsSaid cols.names (form.partial_sort order) o in
+    subst P u.2 (record { says = ap (λ l. form.partial_sort l) (order-said node cols.names order t.0 t.1); named = (refl, refl); distinct = d })
 
 -- ---- groups
 
@@ -257,8 +259,8 @@ unfolding unary_shape
 shape-said under node t (form.select cs) o d h = select-said node (columns t) cs o d h
 shape-said under node t (form.project os) o d h = project-said node (columns t) os o h
 shape-said under node t (form.distinct os) o d h = distinct-said node (columns t) os o h
-shape-said under node t (form.sort names) o d h = sort-said node (columns t) names o d h
-shape-said under node t (form.partial_sort names) o d h = partial_sort-said (under && is_some (parts_of t)) node (columns t) names o d h
+shape-said under node t (form.sort order) o d h = sort-said node (columns t) order o d h
+shape-said under node t (form.partial_sort order) o d h = partial_sort-said (under && is_some (parts_of t)) node (columns t) order o d h
 shape-said under node t (form.group by fs) o d h = plain-said node (columns t) by fs o h
 shape-said under node t (form.partial_group by fs) o d h = partial-said under node (columns t) by fs o h
 shape-said under node t form.final_group o d h = final-said node t (parts_of t) o d h

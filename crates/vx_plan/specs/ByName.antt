@@ -1,8 +1,8 @@
 -- The document that says a typed plan: each column, relation, size and range by its name in place of its number.
 use Rattle.std.specs.Prelude.{ℕ, List, [], ◌∷◌, ◌++◌, map, length, drop, Bool, true, false, if◌then◌else◌, Some, None, codes}
 use Rattle.vx_rows_values.specs.Values.{Name}
-use Rattle.vx_catalog_relations.specs.Naming.{name_at}
-use Rattle.vx_plan_nodes.specs.Plan.{Size, one_worker, group_of, Route, by_hash, by_range, Part, routed, Claim, Side, Condition, Aggregate, Unary, Binary, ExchangeKind, route_to}
+use Rattle.vx_catalog_relations.specs.Naming.{name_at, order_text}
+use Rattle.vx_plan_nodes.specs.Plan.{Size, one_worker, group_of, Route, by_hash, by_range, Part, routed, Claim, Side, Condition, Aggregate, Unary, JoinMethod, by_hashing, by_merging, Binary, ExchangeKind, route_to}
 use Rattle.vx_plan_nodes.specs.Plan as plan
 use Rattle.vx_plan_nodes.specs.Outline.{Top, Outline, scan, unary, binary, exchange, columns}
 use Rattle.vx_plan_nodes.specs.Names.{Names, TypedPlanView}
@@ -41,7 +41,7 @@ part_by_name s names plan.all = form.all
 part_by_name s names (routed r cols) = route_by_name s names r cols
 
 abbrev pub claim_by_name : Names → List Name → Claim → ClaimForm
-claim_by_name s names c = record { part = part_by_name s names c.part; order = names_at names c.order; keys = map (names_at names) c.keys }
+claim_by_name s names c = record { part = part_by_name s names c.part; order = order_text names c.order; keys = map (names_at names) c.keys }
 
 -- ---- operators over one input, by the names of its columns and of the output's
 
@@ -74,8 +74,8 @@ abbrev pub unary_by_name : List Name → List Name → Unary → List Bool → U
 unary_by_name names output (plan.select cs) renamed = form.select (map (condition_by_name names) cs)
 unary_by_name names output (plan.project cols) renamed = form.project (kept_by_name names cols renamed output)
 unary_by_name names output (plan.distinct cols) renamed = form.distinct (kept_by_name names cols renamed output)
-unary_by_name names output (plan.sort false cols) renamed = form.sort (names_at names cols)
-unary_by_name names output (plan.sort true cols) renamed = form.partial_sort (names_at names cols)
+unary_by_name names output (plan.sort false order) renamed = form.sort (order_text names order)
+unary_by_name names output (plan.sort true order) renamed = form.partial_sort (order_text names order)
 unary_by_name names output (plan.group plan.plain by aggregates) renamed = form.group (names_at names by) (aggregates_by_name names aggregates (drop (length by) output))
 unary_by_name names output (plan.group plan.partial by aggregates) renamed = form.partial_group (names_at names by) (aggregates_by_name names aggregates (drop (length by) output))
 unary_by_name names output (plan.group plan.final by aggregates) renamed = form.final_group
@@ -86,9 +86,13 @@ unary_by_name names output (plan.limit rows) renamed = form.limit rows
 abbrev pub pair_by_name : List Name → List Name → ℕ × ℕ → Name × Name
 pair_by_name left right p = (name_at left p.0, name_at right p.1)
 
+abbrev pub is_merging : JoinMethod → Bool
+is_merging by_hashing = false
+is_merging (by_merging falls) = true
+
 abbrev pub binary_by_name : List Name → List Name → Binary → BinaryForm
 binary_by_name left right plan.union = form.union
-binary_by_name left right (plan.join merging on) = form.join merging (map (pair_by_name left right) on)
+binary_by_name left right (plan.join method on) = form.join (is_merging method) (map (pair_by_name left right) on)
 binary_by_name left right (plan.semi_join matched on cs) = form.semi_join matched (map (pair_by_name left right) on) (map (condition_by_name (left ++ right)) cs)
 
 abbrev pub sent_by_name : Names → List Name → Size → Route → List ℕ → KindForm
@@ -114,7 +118,7 @@ abbrev pub tree_by_name : Names → Outline → Tree
 tree_by_name s (scan h r shared z prefix) = form.scan (top_by_name s h) (record { relation = relation_name s r; shared = shared; size = size_name s z; prefix = prefix })
 tree_by_name s (unary h op renamed t) = form.unary (top_by_name s h) (unary_by_name (column_names t) h.columns.names op renamed) (tree_by_name s t)
 tree_by_name s (binary h op t u) = form.binary (top_by_name s h) (binary_by_name (column_names t) (column_names u) op) (tree_by_name s t) (tree_by_name s u)
-tree_by_name s (exchange h k merge t) = form.exchange (top_by_name s h) (kind_by_name s (column_names t) k) (names_at (column_names t) merge) (tree_by_name s t)
+tree_by_name s (exchange h k merge t) = form.exchange (top_by_name s h) (kind_by_name s (column_names t) k) (order_text (column_names t) merge) (tree_by_name s t)
 
 abbrev pub document_by_name : TypedPlanView → Document
 document_by_name p = record { sizes = p.names.sizes; ranges = p.names.ranges; total = p.total; derives = p.derives; root = tree_by_name p.names p.root }

@@ -5,7 +5,7 @@ use Rattle.vx_rows_values.specs.Values.{Name}
 use Rattle.vx_catalog_relations.specs.Relation.{Relation}
 use Rattle.vx_catalog_relations.specs.Catalog.{relation_at, are_distinct_names, IsCatalog}
 use Rattle.vx_catalog_relations.specs.Naming.{name_at}
-use Rattle.vx_plan_nodes.specs.Plan.{Side, Condition, Unary, Binary}
+use Rattle.vx_plan_nodes.specs.Plan.{Side, Condition, Unary, JoinMethod, by_hashing, by_merging, Binary}
 use Rattle.vx_plan_nodes.specs.Plan as plan
 use Rattle.vx_plan_nodes.specs.Outline.{Outline, scan, unary, binary, exchange, plan_in}
 use Rattle.vx_plan_nodes.specs.Outputs.{HasOutputs}
@@ -28,7 +28,7 @@ abbrev pub UnaryNames : Unary → List Bool → List Name → List Name → Type
 UnaryNames (plan.select cs) renamed names output = (renamed ≡ []) × (output ≡ names)
 UnaryNames (plan.project cols) renamed names output = are_kept names cols renamed output ≡ true
 UnaryNames (plan.distinct cols) renamed names output = are_kept names cols renamed output ≡ true
-UnaryNames (plan.sort of_parts cols) renamed names output = (renamed ≡ []) × (output ≡ names)
+UnaryNames (plan.sort of_parts order) renamed names output = (renamed ≡ []) × (output ≡ names)
 UnaryNames (plan.group plan.plain by aggregates) renamed names output = (renamed ≡ []) × (take (length by) output ≡ names_at names by)
 UnaryNames (plan.group plan.partial by aggregates) renamed names output = (renamed ≡ []) × (take (length by) output ≡ names_at names by)
 UnaryNames (plan.group plan.final by aggregates) renamed names output = (renamed ≡ []) × (output ≡ names)
@@ -37,7 +37,7 @@ UnaryNames (plan.limit rows) renamed names output = (renamed ≡ []) × (output 
 -- a union, a semi and an anti join have the names of their left input, a join those of both
 abbrev pub binary_names : Binary → List Name → List Name → List Name
 binary_names plan.union left right = left
-binary_names (plan.join merging on) left right = left ++ right
+binary_names (plan.join method on) left right = left ++ right
 binary_names (plan.semi_join matched on cs) left right = left
 
 -- no column before this one has its name
@@ -54,18 +54,28 @@ is_first_condition names c = is_first names c.left && is_first_side names c.righ
 -- of a semi and an anti join a condition is on no right column that has a left one's name
 abbrev pub has_first_columns : Binary → List Name → List Name → Bool
 has_first_columns plan.union left right = true
-has_first_columns (plan.join merging on) left right = true
+has_first_columns (plan.join method on) left right = true
 has_first_columns (plan.semi_join matched on cs) left right = list_all (is_first_condition (left ++ right)) cs
 
+abbrev pub is_rising : JoinMethod → Bool
+is_rising by_hashing = true
+is_rising (by_merging falls) = list_all not falls
+
+-- the columns on which a join merges rise, since a document says no direction for them
+abbrev pub merges_rising : Binary → Bool
+merges_rising plan.union = true
+merges_rising (plan.join method on) = is_rising method
+merges_rising (plan.semi_join matched on cs) = true
+
 -- at every node the output's columns have the names that its operator gives them, and no two have one name; and each column of a condition is the
--- first that has its name
+-- first that has its name; and joins merge on rising columns
 abbrev pub AreNamed : List Relation → Outline → Type 0
 AreNamed catalog (scan h r shared z prefix) =
     (h.columns.names ≡ map (λ n. prefix ++ n) (relation_at catalog r).names) × (are_distinct_names h.columns.names ≡ true)
 AreNamed catalog (unary h op renamed t) = UnaryNames op renamed (column_names t) h.columns.names × (are_distinct_names h.columns.names ≡ true) × AreNamed catalog t
 AreNamed catalog (binary h op t u) =
     (h.columns.names ≡ binary_names op (column_names t) (column_names u)) × (are_distinct_names h.columns.names ≡ true) × AreNamed catalog t × AreNamed catalog u
-    × (has_first_columns op (column_names t) (column_names u) ≡ true)
+    × (has_first_columns op (column_names t) (column_names u) ≡ true) × (merges_rising op ≡ true)
 AreNamed catalog (exchange h k merge t) = (h.columns.names ≡ column_names t) × (are_distinct_names h.columns.names ≡ true) × AreNamed catalog t
 
 -- a typed plan whose names are right: it is typed, its nodes have the columns of their outputs, no size is `one`, no size and no range stands twice,

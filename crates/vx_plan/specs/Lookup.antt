@@ -1,8 +1,11 @@
 -- Looking up names: columns of an input, sizes and ranges of a plan, relations of a catalog.
-use Rattle.std.specs.Prelude.{ℕ, List, [], ◌∷◌, ◌++◌, Bool, ◌&&◌, Option, Some, None, Result, Ok, Err, ⊤, position, bytes_eq, codes, nat_le, if◌then◌else◌}
+use Rattle.std.specs.Prelude.{ℕ, List, [], ◌∷◌, ◌++◌, Bool, ◌&&◌, Option, Some, None, Result, Ok, Err, ⊤, map, position, bytes_eq, codes, nat_le, if◌then◌else◌}
 use Rattle.std.specs.List.{list_any}
 use Rattle.vx_plan_nodes.specs.Plan.{Size, one_worker, group_of}
 use Rattle.vx_plan_nodes.specs.Names.{Names}
+use Rattle.vx_catalog_json.specs.Look.{OrderText}
+use Rattle.vx_rows_values.specs.declared.order.OrderEntry.{OrderEntry}
+use Rattle.vx_rows_values.specs.Order.{in_directions}
 use Rattle.vx_rows_values.specs.Values.{Name}
 use Rattle.vx_plan_json.specs.Fault.{Refusal, unknown_column, duplicate_column, type_mismatch, unknown_range, bad_size, too_wide, ◌>>=◌}
 use Rattle.vx_rows_values.specs.Limits.{max_columns}
@@ -22,6 +25,18 @@ find_column node names name = column_or node name (position (bytes_eq name) name
 
 unfoldable pub find_columns : ℕ → List Name → List Name → Result (List ℕ) Refusal
 find_columns node names list = walk_onto (find_column node names) [] list
+
+-- the names in an order
+abbrev pub order_names : List OrderText → List Name
+order_names order = map (λ e. e.name) order
+
+-- of each of its columns, whether it falls
+abbrev pub order_falls : List OrderText → List Bool
+order_falls order = map (λ e. e.falling) order
+
+-- the columns of an order, each in its direction
+unfoldable pub find_order : ℕ → List Name → List OrderText → Result (List OrderEntry) Refusal
+find_order node names order = find_columns node names (order_names order) >>= λ cols. Ok (in_directions cols (order_falls order))
 
 unfoldable pub find_keys : ℕ → List Name → List (List Name) → Result (List (List ℕ)) Refusal
 find_keys node names keys = walk_onto (find_columns node names) [] keys

@@ -5,11 +5,14 @@ use Rattle.vx_rows_values.specs.declared.value.ColType.{ColType}
 use Rattle.vx_rows_values.specs.Types.{type_at}
 use Rattle.vx_catalog_relations.specs.Relation.{Relation}
 use Rattle.vx_catalog_relations.specs.Catalog.{relation_at, all_below}
-use Rattle.vx_plan_nodes.specs.Plan.{Route, by_hash, by_range, Part, routed, Claim, Side, Condition, Aggregate, Phase, Unary, Binary, ExchangeKind, route_to}
+use Rattle.vx_plan_nodes.specs.Plan.{Route, by_hash, by_range, Part, routed, Claim, Side, Condition, Aggregate, Phase, Unary, JoinMethod, by_hashing, by_merging, Binary, ExchangeKind, route_to}
 use Rattle.vx_plan_nodes.specs.Plan as plan
 use Rattle.vx_plan_nodes.specs.Types.{aggregate_type}
 use Rattle.vx_plan_nodes.specs.Phases.{first_columns, merged}
 use Rattle.vx_plan_nodes.specs.Typed.{bounds_at, type_eq, types_eq, range_type, is_range, is_condition, is_aggregate, is_pair}
+use Rattle.vx_catalog_json.specs.Look.{OrderText}
+use Rattle.vx_rows_values.specs.declared.order.OrderEntry.{OrderEntry}
+use Rattle.vx_rows_values.specs.Order.{order_columns}
 use Rattle.vx_rows_values.specs.Values.{Name}
 use Rattle.vx_plan_json.specs.Document.{PartForm, hash_part, range_part, ClaimForm, SideForm, ConditionForm, OutputForm, FunctionForm, AggregateForm, ScanForm, UnaryForm, BinaryForm, KindForm, Tree, Document}
 use Rattle.vx_rows_values.specs.Ranges.{RangeForm}
@@ -17,7 +20,7 @@ use Rattle.vx_plan_json.specs.Document as form
 use Rattle.vx_plan_nodes.specs.Outline.{Columns, Top, Outline, scan, unary, binary, exchange, columns}
 use Rattle.vx_plan_nodes.specs.declared.typed.Projected.{Projected}
 use Rattle.vx_plan_json.specs.Fault.{Refusal, unknown_relation, bad_range, bad_size, phase_mismatch, ◌>>=◌}
-use Rattle.vx_plan.specs.Lookup.{walk_onto, tested_onto, find_column, find_columns, find_keys, test_distinct, test_distinct_pairs, test_distinct_keys, test_match, test_width, find_size, find_range}
+use Rattle.vx_plan.specs.Lookup.{walk_onto, tested_onto, find_column, find_columns, order_names, find_order, find_keys, test_distinct, test_distinct_pairs, test_distinct_keys, test_match, test_width, find_size, find_range}
 use Rattle.vx_plan_nodes.specs.Names.{Names, TypedPlanView}
 use Rattle.vx_rows_values.specs.Limits.{max_size_names}
 
@@ -57,12 +60,12 @@ part_fits s types (routed r cols) = route_fits s types r cols
 -- the columns of a claim: of its part, its order, its keys
 unfoldable pub claim_columns : Names → ℕ → List Name → ClaimForm → Result Claim Refusal
 claim_columns s node names c =
-    find_part s node names c.part >>= λ p. find_columns node names c.order >>= λ o. find_keys node names c.keys >>= λ ks.
+    find_part s node names c.part >>= λ p. find_order node names c.order >>= λ o. find_keys node names c.keys >>= λ ks.
     Ok (record { part = p; order = o; keys = ks })
 
 -- no column twice in one list of a claim
 unfoldable pub test_claim : ℕ → ClaimForm → Result ⊤ Refusal
-test_claim node c = test_distinct node (part_names c.part) >>= λ u. test_distinct node c.order >>= λ v. test_distinct_keys node c.keys
+test_claim node c = test_distinct node (part_names c.part) >>= λ u. test_distinct node (order_names c.order) >>= λ v. test_distinct_keys node c.keys
 
 unfoldable pub find_claim : Names → ℕ → Columns → ClaimForm → Result Claim Refusal
 find_claim s node cols c =
@@ -137,17 +140,17 @@ unfoldable pub distinct_shape : ℕ → Columns → List OutputForm → Result S
 distinct_shape node cols os = kept_shape node cols os >>= λ ks. Ok (record { op = plan.distinct (map (λ k. k.column) ks); renamed = map (λ k. k.renamed) ks; columns = kept_columns cols os ks })
 
 -- of parts of groups, or of whole rows
-unfoldable pub sort_shape : Bool → ℕ → Columns → List Name → Result Shape Refusal
-sort_shape of_parts node cols names =
-    find_columns node cols.names names >>= λ ps. test_distinct node names >>= λ u. Ok (record { op = plan.sort of_parts ps; renamed = []; columns = cols })
+unfoldable pub sort_shape : Bool → ℕ → Columns → List OrderText → Result Shape Refusal
+sort_shape of_parts node cols order =
+    find_order node cols.names order >>= λ o. test_distinct node (order_names order) >>= λ u. Ok (record { op = plan.sort of_parts o; renamed = []; columns = cols })
 
 -- a partial group and a partial sort are to stand where groups are in parts
 unfoldable pub test_phase : ℕ → Bool → Result ⊤ Refusal
 test_phase node fits = if fits then Ok tt else Err (phase_mismatch node)
 
 -- a partial sort is to stand between a partial group and its final one
-unfoldable pub partial_sort_shape : Bool → ℕ → Columns → List Name → Result Shape Refusal
-partial_sort_shape between node cols names = test_phase node between >>= λ u. sort_shape true node cols names
+unfoldable pub partial_sort_shape : Bool → ℕ → Columns → List OrderText → Result Shape Refusal
+partial_sort_shape between node cols order = test_phase node between >>= λ u. sort_shape true node cols order
 
 -- the first rows have the columns of the input
 unfoldable pub limit_shape : Columns → ℕ → Result Shape Refusal
@@ -190,8 +193,8 @@ abbrev pub parts_made : Unary → Option (List ℕ × List Aggregate) → Option
 parts_made (plan.select cs) below = None
 parts_made (plan.project cols) below = None
 parts_made (plan.distinct cols) below = None
-parts_made (plan.sort false cols) below = None
-parts_made (plan.sort true cols) below = below
+parts_made (plan.sort false order) below = None
+parts_made (plan.sort true order) below = below
 parts_made (plan.group plan.plain by aggregates) below = None
 parts_made (plan.group plan.partial by aggregates) below = Some (by, aggregates)
 parts_made (plan.group plan.final by aggregates) below = None
@@ -209,8 +212,8 @@ abbrev pub sort_before : ℕ → Unary → Bool → Bool
 sort_before end (plan.select cs) below = true
 sort_before end (plan.project cols) below = true
 sort_before end (plan.distinct cols) below = true
-sort_before end (plan.sort false cols) below = true
-sort_before end (plan.sort true cols) below = all_below end cols && below
+sort_before end (plan.sort false order) below = true
+sort_before end (plan.sort true order) below = all_below end (order_columns order) && below
 sort_before end (plan.group phase by aggregates) below = true
 sort_before end (plan.limit rows) below = true
 
@@ -234,8 +237,8 @@ unfoldable pub unary_shape : Bool → ℕ → Outline → UnaryForm → Result S
 unary_shape under node t (form.select cs) = select_shape node (columns t) cs
 unary_shape under node t (form.project os) = project_shape node (columns t) os
 unary_shape under node t (form.distinct os) = distinct_shape node (columns t) os
-unary_shape under node t (form.sort names) = sort_shape false node (columns t) names
-unary_shape under node t (form.partial_sort names) = partial_sort_shape (under && is_some (parts_of t)) node (columns t) names
+unary_shape under node t (form.sort order) = sort_shape false node (columns t) order
+unary_shape under node t (form.partial_sort order) = partial_sort_shape (under && is_some (parts_of t)) node (columns t) order
 unary_shape under node t (form.group by aggregates) = group_shape plan.plain node (columns t) by aggregates
 unary_shape under node t (form.partial_group by aggregates) = partial_shape under node (columns t) by aggregates
 unary_shape under node t form.final_group = final_shape node t (parts_of t)
@@ -276,6 +279,11 @@ join_matches node l r on cs =
     find_matches node l r on cs >>= λ g. test_distinct_pairs node on >>= λ u.
     test_match node (list_all (is_pair l.types r.types) g.0 && list_all (is_condition (l.types ++ r.types)) g.1) >>= λ v. Ok g
 
+-- how a join finds its pairs of rows: by merging, all their columns rise
+abbrev pub method_of : (merging : Bool) → List (ℕ × ℕ) → JoinMethod
+method_of false on = by_hashing
+method_of true on = by_merging (map (λ p. false) on)
+
 -- an operator over two inputs, and its output
 pub record Joint : Type 0 where
   pub op : Binary
@@ -283,7 +291,7 @@ pub record Joint : Type 0 where
 
 unfoldable pub binary_shape : ℕ → Columns → Columns → BinaryForm → Result Joint Refusal
 binary_shape node l r form.union = test_match node (types_eq l.types r.types) >>= λ u. Ok (record { op = plan.union; columns = l })
-binary_shape node l r (form.join merging on) = join_pairs node l r on >>= λ ps. Ok (record { op = plan.join merging ps; columns = both_columns l r })
+binary_shape node l r (form.join merging on) = join_pairs node l r on >>= λ ps. Ok (record { op = plan.join (method_of merging ps) ps; columns = both_columns l r })
 binary_shape node l r (form.semi_join matched on cs) = join_matches node l r on cs >>= λ g. Ok (record { op = plan.semi_join matched g.0 g.1; columns = l })
 
 unfoldable pub binary_typed : Names → ℕ → ClaimForm → BinaryForm → Outline → Outline → Result Outline Refusal
@@ -316,18 +324,18 @@ kind_fits s types (plan.broadcast z) = true
 kind_fits s types plan.gather = true
 kind_fits s types plan.concat = true
 
--- a kind and the columns to merge on: the routed columns come before those
-unfoldable pub exchange_columns : Names → ℕ → List Name → KindForm → List Name → Result (ExchangeKind × List ℕ) Refusal
-exchange_columns s node names kind merge = find_kind s node names kind >>= λ k. find_columns node names merge >>= λ ms. Ok (k, ms)
+-- a kind and the order to merge by: the routed columns come before those
+unfoldable pub exchange_columns : Names → ℕ → List Name → KindForm → List OrderText → Result (ExchangeKind × List OrderEntry) Refusal
+exchange_columns s node names kind merge = find_kind s node names kind >>= λ k. find_order node names merge >>= λ ms. Ok (k, ms)
 
-unfoldable pub test_exchange : ℕ → KindForm → List Name → Result ⊤ Refusal
-test_exchange node kind merge = test_distinct node (kind_names kind) >>= λ u. test_distinct node merge
+unfoldable pub test_exchange : ℕ → KindForm → List OrderText → Result ⊤ Refusal
+test_exchange node kind merge = test_distinct node (kind_names kind) >>= λ u. test_distinct node (order_names merge)
 
-unfoldable pub exchange_shape : Names → ℕ → Columns → KindForm → List Name → Result (ExchangeKind × List ℕ) Refusal
+unfoldable pub exchange_shape : Names → ℕ → Columns → KindForm → List OrderText → Result (ExchangeKind × List OrderEntry) Refusal
 exchange_shape s node cols kind merge =
     exchange_columns s node cols.names kind merge >>= λ x. test_exchange node kind merge >>= λ u. test_match node (kind_fits s cols.types x.0) >>= λ v. Ok x
 
-unfoldable pub exchange_typed : Names → ℕ → ClaimForm → KindForm → List Name → Outline → Result Outline Refusal
+unfoldable pub exchange_typed : Names → ℕ → ClaimForm → KindForm → List OrderText → Outline → Result Outline Refusal
 exchange_typed s node c kind merge t =
     exchange_shape s node (columns t) kind merge >>= λ k. with_claim s node (columns t) c >>= λ h. Ok (exchange h k.0 k.1 t)
 
@@ -338,8 +346,8 @@ abbrev pub under_final : Bool → UnaryForm → Bool
 under_final under (form.select cs) = false
 under_final under (form.project os) = false
 under_final under (form.distinct os) = false
-under_final under (form.sort names) = false
-under_final under (form.partial_sort names) = under
+under_final under (form.sort order) = false
+under_final under (form.partial_sort order) = under
 under_final under (form.group by aggregates) = false
 under_final under (form.partial_group by aggregates) = false
 under_final under form.final_group = true

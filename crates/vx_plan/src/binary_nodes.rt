@@ -1,6 +1,6 @@
 //! Operators over two inputs, by the columns of those inputs.
 
-ghost use Rattle.std.specs.Prelude.{◌≡◌, map, IfOk};
+ghost use Rattle.std.specs.Prelude.{◌≡◌, map, false, IfOk};
 ghost use Rattle.std.specs.Arc.{arc_value};
 ghost use Rattle.vx_plan_json.specs.Fault.{Gives};
 ghost use Rattle.vx_plan_json.specs.Document.{condition_form, pair_form, binary_form};
@@ -14,7 +14,7 @@ use crate::fits::{are_conditions, are_pairs, are_same_types};
 use crate::lookup::{
     find_column, test_distinct_names, test_distinct_pairs, test_match, test_width,
 };
-use std::alloc::Global;
+use std::alloc::{AllocError, Global};
 use std::sync::Arc;
 use vx_plan_json::{NamedBinary, NamedCondition, PlanFault};
 use vx_plan_nodes::{Binary, Columns, Condition, Name};
@@ -167,6 +167,18 @@ fn join_matches(
     Ok((pairs, found))
 }
 
+// For each pair of a merge join, that its columns rise.
+#[tactic(auto, using(std::proofs::lemmas::Grind::common_steps, crate::proofs::RisingFacts::one_more, crate::proofs::RisingFacts::as_many))]
+fn all_rising(alloc: Global, on: &[(usize, usize)]) -> Result<Vec<bool>, AllocError>
+    ensures { IfOk result (λ v. v.items ≡ map (λ p. false) on.now) }
+{
+    let mut falls = Vec::new(alloc);
+    for _ in 0..on.len() {
+        falls.push(false)?;
+    }
+    Ok(falls)
+}
+
 /// An operator by positions, and its output.
 #[tactic(auto, unfolding(crate::specs::Resolve::binary_shape))]
 pub fn binary_shape(
@@ -199,8 +211,9 @@ pub fn binary_shape(
         }
         NamedBinary::MergeJoin(on) => {
             let (pairs, columns) = joined(alloc, node, left, right, on.as_slice())?;
+            let falls = all_rising(alloc, pairs.as_slice())?;
             Ok(Joint {
-                binary: Binary::MergeJoin(pairs),
+                binary: Binary::MergeJoin(pairs, falls),
                 columns,
             })
         }

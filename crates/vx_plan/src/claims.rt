@@ -11,8 +11,8 @@ ghost use Rattle.vx_plan.specs.Named.{names_of};
 
 use crate::fits::route_fits;
 use crate::lookup::{
-    Declared, find_column, find_columns, find_keys, find_range, test_distinct, test_distinct_keys,
-    test_match,
+    Declared, find_column, find_columns, find_keys, find_order, find_range, test_distinct,
+    test_distinct_keys, test_distinct_order, test_match,
 };
 use std::alloc::{AllocError, Global};
 use std::sync::Arc;
@@ -79,7 +79,7 @@ fn claim_columns(
     ensures { Gives claim_of result (claim_columns (names_of declared.now) node names.now (claim_form claim.now)) }
 {
     let part = find_part(alloc, declared, node, names, &claim.part)?;
-    let order = find_columns(alloc, node, names, claim.order.as_slice())?;
+    let order = find_order(alloc, node, names, claim.order.as_slice())?;
     let keys = find_keys(alloc, node, names, claim.keys.as_slice())?;
     Ok(Claim { part, order, keys })
 }
@@ -101,7 +101,7 @@ fn test_claim(alloc: Global, node: u32, claim: &NamedClaim) -> Result<(), PlanFa
     ensures { Gives (λ _. tt) result (test_claim node (claim_form claim.now)) }
 {
     test_part(alloc, node, &claim.part)?;
-    test_distinct(alloc, node, claim.order.as_slice())?;
+    test_distinct_order(alloc, node, claim.order.as_slice())?;
     test_distinct_keys(alloc, node, claim.keys.as_slice())
 }
 

@@ -36,9 +36,9 @@ fn copied_unary(alloc: Global, unary: &Unary) -> Result<Unary, AllocError>
         )?)),
         Unary::Project(kept) => Ok(Unary::Project(Vec::from_slice(alloc, kept.as_slice())?)),
         Unary::Distinct(kept) => Ok(Unary::Distinct(Vec::from_slice(alloc, kept.as_slice())?)),
-        Unary::Sort(_, columns) => {
-            let columns = Vec::from_slice(alloc, columns.as_slice())?;
-            Ok(Unary::Sort(SortPhase::Plain, columns))
+        Unary::Sort(_, order) => {
+            let order = Vec::from_slice(alloc, order.as_slice())?;
+            Ok(Unary::Sort(SortPhase::Plain, order))
         }
         Unary::Group(_, by, aggregates) => {
             let keys = Vec::from_slice(alloc, by.as_slice())?;
@@ -55,7 +55,11 @@ fn copied_binary(alloc: Global, binary: &Binary) -> Result<Binary, AllocError>
     match binary {
         Binary::Union => Ok(Binary::Union),
         Binary::HashJoin(on) => Ok(Binary::HashJoin(Vec::from_slice(alloc, on.as_slice())?)),
-        Binary::MergeJoin(on) => Ok(Binary::MergeJoin(Vec::from_slice(alloc, on.as_slice())?)),
+        Binary::MergeJoin(on, falls) => {
+            let pairs = Vec::from_slice(alloc, on.as_slice())?;
+            let falls = Vec::from_slice(alloc, falls.as_slice())?;
+            Ok(Binary::MergeJoin(pairs, falls))
+        }
         Binary::SemiJoin(on, conditions) => {
             let pairs = Vec::from_slice(alloc, on.as_slice())?;
             let conditions = copied_conditions(alloc, conditions.as_slice())?;

@@ -1,6 +1,6 @@
 //! Exchanges and scans.
 
-ghost use Rattle.std.specs.Prelude.{◌≡◌, ◌<◌, map, length, string_bytes, position, IfOk};
+ghost use Rattle.std.specs.Prelude.{◌≡◌, ◌<◌, length, string_bytes, position, IfOk};
 ghost use Rattle.vx_plan_json.specs.Fault.{Gives};
 ghost use Rattle.vx_plan_json.specs.Document.{kind_form};
 ghost use Rattle.vx_plan_nodes.specs.Outline.{columns_of, kind_of};
@@ -11,9 +11,11 @@ ghost use Rattle.vx_plan.specs.Named.{names_of};
 use crate::claims::single;
 use crate::fits::route_fits;
 use crate::lookup::{
-    Declared, find_column, find_columns, find_range, find_size, test_distinct, test_match,
+    Declared, find_column, find_columns, find_order, find_range, find_size, test_distinct,
+    test_distinct_order, test_match,
 };
 use std::alloc::Global;
+use vx_catalog_json::OrderText;
 use vx_plan_json::{NamedKind, PlanFault};
 use vx_plan_nodes::{Columns, Exchange, ExchangeKind, Name, Route};
 use vx_rows_values::ColType;
@@ -104,12 +106,12 @@ fn exchange_columns(
     node: u32,
     names: &[Name],
     kind: &NamedKind,
-    merge: &[String],
+    merge: &[OrderText],
 ) -> Result<Exchange, PlanFault>
-    ensures { Gives (λ e. (kind_of e.kind, e.merge.items)) result (exchange_columns (names_of declared.now) node names.now (kind_form kind.now) (map string_bytes merge.now)) }
+    ensures { Gives (λ e. (kind_of e.kind, e.merge.items)) result (exchange_columns (names_of declared.now) node names.now (kind_form kind.now) merge.now) }
 {
     let kind = find_kind(alloc, declared, node, names, kind)?;
-    let merge = find_columns(alloc, node, names, merge)?;
+    let merge = find_order(alloc, node, names, merge)?;
     Ok(Exchange { kind, merge })
 }
 
@@ -118,12 +120,12 @@ fn test_exchange(
     alloc: Global,
     node: u32,
     kind: &NamedKind,
-    merge: &[String],
+    merge: &[OrderText],
 ) -> Result<(), PlanFault>
-    ensures { Gives (λ _. tt) result (test_exchange node (kind_form kind.now) (map string_bytes merge.now)) }
+    ensures { Gives (λ _. tt) result (test_exchange node (kind_form kind.now) merge.now) }
 {
     kind_once(alloc, node, kind)?;
-    test_distinct(alloc, node, merge)
+    test_distinct_order(alloc, node, merge)
 }
 
 /// An exchange by positions. The routed columns come before those to merge on.
@@ -134,9 +136,9 @@ pub fn exchange_shape(
     node: u32,
     input: &Columns,
     kind: &NamedKind,
-    merge: &[String],
+    merge: &[OrderText],
 ) -> Result<Exchange, PlanFault>
-    ensures { Gives (λ e. (kind_of e.kind, e.merge.items)) result (exchange_shape (names_of declared.now) node (columns_of input.now) (kind_form kind.now) (map string_bytes merge.now)) }
+    ensures { Gives (λ e. (kind_of e.kind, e.merge.items)) result (exchange_shape (names_of declared.now) node (columns_of input.now) (kind_form kind.now) merge.now) }
 {
     let exchange = exchange_columns(alloc, declared, node, input.names.as_slice(), kind, merge)?;
     test_exchange(alloc, node, kind, merge)?;

@@ -1,21 +1,22 @@
 //! Looking up names: columns of an input, sizes and ranges of a plan.
 
-ghost use Rattle.std.specs.Prelude.{◌≡◌, map, position, bytes_eq, string_bytes};
+ghost use Rattle.std.specs.Prelude.{◌≡◌, map, position, bytes_eq, string_bytes, IfOk};
 ghost use Rattle.std.specs.List.{list_any};
 ghost use Rattle.vx_plan_json.specs.Fault.{Gives};
 ghost use Rattle.vx_plan_json.specs.Document.{pair_form};
 ghost use Rattle.vx_rows_values.specs.Ranges.{range_form};
 ghost use Rattle.vx_plan_nodes.specs.Outline.{size_of};
-ghost use Rattle.vx_plan.specs.Lookup.{find_column, find_columns, find_keys, test_distinct, test_distinct_pairs, test_distinct_keys, test_match, test_width, pair_eq, find_size, find_range};
+ghost use Rattle.vx_plan.specs.Lookup.{find_column, find_columns, order_names, order_falls, find_order, find_keys, test_distinct, test_distinct_pairs, test_distinct_keys, test_match, test_width, pair_eq, find_size, find_range};
 ghost use Rattle.vx_plan.specs.Named.{names_of};
 
 use std::alloc::{AllocError, AllocFailed, Global};
 use std::collections::BTreeSet;
+use vx_catalog_json::OrderText;
 use vx_catalog_relations::{Catalog, find_name};
 use vx_plan_json::PlanFault;
 use vx_plan_nodes::{Name, Size, find_output_name};
-use vx_rows_values::NamedRange;
 use vx_rows_values::limits::MAX_COLUMNS;
+use vx_rows_values::{NamedRange, OrderEntry, in_directions};
 
 /// What the nodes of a plan may name.
 #[derive(Clone, Copy)]
@@ -70,6 +71,50 @@ pub fn find_columns(
     Ok(found)
 }
 
+// The positions of the columns of an order.
+#[tactic(auto, unfolding(crate::specs::Lookup::find_columns), using(crate::proofs::WalkFacts::walk_steps))]
+fn ordered_columns(
+    alloc: Global,
+    node: u32,
+    names: &[Name],
+    order: &[OrderText],
+) -> Result<Vec<usize>, PlanFault>
+    ensures { Gives (λ v. v.items) result (find_columns node names.now (order_names order.now)) }
+{
+    let mut found = Vec::new(alloc);
+    for entry in order {
+        let column = find_column(alloc, node, names, entry.name.as_str())?;
+        found.push(column)?;
+    }
+    Ok(found)
+}
+
+// Of each column of an order, whether it falls.
+fn order_falls(alloc: Global, order: &[OrderText]) -> Result<Vec<bool>, AllocError>
+    ensures { IfOk result (λ v. v.items ≡ order_falls order.now) }
+{
+    let mut falls = Vec::new(alloc);
+    for entry in order {
+        falls.push(entry.falling)?;
+    }
+    Ok(falls)
+}
+
+/// An order by the positions of its columns.
+#[tactic(auto, unfolding(crate::specs::Lookup::find_order))]
+pub fn find_order(
+    alloc: Global,
+    node: u32,
+    names: &[Name],
+    order: &[OrderText],
+) -> Result<Vec<OrderEntry>, PlanFault>
+    ensures { Gives (λ v. v.items) result (find_order node names.now order.now) }
+{
+    let columns = ordered_columns(alloc, node, names, order)?;
+    let falls = order_falls(alloc, order)?;
+    Ok(in_directions(alloc, columns.as_slice(), falls.as_slice())?)
+}
+
 /// The positions of the columns of each key.
 #[tactic(auto, unfolding(crate::specs::Lookup::find_keys), using(crate::proofs::WalkFacts::walk_steps))]
 pub fn find_keys(
@@ -96,6 +141,26 @@ pub fn test_distinct(alloc: Global, node: u32, names: &[String]) -> Result<(), P
     let mut seen = BTreeSet::new(alloc);
     for i in 0..names.len() {
         let name = names[i].as_str();
+        let is_new = seen.insert(name)?;
+        if !is_new {
+            return Err(PlanFault::DuplicateColumn {
+                node,
+                name: String::from_str(alloc, name)?,
+            });
+        }
+    }
+    Ok(())
+}
+
+/// No column stands twice in an order, whatever its directions.
+#[tactic(auto, unfolding(crate::specs::Lookup::test_distinct), using(crate::proofs::TestFacts::test_steps))]
+pub fn test_distinct_order(alloc: Global, node: u32, order: &[OrderText]) -> Result<(), PlanFault>
+    ensures { Gives (λ _. tt) result (test_distinct node (order_names order.now)) }
+{
+    let mut seen = BTreeSet::new(alloc);
+    for i in 0..order.len() {
+        let entry = &order[i];
+        let name = entry.name.as_str();
         let is_new = seen.insert(name)?;
         if !is_new {
             return Err(PlanFault::DuplicateColumn {

@@ -2,16 +2,17 @@
 
 ghost use Rattle.std.specs.Prelude.{◌≡◌, map, string_bytes, IfOk};
 ghost use Rattle.vx_rows_values.specs.Ranges.{range_form};
-ghost use Rattle.vx_catalog_relations.specs.Naming.{name_at};
+ghost use Rattle.vx_catalog_relations.specs.Naming.{name_at, order_text};
 ghost use Rattle.vx_plan_nodes.specs.Names.{Names};
 ghost use Rattle.vx_plan_nodes.specs.Outline.{part_of, claim_of};
 ghost use Rattle.vx_plan_json.specs.Document.{part_form, claim_form};
 ghost use Rattle.vx_plan.specs.ByName.{names_at, first_name, range_name, part_by_name, claim_by_name};
 
 use std::alloc::{AllocError, Global};
+use vx_catalog_json::OrderText;
 use vx_plan_json::{NamedClaim, NamedPart};
 use vx_plan_nodes::{Claim, Name, Part, Route};
-use vx_rows_values::NamedRange;
+use vx_rows_values::{NamedRange, OrderEntry};
 
 // The name with this number; past the end the empty one.
 fn name_at(alloc: Global, names: &[Name], number: usize) -> Result<String, AllocError>
@@ -29,6 +30,24 @@ fn names_at(alloc: Global, names: &[Name], columns: &[usize]) -> Result<Vec<Stri
     let mut found = Vec::new(alloc);
     for column in columns {
         found.push(name_at(alloc, names, *column)?)?;
+    }
+    Ok(found)
+}
+
+// An order by the names of its columns.
+fn order_at(
+    alloc: Global,
+    names: &[Name],
+    order: &[OrderEntry],
+) -> Result<Vec<OrderText>, AllocError>
+    ensures { IfOk result (λ v. v.items ≡ order_text names.now order.now) }
+{
+    let mut found = Vec::new(alloc);
+    for entry in order {
+        found.push(OrderText {
+            name: name_at(alloc, names, entry.column)?,
+            falling: entry.falling,
+        })?;
     }
     Ok(found)
 }
@@ -101,7 +120,7 @@ pub fn named_claim(
 {
     Ok(NamedClaim {
         part: named_part(alloc, ranges, names, &claim.part)?,
-        order: names_at(alloc, names, claim.order.as_slice())?,
+        order: order_at(alloc, names, claim.order.as_slice())?,
         keys: keys_at(alloc, names, claim.keys.as_slice())?,
     })
 }

@@ -1,6 +1,6 @@
 //! The nodes of a plan over a catalog: numbered in preorder, tested in post-order.
 
-ghost use Rattle.std.specs.Prelude.{◌≡◌, ◌+◌, ◌<◌, ◌^◌, map, string_bytes, IfOk};
+ghost use Rattle.std.specs.Prelude.{◌≡◌, ◌+◌, ◌<◌, ◌^◌, IfOk};
 ghost use Rattle.vx_plan_json.specs.Fault.{Gives};
 ghost use Rattle.vx_plan_json.specs.Document.{claim_form, scan_form, unary_form, binary_form, kind_form, tree_of, tree_nodes};
 ghost use Rattle.vx_plan_nodes.specs.Outline.{outline_of};
@@ -15,6 +15,7 @@ use crate::lookup::{Declared, find_size};
 use crate::unary_nodes::{UnaryShape, unary_shape};
 use std::alloc::Global;
 use std::sync::Arc;
+use vx_catalog_json::OrderText;
 use vx_plan_json::{NamedBinary, NamedClaim, NamedKind, NamedScan, NamedUnary, Node, PlanFault};
 use vx_plan_nodes::{ScanNode, TypedNode};
 
@@ -92,10 +93,10 @@ fn exchange_typed(
     node: u32,
     claim: &NamedClaim,
     kind: &NamedKind,
-    merge: &[String],
+    merge: &[OrderText],
     input: TypedNode,
 ) -> Result<TypedNode, PlanFault>
-    ensures { Gives outline_of result (exchange_typed (names_of declared.now) node (claim_form claim.now) (kind_form kind.now) (map string_bytes merge.now) (outline_of input)) }
+    ensures { Gives outline_of result (exchange_typed (names_of declared.now) node (claim_form claim.now) (kind_form kind.now) merge.now (outline_of input)) }
 {
     let exchange = exchange_shape(alloc, declared, node, columns(&input), kind, merge)?;
     let output = Arc::try_clone(columns(&input))?;

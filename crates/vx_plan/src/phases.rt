@@ -1,6 +1,8 @@
 //! Groups in two phases: what a final group takes from its partial one, and what stands between the two.
 
-ghost use Rattle.std.specs.Prelude.{◌≡◌, ◌<◌, ◌^◌, map, option_map, IfOk};
+ghost use Rattle.std.specs.Prelude.{◌≡◌, ◌<◌, ◌^◌, nat_lt, map, option_map, IfOk};
+ghost use Rattle.std.specs.List.{list_all};
+ghost use Rattle.vx_rows_values.specs.Order.{order_columns};
 ghost use Rattle.vx_catalog_relations.specs.Catalog.{all_below};
 ghost use Rattle.vx_plan_json.specs.Fault.{Gives};
 ghost use Rattle.vx_plan_nodes.specs.Outline.{aggregate_of, outline_of};
@@ -10,6 +12,7 @@ ghost use Rattle.vx_plan.specs.Resolve.{test_phase, parts_of, sorts_before};
 use std::alloc::{AllocError, Global};
 use vx_plan_json::PlanFault;
 use vx_plan_nodes::{Aggregate, Phase, SortPhase, TypedNode, Unary};
+use vx_rows_values::OrderEntry;
 
 /// A partial group or a partial sort stands where groups are in parts.
 #[tactic(auto, unfolding(crate::specs::Resolve::test_phase))]
@@ -37,11 +40,17 @@ pub fn parts_of(node: &TypedNode) -> Option<(&[usize], &[Aggregate])>
     }
 }
 
-// Whether all columns are before this one.
-fn are_before(end: usize, columns: &[usize]) -> bool
-    ensures { result ≡ all_below end columns.now }
+fn all_before(end: usize, order: &[OrderEntry]) -> bool
+    ensures { result ≡ list_all (λ e. nat_lt e.column end) order.now }
 {
-    columns.iter().all(|column| *column < end)
+    order.iter().all(|entry| entry.column < end)
+}
+
+// Whether all columns of an order are before this one.
+fn are_before(end: usize, order: &[OrderEntry]) -> bool
+    ensures { result ≡ all_below end (order_columns order.now) }
+{
+    all_before(end, order)
 }
 
 /// Whether the partial sorts from here down to the first node that is neither an exchange nor such a sort are on columns before this one.
@@ -49,8 +58,8 @@ pub fn sorts_before(end: usize, node: &TypedNode) -> bool
     ensures { result ≡ sorts_before end (outline_of node.now) }
 {
     match node {
-        TypedNode::Unary(_, Unary::Sort(SortPhase::Partial, columns), input) => {
-            are_before(end, columns.as_slice()) && sorts_before(end, input)
+        TypedNode::Unary(_, Unary::Sort(SortPhase::Partial, order), input) => {
+            are_before(end, order.as_slice()) && sorts_before(end, input)
         }
         TypedNode::Exchange(_, _, input) => sorts_before(end, input),
         _ => true,

@@ -11,10 +11,14 @@ ghost use Rattle.vx_plan.specs.Shaped.{shape_of};
 use crate::columns::{columns, group_names, group_types, kept_types, output_names, own_columns};
 use crate::conditions::find_conditions;
 use crate::fits::{are_aggregates, are_conditions};
-use crate::lookup::{find_column, find_columns, test_distinct, test_match, test_width};
+use crate::lookup::{
+    find_column, find_columns, find_order, test_distinct, test_distinct_order, test_match,
+    test_width,
+};
 use crate::phases::{first_columns, merged, parts_of, sorts_before, test_phase};
 use std::alloc::Global;
 use std::sync::Arc;
+use vx_catalog_json::OrderText;
 use vx_plan_json::{
     NamedAggregate, NamedCondition, NamedFunction, NamedOutput, NamedUnary, PlanFault,
 };
@@ -140,12 +144,12 @@ fn sort_shape(
     phase: SortPhase,
     node: u32,
     input: &Arc<Columns>,
-    names: &[String],
+    order: &[OrderText],
 ) -> Result<UnaryShape, PlanFault>
-    ensures { Gives shape_of result (sort_shape (is_of_parts phase) node (columns_of (arc_value input.now)) (map string_bytes names.now)) }
+    ensures { Gives shape_of result (sort_shape (is_of_parts phase) node (columns_of (arc_value input.now)) order.now) }
 {
-    let found = find_columns(alloc, node, input.names.as_slice(), names)?;
-    test_distinct(alloc, node, names)?;
+    let found = find_order(alloc, node, input.names.as_slice(), order)?;
+    test_distinct_order(alloc, node, order)?;
     let columns = Arc::try_clone(input)?;
     Ok(UnaryShape {
         unary: Unary::Sort(phase, found),
@@ -160,12 +164,12 @@ fn partial_sort_shape(
     between: bool,
     node: u32,
     input: &Arc<Columns>,
-    names: &[String],
+    order: &[OrderText],
 ) -> Result<UnaryShape, PlanFault>
-    ensures { Gives shape_of result (partial_sort_shape between node (columns_of (arc_value input.now)) (map string_bytes names.now)) }
+    ensures { Gives shape_of result (partial_sort_shape between node (columns_of (arc_value input.now)) order.now) }
 {
     test_phase(node, between)?;
-    sort_shape(alloc, SortPhase::Partial, node, input, names)
+    sort_shape(alloc, SortPhase::Partial, node, input, order)
 }
 
 #[tactic(auto, unfolding(crate::specs::Resolve::find_function))]
@@ -336,12 +340,12 @@ pub fn unary_shape(
         NamedUnary::Select(conditions) => select_shape(alloc, node, columns, conditions.as_slice()),
         NamedUnary::Project(outputs) => project_shape(alloc, node, columns, outputs.as_slice()),
         NamedUnary::Distinct(outputs) => distinct_shape(alloc, node, columns, outputs.as_slice()),
-        NamedUnary::Sort(names) => {
-            sort_shape(alloc, SortPhase::Plain, node, columns, names.as_slice())
+        NamedUnary::Sort(order) => {
+            sort_shape(alloc, SortPhase::Plain, node, columns, order.as_slice())
         }
-        NamedUnary::PartialSort(names) => {
+        NamedUnary::PartialSort(order) => {
             let between = under && parts_of(input).is_some();
-            partial_sort_shape(alloc, between, node, columns, names.as_slice())
+            partial_sort_shape(alloc, between, node, columns, order.as_slice())
         }
         NamedUnary::Group(by, aggregates) => {
             let (by, aggregates) = (by.as_slice(), aggregates.as_slice());

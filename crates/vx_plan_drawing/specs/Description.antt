@@ -3,6 +3,7 @@ use Rattle.std.specs.Prelude.{ℕ, ◌++◌, Bool, true, false, cond, List, [], 
 use Rattle.std.specs.Fmt.{signed_decimal}
 use Rattle.serde_json.specs.Data.{string}
 use Rattle.serde_json.specs.Written.{compact_text}
+use Rattle.vx_catalog_json.specs.Look.{OrderText}
 use Rattle.vx_rows_values.specs.Values.{Val, num, text, Name}
 use Rattle.vx_rows_values.specs.Test.{test_text}
 use Rattle.vx_plan_json.specs.Document.{PartForm, one, any, all, hash_part, range_part, ClaimForm, SideForm, column, constant, ConditionForm, OutputForm, FunctionForm, least, greatest, sum, count_rows, AggregateForm, ScanForm, UnaryForm, select, project, distinct, sort, partial_sort, group, partial_group, final_group, limit, BinaryForm, union, join, semi_join, KindForm, hash, range, round, broadcast, gather, concat, Tree, scan, unary, binary, exchange}
@@ -15,6 +16,13 @@ separated between is_later (x ∷ xs) = cond is_later between [] ++ (x ++ separa
 -- columns by their names
 abbrev pub list_text : List Name → List ℕ
 list_text names = codes "[" ++ (separated (codes ",") false names ++ codes "]")
+
+-- a column of an order by its name, and whether it falls
+abbrev pub entry_text : OrderText → List ℕ
+entry_text e = e.name ++ cond e.falling (codes " desc") []
+
+abbrev pub order_text : List OrderText → List ℕ
+order_text order = codes "[" ++ (separated (codes ",") false (map entry_text order) ++ codes "]")
 
 -- ---- claims
 
@@ -38,7 +46,7 @@ keys_text [] = codes "-"
 keys_text (k ∷ ks) = separated (codes ";") false (map list_text (k ∷ ks))
 
 abbrev pub claim_text : ClaimForm → List ℕ
-claim_text c = codes " part=" ++ (part_text c.part ++ (codes " order=" ++ (list_text c.order ++ (codes " keys=" ++ keys_text c.keys))))
+claim_text c = codes " part=" ++ (part_text c.part ++ (codes " order=" ++ (order_text c.order ++ (codes " keys=" ++ keys_text c.keys))))
 
 -- ---- scans
 
@@ -96,8 +104,8 @@ abbrev pub unary_text : UnaryForm → List ℕ
 unary_text (select cs) = codes "select " ++ separated (codes " and ") false (map condition_text cs)
 unary_text (project outputs) = codes "project [" ++ kept_list outputs
 unary_text (distinct outputs) = codes "distinct [" ++ kept_list outputs
-unary_text (sort names) = codes "sort " ++ list_text names
-unary_text (partial_sort names) = codes "partial-sort " ++ list_text names
+unary_text (sort order) = codes "sort " ++ order_text order
+unary_text (partial_sort order) = codes "partial-sort " ++ order_text order
 unary_text (group by aggregates) = codes "group " ++ group_text by aggregates
 unary_text (partial_group by aggregates) = codes "partial-group " ++ group_text by aggregates
 unary_text final_group = codes "final-group"
@@ -127,9 +135,9 @@ kind_text (broadcast size) = codes "broadcast"
 kind_text gather = codes "gather"
 kind_text concat = codes "concat"
 
-abbrev pub merge_text : List Name → List ℕ
+abbrev pub merge_text : List OrderText → List ℕ
 merge_text [] = []
-merge_text (n ∷ names) = codes " merge " ++ list_text (n ∷ names)
+merge_text (e ∷ order) = codes " merge " ++ order_text (e ∷ order)
 
 -- ---- nodes
 

@@ -5,9 +5,10 @@ ghost use Rattle.vx_rows_values.specs.ValueView.{val_of};
 ghost use Rattle.vx_plan_json.specs.Document.{side_form, condition_form, output_form, function_form, aggregate_form, scan_form, unary_form, pair_form, binary_form, kind_form, tree_of};
 ghost use Rattle.vx_plan_drawing.specs.Description.{separated, value_text, side_text, condition_text, renamed_text, kept_text, kept_list, function_text, aggregate_text, aggregates_text, group_text, unary_text, pair_text, where_text, binary_text, kind_text, merge_text, prefix_text, scan_text, description, target_name, size_name};
 
-use crate::words::{push_between, push_hash, push_list, push_range};
+use crate::words::{push_between, push_hash, push_list, push_order, push_range};
 use itoa::Buffer;
 use std::alloc::{AllocError, Global};
+use vx_catalog_json::OrderText;
 use vx_plan_json::{
     NamedAggregate, NamedBinary, NamedCondition, NamedFunction, NamedKind, NamedOutput, NamedScan,
     NamedSide, NamedUnary, Node,
@@ -193,13 +194,13 @@ fn push_unary(alloc: Global, text: &mut String, operator: &NamedUnary) -> Result
         }
         NamedUnary::Project(outputs) => push_kept(text, "project [", outputs.as_slice()),
         NamedUnary::Distinct(outputs) => push_kept(text, "distinct [", outputs.as_slice()),
-        NamedUnary::Sort(columns) => {
+        NamedUnary::Sort(order) => {
             text.push_str("sort ")?;
-            push_list(text, columns.as_slice())
+            push_order(text, order.as_slice())
         }
-        NamedUnary::PartialSort(columns) => {
+        NamedUnary::PartialSort(order) => {
             text.push_str("partial-sort ")?;
-            push_list(text, columns.as_slice())
+            push_order(text, order.as_slice())
         }
         NamedUnary::Group(by, aggregates) => {
             push_group(text, "group ", by.as_slice(), aggregates.as_slice())
@@ -308,19 +309,19 @@ fn push_kind(text: &mut String, kind: &NamedKind) -> Result<(), AllocError>
     }
 }
 
-// Adds the columns that an exchange merges on, if there are any.
-fn push_merge(text: &mut String, merge: &[String]) -> Result<(), AllocError>
-    ensures { OnOk result (string_bytes text.new ≡ string_bytes text.old ++ merge_text (map string_bytes merge.now)) }
+// Adds the order by which an exchange merges, if it has an entry.
+fn push_merge(text: &mut String, merge: &[OrderText]) -> Result<(), AllocError>
+    ensures { OnOk result (string_bytes text.new ≡ string_bytes text.old ++ merge_text merge.now) }
 {
     if merge.is_empty() {
         return Ok(());
     }
     text.push_str(" merge ")?;
-    push_list(text, merge)
+    push_order(text, merge)
 }
 
-fn push_exchange(text: &mut String, kind: &NamedKind, merge: &[String]) -> Result<(), AllocError>
-    ensures { OnOk result (string_bytes text.new ≡ string_bytes text.old ++ (codes "exchange " ++ (kind_text (kind_form kind.now) ++ merge_text (map string_bytes merge.now)))) }
+fn push_exchange(text: &mut String, kind: &NamedKind, merge: &[OrderText]) -> Result<(), AllocError>
+    ensures { OnOk result (string_bytes text.new ≡ string_bytes text.old ++ (codes "exchange " ++ (kind_text (kind_form kind.now) ++ merge_text merge.now))) }
 {
     text.push_str("exchange ")?;
     push_kind(text, kind)?;

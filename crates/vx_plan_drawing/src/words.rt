@@ -1,10 +1,11 @@
-//! Words of a line: names, lists of columns, parts and claims.
+//! Words of a line: names, lists of columns, orders, parts and claims.
 
 ghost use Rattle.std.specs.Prelude.{◌≡◌, ◌++◌, [], map, string_bytes, OnOk, cond, codes, false};
 ghost use Rattle.vx_plan_json.specs.Document.{part_form, claim_form};
-ghost use Rattle.vx_plan_drawing.specs.Description.{separated, list_text, hash_text, range_text, part_text, keys_text, claim_text};
+ghost use Rattle.vx_plan_drawing.specs.Description.{separated, list_text, entry_text, order_text, hash_text, range_text, part_text, keys_text, claim_text};
 
 use std::alloc::AllocError;
+use vx_catalog_json::OrderText;
 use vx_plan_json::{NamedClaim, NamedPart};
 
 /// Adds the separator, unless nothing was added before.
@@ -35,6 +36,37 @@ pub fn push_list(text: &mut String, names: &[String]) -> Result<(), AllocError>
 {
     text.push_str("[")?;
     push_names(text, names)?;
+    text.push_str("]")
+}
+
+// Adds a column of an order by its name, and whether it falls.
+fn push_entry(text: &mut String, entry: &OrderText) -> Result<(), AllocError>
+    ensures { OnOk result (string_bytes text.new ≡ string_bytes text.old ++ entry_text entry.now) }
+{
+    text.push_str(entry.name.as_str())?;
+    if entry.falling {
+        text.push_str(" desc")?;
+    }
+    Ok(())
+}
+
+// Adds the columns of an order, and which of them fall.
+fn push_entries(text: &mut String, order: &[OrderText]) -> Result<(), AllocError>
+    ensures { OnOk result (string_bytes text.new ≡ string_bytes text.old ++ separated (codes ",") false (map entry_text order.now)) }
+{
+    for (i, entry) in order.iter().enumerate() {
+        push_between(text, ",", i > 0)?;
+        push_entry(text, entry)?;
+    }
+    Ok(())
+}
+
+/// Adds an order in brackets.
+pub fn push_order(text: &mut String, order: &[OrderText]) -> Result<(), AllocError>
+    ensures { OnOk result (string_bytes text.new ≡ string_bytes text.old ++ order_text order.now) }
+{
+    text.push_str("[")?;
+    push_entries(text, order)?;
     text.push_str("]")
 }
 
@@ -100,7 +132,7 @@ pub fn push_claim(text: &mut String, claim: &NamedClaim) -> Result<(), AllocErro
     text.push_str(" part=")?;
     push_part(text, &claim.part)?;
     text.push_str(" order=")?;
-    push_list(text, claim.order.as_slice())?;
+    push_order(text, claim.order.as_slice())?;
     text.push_str(" keys=")?;
     push_keys(text, claim.keys.as_slice())
 }

@@ -4,6 +4,7 @@ use Rattle.std.proofs.lemmas.Bool.{eqb-false}
 use Rattle.std.specs.List.{list_all, AllByRecursion}
 use Rattle.std.specs.Ordering.{is_le}
 use Rattle.vx_rows_values.specs.Values.{Row, row_eq}
+use Rattle.vx_rows_values.specs.declared.order.OrderEntry.{OrderEntry}
 use Rattle.vx_rows_values.specs.Order.{compare_on, insert_sorted, sort_on}
 use Rattle.vx_rows_values.specs.Bags.{count, SameRows}
 use Rattle.vx_rows_values.proofs.Compare.{row_eq-same, row_eq-refl}
@@ -57,17 +58,17 @@ pub each-firsts : (P : Row → Type 0) (xs : List Row) → AllByRecursion P xs �
 each-firsts P [] h = tt
 each-firsts P (x ∷ xs) h = (h.0, each-filter P P (λ y. not (row_eq x y)) (λ y e k. k) (firsts xs) (each-firsts P xs h.1))
 
-each-insert : (P : Row → Type 0) (cols : List ℕ) (x : Row) (ys : List Row) → P x → AllByRecursion P ys → AllByRecursion P (insert_sorted cols x ys)
-each-insert P cols x [] h k = (h, tt)
-each-insert P cols x (y ∷ ys) h k = go (is_le (compare_on cols x y)) (each-insert P cols x ys h k.1)
+each-insert : (P : Row → Type 0) (order : List OrderEntry) (x : Row) (ys : List Row) → P x → AllByRecursion P ys → AllByRecursion P (insert_sorted order x ys)
+each-insert P order x [] h k = (h, tt)
+each-insert P order x (y ∷ ys) h k = go (is_le (compare_on order x y)) (each-insert P order x ys h k.1)
   where
-    go : (b : Bool) → AllByRecursion P (insert_sorted cols x ys) → AllByRecursion P (cond b (x ∷ y ∷ ys) (y ∷ insert_sorted cols x ys))
+    go : (b : Bool) → AllByRecursion P (insert_sorted order x ys) → AllByRecursion P (cond b (x ∷ y ∷ ys) (y ∷ insert_sorted order x ys))
     go true r = (h, k)
     go false r = (k.0, r)
 
-pub each-sort : (P : Row → Type 0) (cols : List ℕ) (xs : List Row) → AllByRecursion P xs → AllByRecursion P (sort_on cols xs)
-each-sort P cols [] h = tt
-each-sort P cols (x ∷ xs) h = each-insert P cols x (sort_on cols xs) h.0 (each-sort P cols xs h.1)
+pub each-sort : (P : Row → Type 0) (order : List OrderEntry) (xs : List Row) → AllByRecursion P xs → AllByRecursion P (sort_on order xs)
+each-sort P order [] h = tt
+each-sort P order (x ∷ xs) h = each-insert P order x (sort_on order xs) h.0 (each-sort P order xs h.1)
 
 -- ---- rows that are among those of a list
 

@@ -1,10 +1,11 @@
 -- Orders, keys and totals that follow from facts of columns.
-use Rattle.std.proofs.Common.{◌≡◌, ℕ, zero, suc, ◌+◌, ◌<◌, ◌≤◌, ◌==◌, Bool, true, false, cond, ◌||◌, ◌&&◌, ⊎_elim, ◌⊎◌, inl, inr, List, [], ◌∷◌, length, refl, sym, ap, ap₂, ◌∙◌, subst, arith, true≢false, eqb-true, ltb-true, nat_lt, is_le, is_eq, Ordering, Less, Equal, Greater}
+use Rattle.std.proofs.Common.{◌≡◌, ℕ, zero, suc, ◌+◌, ◌<◌, ◌≤◌, ◌==◌, Bool, true, false, cond, not, ◌||◌, ◌&&◌, ⊎_elim, ◌⊎◌, inl, inr, List, [], ◌∷◌, length, refl, sym, ap, ap₂, ◌∙◌, subst, arith, true≢false, eqb-true, ltb-true, nat_lt, is_le, is_eq, Ordering, Less, Equal, Greater}
 use Rattle.std.proofs.lemmas.Bool.{eqb-false}
 use Rattle.std.specs.List.{list_all, list_any}
 use Rattle.std.specs.Ordering.{ordering_then}
-use Rattle.vx_rows_values.specs.Values.{Val, Row, val_cmp, row_eq, value_at, pick}
-use Rattle.vx_rows_values.specs.Order.{compare_on, agree, sorted}
+use Rattle.vx_rows_values.specs.Values.{Val, Row, val_cmp, row_cmp, row_eq, value_at, pick}
+use Rattle.vx_rows_values.specs.declared.order.OrderEntry.{OrderEntry}
+use Rattle.vx_rows_values.specs.Order.{order_columns, compare_values, compare_on, agree, sorted}
 use Rattle.vx_rows_values.specs.Bags.{count}
 use Rattle.vx_rows_values.specs.Keys.{HasKey}
 use Rattle.vx_rows_values.proofs.Booleans.{and-left, and-right, and-both}
@@ -14,7 +15,7 @@ use Rattle.vx_catalog_relations.specs.Relation.{KeysHold}
 use Rattle.vx_plan_nodes.specs.Phases.{columns_from, first_columns}
 use Rattle.vx_plan_facts.specs.Equal.{Equality}
 use Rattle.vx_plan_facts.specs.Determined.{Columns}
-use Rattle.vx_plan_facts.specs.Following.{set_of, begins_equally, short_after, short, key_follows}
+use Rattle.vx_plan_facts.specs.Following.{set_of, equal_entries, begins_equally, short_after, short, key_follows}
 use Rattle.vx_plan_facts.specs.FollowLaws.{Occurs, AgreeIn, Agreeing, OrderFollows, KeyFollows, TotalFollows}
 
 or-cases : (a b : Bool) → (a || b) ≡ true → (a ≡ true) ⊎ (b ≡ true)
@@ -31,6 +32,21 @@ equal-then Greater h = absurd (true≢false (sym h))
 equal-cmp : (u v : Val) → u ≡ v → val_cmp u v ≡ Equal
 equal-cmp u v e = let P : Val → Type 0 = λ x. val_cmp u x ≡ Equal in subst P e (equal-then (val_cmp u u) (row_eq-refl (u ∷ [])))
 
+-- and so in either direction
+equal-values : (falling : Bool) (u v : Val) → u ≡ v → compare_values falling u v ≡ Equal
+equal-values false u v e = equal-cmp u v e
+equal-values true u v e = equal-cmp v u (sym e)
+
+values-same : (falling : Bool) (u v : Val) → compare_values falling u v ≡ Equal → u ≡ v
+values-same false u v e = val_cmp-same u v e
+values-same true u v e = sym (val_cmp-same v u e)
+
+same-way : (f g : Bool) → cond f g (not g) ≡ true → f ≡ g
+same-way true true h = refl
+same-way true false h = absurd (true≢false (sym h))
+same-way false true h = absurd (true≢false (sym h))
+same-way false false h = refl
+
 module _ (w : ℕ) (e : Equality) (det : Columns → Columns) (a b : Row)
     (equal_a : (c d : ℕ) → c < w → d < w → e c d ≡ true → value_at a c ≡ value_at a d)
     (equal_b : (c d : ℕ) → c < w → d < w → e c d ≡ true → value_at b c ≡ value_at b d)
@@ -41,40 +57,54 @@ module _ (w : ℕ) (e : Equality) (det : Columns → Columns) (a b : Row)
       (λ k. h x l k)
       (or-cases (x == c) (set_of before x) m)
 
-  short-same : (before cols : List ℕ) → all_below w cols ≡ true → AgreeIn w (set_of before) a b → compare_on (short_after det before cols) a b ≡ compare_on cols a b
+  -- how the rows compare in an entry
+  abbrev in-entry : OrderEntry → Ordering
+  in-entry c = compare_values c.falling (value_at a c.column) (value_at b c.column)
+
+  short-same : (before : List ℕ) (order : List OrderEntry) → all_below w (order_columns order) ≡ true → AgreeIn w (set_of before) a b
+      → compare_on (short_after det before order) a b ≡ compare_on order a b
   short-same before [] l h = refl
-  short-same before (c ∷ cols) l h =
-      let below : c < w = ltb-true c w (and-left (nat_lt c w) (all_below w cols) l) in
-      let rest = and-right (nat_lt c w) (all_below w cols) l in
-      let after : value_at a c ≡ value_at b c → compare_on (short_after det (c ∷ before) cols) a b ≡ compare_on cols a b = λ same. short-same (c ∷ before) cols rest (with-one c before same h) in
-      go (det (set_of before) c) refl below after
+  short-same before (c ∷ order) l h =
+      let below : c.column < w = ltb-true c.column w (and-left (nat_lt c.column w) (all_below w (order_columns order)) l) in
+      let rest = and-right (nat_lt c.column w) (all_below w (order_columns order)) l in
+      let after : value_at a c.column ≡ value_at b c.column → compare_on (short_after det (c.column ∷ before) order) a b ≡ compare_on order a b =
+      λ same. short-same (c.column ∷ before) order rest (with-one c.column before same h) in
+      go (det (set_of before) c.column) refl below after
     where
-      go : (k : Bool) → det (set_of before) c ≡ k → c < w → (value_at a c ≡ value_at b c → compare_on (short_after det (c ∷ before) cols) a b ≡ compare_on cols a b)
-          → compare_on (cond k (short_after det (c ∷ before) cols) (c ∷ short_after det (c ∷ before) cols)) a b ≡ compare_on (c ∷ cols) a b
+      go : (k : Bool) → det (set_of before) c.column ≡ k → c.column < w
+          → (value_at a c.column ≡ value_at b c.column → compare_on (short_after det (c.column ∷ before) order) a b ≡ compare_on order a b)
+          → compare_on (cond k (short_after det (c.column ∷ before) order) (c ∷ short_after det (c.column ∷ before) order)) a b ≡ compare_on (c ∷ order) a b
       go true k below after =
-          let same : value_at a c ≡ value_at b c = determined (set_of before) h c below k in
-          after same ∙ sym (ap (λ o. ordering_then o (compare_on cols a b)) (equal-cmp (value_at a c) (value_at b c) same))
-      go false k below after = by (val_cmp (value_at a c) (value_at b c)) refl
+          let same : value_at a c.column ≡ value_at b c.column = determined (set_of before) h c.column below k in
+          after same ∙ sym (ap (λ o. ordering_then o (compare_on order a b)) (equal-values c.falling (value_at a c.column) (value_at b c.column) same))
+      go false k below after = by (in-entry c) refl
         where
-          by : (o : Ordering) → val_cmp (value_at a c) (value_at b c) ≡ o
-              → ordering_then o (compare_on (short_after det (c ∷ before) cols) a b) ≡ ordering_then o (compare_on cols a b)
+          by : (o : Ordering) → in-entry c ≡ o → ordering_then o (compare_on (short_after det (c.column ∷ before) order) a b) ≡ ordering_then o (compare_on order a b)
           by Less m = refl
-          by Equal m = after (val_cmp-same (value_at a c) (value_at b c) m)
+          by Equal m = after (values-same c.falling (value_at a c.column) (value_at b c.column) m)
           by Greater m = refl
 
-  begins-le : (cs ds : List ℕ) → all_below w cs ≡ true → all_below w ds ≡ true → begins_equally e cs ds ≡ true
+  -- equal columns in the same direction compare alike
+  entries-alike : (c d : OrderEntry) → c.column < w → d.column < w → equal_entries e c d ≡ true → in-entry c ≡ in-entry d
+  entries-alike c d lc ld h =
+      let same = and-left (e c.column d.column) (cond c.falling d.falling (not d.falling)) h in
+      let way : c.falling ≡ d.falling = same-way c.falling d.falling (and-right (e c.column d.column) (cond c.falling d.falling (not d.falling)) h) in
+      ap (λ f. compare_values f (value_at a c.column) (value_at b c.column)) way
+      ∙ ap₂ (compare_values d.falling) (equal_a c.column d.column lc ld same) (equal_b c.column d.column lc ld same)
+
+  begins-le : (cs ds : List OrderEntry) → all_below w (order_columns cs) ≡ true → all_below w (order_columns ds) ≡ true → begins_equally e cs ds ≡ true
       → is_le (compare_on ds a b) ≡ true → is_le (compare_on cs a b) ≡ true
   begins-le [] ds l m h k = refl
   begins-le (c ∷ cs) [] l m h k = absurd (true≢false (sym h))
   begins-le (c ∷ cs) (d ∷ ds) l m h k =
-      let lc = ltb-true c w (and-left (nat_lt c w) (all_below w cs) l) in
-      let ld = ltb-true d w (and-left (nat_lt d w) (all_below w ds) m) in
-      let same = and-left (e c d) (begins_equally e cs ds) h in
-      let o : val_cmp (value_at a c) (value_at b c) ≡ val_cmp (value_at a d) (value_at b d) = ap₂ val_cmp (equal_a c d lc ld same) (equal_b c d lc ld same) in
+      let lc = ltb-true c.column w (and-left (nat_lt c.column w) (all_below w (order_columns cs)) l) in
+      let ld = ltb-true d.column w (and-left (nat_lt d.column w) (all_below w (order_columns ds)) m) in
+      let o : in-entry c ≡ in-entry d = entries-alike c d lc ld (and-left (equal_entries e c d) (begins_equally e cs ds) h) in
       let P : Ordering → Type 0 = λ x. is_le (ordering_then x (compare_on cs a b)) ≡ true in
       subst P (sym o)
-      (go (val_cmp (value_at a d) (value_at b d)) k
-      (begins-le cs ds (and-right (nat_lt c w) (all_below w cs) l) (and-right (nat_lt d w) (all_below w ds) m) (and-right (e c d) (begins_equally e cs ds) h)))
+      (go (in-entry d) k
+      (begins-le cs ds (and-right (nat_lt c.column w) (all_below w (order_columns cs)) l) (and-right (nat_lt d.column w) (all_below w (order_columns ds)) m)
+      (and-right (equal_entries e c d) (begins_equally e cs ds) h)))
     where
       go : (o : Ordering) → is_le (ordering_then o (compare_on ds a b)) ≡ true → (is_le (compare_on ds a b) ≡ true → is_le (compare_on cs a b) ≡ true)
           → is_le (ordering_then o (compare_on cs a b)) ≡ true
@@ -82,14 +112,17 @@ module _ (w : ℕ) (e : Equality) (det : Columns → Columns) (a b : Row)
       go Equal k f = f k
       go Greater k f = k
 
-short-below : (w : ℕ) (det : Columns → Columns) (before cols : List ℕ) → all_below w cols ≡ true → all_below w (short_after det before cols) ≡ true
+short-below : (w : ℕ) (det : Columns → Columns) (before : List ℕ) (order : List OrderEntry) → all_below w (order_columns order) ≡ true
+    → all_below w (order_columns (short_after det before order)) ≡ true
 short-below w det before [] l = refl
-short-below w det before (c ∷ cols) l =
-    go (det (set_of before) c) (and-left (nat_lt c w) (all_below w cols) l) (short-below w det (c ∷ before) cols (and-right (nat_lt c w) (all_below w cols) l))
+short-below w det before (c ∷ order) l =
+    go (det (set_of before) c.column) (and-left (nat_lt c.column w) (all_below w (order_columns order)) l)
+    (short-below w det (c.column ∷ before) order (and-right (nat_lt c.column w) (all_below w (order_columns order)) l))
   where
-    go : (k : Bool) → nat_lt c w ≡ true → all_below w (short_after det (c ∷ before) cols) ≡ true → all_below w (cond k (short_after det (c ∷ before) cols) (c ∷ short_after det (c ∷ before) cols)) ≡ true
+    go : (k : Bool) → nat_lt c.column w ≡ true → all_below w (order_columns (short_after det (c.column ∷ before) order)) ≡ true
+        → all_below w (order_columns (cond k (short_after det (c.column ∷ before) order) (c ∷ short_after det (c.column ∷ before) order))) ≡ true
     go true l m = m
-    go false l m = and-both (nat_lt c w) (all_below w (short_after det (c ∷ before) cols)) l m
+    go false l m = and-both (nat_lt c.column w) (all_below w (order_columns (short_after det (c.column ∷ before) order))) l m
 
 -- ---- lists of rows
 
@@ -133,7 +166,7 @@ order-follows w e det (x ∷ xs) h given order l m f k =
 
 -- and so where what is asked begins what is left of the other order, up to equal columns
 pub begins-follow : (w : ℕ) (e : Equality) (det : Columns → Columns) (xs : List Row) → Agreeing w e det xs
-    → (given order : List ℕ) → all_below w given ≡ true → all_below w order ≡ true → begins_equally e order (short det given) ≡ true → sorted given xs ≡ true → sorted order xs ≡ true
+    → (given order : List OrderEntry) → all_below w (order_columns given) ≡ true → all_below w (order_columns order) ≡ true → begins_equally e order (short det given) ≡ true → sorted given xs ≡ true → sorted order xs ≡ true
 begins-follow w e det [] h given order l m f k = refl
 begins-follow w e det (x ∷ xs) h given order l m f k =
     and-both (list_all (λ y. is_le (compare_on order x y)) xs) (sorted order xs)
@@ -184,7 +217,7 @@ then-eq Greater p = refl
 pub agree-each : (cols : List ℕ) (a b : Row) → agree cols a b ≡ true → (c : ℕ) → set_of cols c ≡ true → value_at a c ≡ value_at b c
 agree-each [] a b h c m = absurd (true≢false (sym m))
 agree-each (d ∷ cols) a b h c m =
-    let both = sym (then-eq (val_cmp (value_at a d) (value_at b d)) (compare_on cols a b)) ∙ h in
+    let both = sym (then-eq (val_cmp (value_at a d) (value_at b d)) (row_cmp (pick cols a) (pick cols b))) ∙ h in
     let P : ℕ → Type 0 = λ v. value_at a v ≡ value_at b v in
     ⊎_elim
     (λ k. subst P (sym (eqb-true c d k)) (val_cmp-same (value_at a d) (value_at b d) (is_eq-Equal _ (and-left (is_eq (val_cmp (value_at a d) (value_at b d))) (agree cols a b) both))))
@@ -194,7 +227,7 @@ agree-each (d ∷ cols) a b h c m =
 pub each-agree : (cols : List ℕ) (a b : Row) (q : ℕ → Bool) → list_all q cols ≡ true → ((c : ℕ) → q c ≡ true → value_at a c ≡ value_at b c) → agree cols a b ≡ true
 each-agree [] a b q l h = refl
 each-agree (c ∷ cols) a b q l h =
-    then-eq (val_cmp (value_at a c) (value_at b c)) (compare_on cols a b)
+    then-eq (val_cmp (value_at a c) (value_at b c)) (row_cmp (pick cols a) (pick cols b))
     ∙ and-both (is_eq (val_cmp (value_at a c) (value_at b c))) (agree cols a b)
     (ap is_eq (equal-cmp (value_at a c) (value_at b c) (h c (and-left (q c) (list_all q cols) l))))
     (each-agree cols a b q (and-right (q c) (list_all q cols) l) h)
@@ -284,13 +317,13 @@ key-one key xs k a b oa ob g = go (row_eq a b) refl
     go false e = let m = most e xs in let n = k a in absurd (omega (arith, m, n, oa, ob))
 
 pub total-follows : TotalFollows
-total-follows w e det xs h wide keys l k order t a b oa ob g = ⊎_elim by_key by_all (or-cases (key_follows det keys order) (list_all (det (set_of order)) (first_columns w)) t)
+total-follows w e det xs h wide keys l k cols t a b oa ob g = ⊎_elim by_key by_all (or-cases (key_follows det keys cols) (list_all (det (set_of cols)) (first_columns w)) t)
   where
-    by_key : key_follows det keys order ≡ true → a ≡ b
-    by_key f = key-one order xs (key-follows w e det xs h keys l k order f) a b oa ob g
+    by_key : key_follows det keys cols ≡ true → a ≡ b
+    by_key f = key-one cols xs (key-follows w e det xs h keys l k cols f) a b oa ob g
 
-    by_all : list_all (det (set_of order)) (first_columns w) ≡ true → a ≡ b
+    by_all : list_all (det (set_of cols)) (first_columns w) ≡ true → a ≡ b
     by_all f =
-        let s : AgreeIn w (det (set_of order)) a b = h.determined a b oa ob (set_of order) (λ c m n. agree-each order a b g c n) in
+        let s : AgreeIn w (det (set_of cols)) a b = h.determined a b oa ob (set_of cols) (λ c m n. agree-each cols a b g c n) in
         same-values w a b (eqb-true (length a) w (occurs-all (λ row. length row == w) xs wide a oa)) (eqb-true (length b) w (occurs-all (λ row. length row == w) xs wide b ob))
-        (λ c m. s c m (first-all (det (set_of order)) w 0 f c (omega arith) (omega (arith, m))))
+        (λ c m. s c m (first-all (det (set_of cols)) w 0 f c (omega arith) (omega (arith, m))))

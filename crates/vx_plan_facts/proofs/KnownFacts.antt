@@ -2,6 +2,7 @@
 use Rattle.std.proofs.Common.{◌≡◌, ◌∙◌, ℕ, suc, ◌+◌, ◌==◌, nat_le, true, ◌&&◌, List, [], ◌∷◌, ◌++◌, length, ap, sym, refl, arith, Some, slice_get, length-append, append_assoc}
 use Rattle.std.proofs.lemmas.Bool.{eqb-true, and_parts}
 use Rattle.std.proofs.lemmas.List.{append-nil}
+use Rattle.vx_rows_values.specs.declared.order.OrderEntry.{OrderEntry}
 use Rattle.vx_rows_values.specs.Limits.{max_columns}
 use Rattle.vx_rows_values.proofs.Booleans.{and-left, and-right}
 use Rattle.vx_catalog_relations.specs.Relation.{Relation}
@@ -81,7 +82,7 @@ known-under catalog known n c op p h =
       kept = h.kept;
     }
 
-pub known-passed : (catalog : ℕ → Relation) (known : rust_known.KnownColumns) (n : ℕ) (c : Claim) (k : ExchangeKind) (m : List ℕ) (p : Plan)
+pub known-passed : (catalog : ℕ → Relation) (known : rust_known.KnownColumns) (n : ℕ) (c : Claim) (k : ExchangeKind) (m : List OrderEntry) (p : Plan)
     → IsKnownOf catalog known (exchange n c k m p) → IsKnownOf catalog known p
 known-passed catalog known n c k m p h = record {
   known = record {

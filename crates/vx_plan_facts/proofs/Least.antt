@@ -2,6 +2,7 @@
 use Rattle.std.proofs.Common.{◌≡◌, ℕ, zero, suc, ◌+◌, ◌<◌, ◌≤◌, ◌==◌, nat_lt, Bool, true, false, cond, ◌&&◌, ◌||◌, ⊎_elim, List, refl, sym, subst, arith, Option, Some, None, ltb-true}
 use Rattle.std.specs.List.{list_any, list_all}
 use Rattle.std.proofs.lemmas.Bool.{cases_lt, cases_eq}
+use Rattle.vx_rows_values.specs.Order.{order_columns}
 use Rattle.vx_rows_values.specs.Lists.{is_some_list}
 use Rattle.vx_rows_values.proofs.Booleans.{and-left, and-right, and-both}
 use Rattle.vx_catalog_relations.specs.Relation.{Relation}
@@ -204,8 +205,8 @@ claim-named catalog (exchange n c k m p) h = and-right (well_formed catalog p) (
 
 keys-named : (w : ℕ) (c : Claim) → names_columns w c ≡ true → list_all (all_below w) c.keys ≡ true
 keys-named w c h =
-    and-right (all_below w c.order) (list_all (all_below w) c.keys)
-    (and-right (all_below w (part_columns c.part)) (all_below w c.order && list_all (all_below w) c.keys) h)
+    and-right (all_below w (order_columns c.order)) (list_all (all_below w) c.keys)
+    (and-right (all_below w (part_columns c.part)) (all_below w (order_columns c.order) && list_all (all_below w) c.keys) h)
 
 step-more : (catalog : ℕ → Relation) (p : Plan) → well_formed catalog p ≡ true → (s t : Columns) → WithinFirst (width catalog p) s t
     → WithinFirst (width catalog p) (one_step catalog p s) (one_step catalog p t)

@@ -4,6 +4,7 @@ use Rattle.std.specs.List.{list_all}
 use Rattle.std.proofs.lemmas.Bool.{cases_lt}
 use Rattle.std.proofs.lemmas.List.{length-map}
 use Rattle.vx_rows_values.specs.Values.{Val, Row, row_eq, value_at, pick}
+use Rattle.vx_rows_values.specs.declared.order.OrderEntry.{OrderEntry}
 use Rattle.vx_rows_values.specs.Order.{agree, compare_on, insert_sorted, sort_on}
 use Rattle.vx_rows_values.specs.Bags.{total}
 use Rattle.vx_rows_values.specs.Keys.{HasKey, is_key}
@@ -106,31 +107,31 @@ group-keys-hold (k ∷ keys) by aggregates xs ys e h = (here (list_all (group_fi
 
 -- ---- sorts of parts
 
-insert-total : (f : Row → ℕ) (cols : List ℕ) (x : Row) (ys : List Row) → total f (insert_sorted cols x ys) ≡ f x + total f ys
-insert-total f cols x [] = refl
-insert-total f cols x (y ∷ ys) = go (is_le (compare_on cols x y)) (insert-total f cols x ys)
+insert-total : (f : Row → ℕ) (order : List OrderEntry) (x : Row) (ys : List Row) → total f (insert_sorted order x ys) ≡ f x + total f ys
+insert-total f order x [] = refl
+insert-total f order x (y ∷ ys) = go (is_le (compare_on order x y)) (insert-total f order x ys)
   where
-    go : (b : Bool) → total f (insert_sorted cols x ys) ≡ f x + total f ys → total f (cond b (x ∷ y ∷ ys) (y ∷ insert_sorted cols x ys)) ≡ f x + (f y + total f ys)
+    go : (b : Bool) → total f (insert_sorted order x ys) ≡ f x + total f ys → total f (cond b (x ∷ y ∷ ys) (y ∷ insert_sorted order x ys)) ≡ f x + (f y + total f ys)
     go true h = refl
     go false h = omega (arith, h)
 
-sort-total : (f : Row → ℕ) (cols : List ℕ) (xs : List Row) → total f (sort_on cols xs) ≡ total f xs
-sort-total f cols [] = refl
-sort-total f cols (x ∷ xs) = let a = insert-total f cols x (sort_on cols xs) in let b = sort-total f cols xs in omega (arith, a, b)
+sort-total : (f : Row → ℕ) (order : List OrderEntry) (xs : List Row) → total f (sort_on order xs) ≡ total f xs
+sort-total f order [] = refl
+sort-total f order (x ∷ xs) = let a = insert-total f order x (sort_on order xs) in let b = sort-total f order xs in omega (arith, a, b)
 
-keys-sorted : (keys : List (List ℕ)) (cols : List ℕ) (xs : List Row) → KeysHold keys xs → KeysHold keys (sort_on cols xs)
-keys-sorted [] cols xs h = tt
-keys-sorted (k ∷ keys) cols xs h =
-    (λ row. let a = sort-total (λ r. cond (agree k row r) 1 0) cols xs in let b = h.0 row in omega (arith, a, b), keys-sorted keys cols xs h.1)
+keys-sorted : (keys : List (List ℕ)) (order : List OrderEntry) (xs : List Row) → KeysHold keys xs → KeysHold keys (sort_on order xs)
+keys-sorted [] order xs h = tt
+keys-sorted (k ∷ keys) order xs h =
+    (λ row. let a = sort-total (λ r. cond (agree k row r) 1 0) order xs in let b = h.0 row in omega (arith, a, b), keys-sorted keys order xs h.1)
 
-keys-unsorted : (keys : List (List ℕ)) (cols : List ℕ) (xs : List Row) → KeysHold keys (sort_on cols xs) → KeysHold keys xs
-keys-unsorted [] cols xs h = tt
-keys-unsorted (k ∷ keys) cols xs h =
-    (λ row. let a = sort-total (λ r. cond (agree k row r) 1 0) cols xs in let b = h.0 row in omega (arith, a, b), keys-unsorted keys cols xs h.1)
+keys-unsorted : (keys : List (List ℕ)) (order : List OrderEntry) (xs : List Row) → KeysHold keys (sort_on order xs) → KeysHold keys xs
+keys-unsorted [] order xs h = tt
+keys-unsorted (k ∷ keys) order xs h =
+    (λ row. let a = sort-total (λ r. cond (agree k row r) 1 0) order xs in let b = h.0 row in omega (arith, a, b), keys-unsorted keys order xs h.1)
 
-occurs-unsorted : (cols : List ℕ) (a : Row) (xs : List Row) → occurs a (sort_on cols xs) ≡ true → occurs a xs ≡ true
-occurs-unsorted cols a [] h = h
-occurs-unsorted cols a (x ∷ xs) h = or-later (row_eq a x) (occurs a (sort_on cols xs)) (occurs a xs) (occurs-unsorted cols a xs) (insert-occurs (sort_on cols xs) h)
+occurs-unsorted : (order : List OrderEntry) (a : Row) (xs : List Row) → occurs a (sort_on order xs) ≡ true → occurs a xs ≡ true
+occurs-unsorted order a [] h = h
+occurs-unsorted order a (x ∷ xs) h = or-later (row_eq a x) (occurs a (sort_on order xs)) (occurs a xs) (occurs-unsorted order a xs) (insert-occurs (sort_on order xs) h)
   where
     or-later : (b c d : Bool) → (c ≡ true → d ≡ true) → (b || c) ≡ true → (b || d) ≡ true
     or-later true c d f h = refl
@@ -142,14 +143,14 @@ occurs-unsorted cols a (x ∷ xs) h = or-later (row_eq a x) (occurs a (sort_on c
     swap false true d h = refl
     swap false false d h = h
 
-    insert-occurs : (ys : List Row) → occurs a (insert_sorted cols x ys) ≡ true → (row_eq a x || occurs a ys) ≡ true
+    insert-occurs : (ys : List Row) → occurs a (insert_sorted order x ys) ≡ true → (row_eq a x || occurs a ys) ≡ true
     insert-occurs [] h = h
-    insert-occurs (y ∷ ys) h = go (is_le (compare_on cols x y)) h (insert-occurs ys)
+    insert-occurs (y ∷ ys) h = go (is_le (compare_on order x y)) h (insert-occurs ys)
       where
-        go : (b : Bool) → occurs a (cond b (x ∷ y ∷ ys) (y ∷ insert_sorted cols x ys)) ≡ true → (occurs a (insert_sorted cols x ys) ≡ true → (row_eq a x || occurs a ys) ≡ true)
+        go : (b : Bool) → occurs a (cond b (x ∷ y ∷ ys) (y ∷ insert_sorted order x ys)) ≡ true → (occurs a (insert_sorted order x ys) ≡ true → (row_eq a x || occurs a ys) ≡ true)
             → (row_eq a x || (row_eq a y || occurs a ys)) ≡ true
         go true h f = h
-        go false h f = swap (row_eq a y) (row_eq a x) (occurs a ys) (or-later (row_eq a y) (occurs a (insert_sorted cols x ys)) (row_eq a x || occurs a ys) f h)
+        go false h f = swap (row_eq a y) (row_eq a x) (occurs a ys) (or-later (row_eq a y) (occurs a (insert_sorted order x ys)) (row_eq a x || occurs a ys) f h)
 
 -- ---- from the lists of which keys are claimed to the serial lists
 

@@ -4,6 +4,7 @@ use Rattle.std.specs.List.{list_all}
 use Rattle.std.proofs.lemmas.Bool.{and_parts, and_from, eq-eqb}
 use Rattle.std.proofs.lemmas.List.{length-map}
 use Rattle.std.proofs.lemmas.Bool.Decides.{nat_tests}
+use Rattle.vx_rows_values.specs.declared.order.OrderEntry.{OrderEntry}
 use Rattle.vx_rows_values.specs.declared.value.ColType.{ColType}
 use Rattle.vx_rows_values.specs.Types.{type_at}
 use Rattle.vx_rows_values.specs.Lists.{is_some_list}
@@ -12,7 +13,7 @@ use Rattle.vx_catalog_relations.specs.Catalog.{all_below, are_distinct, relation
 use Rattle.vx_plan_nodes.specs.Plan.{Side, column, constant, Condition, Unary, select, project, distinct, sort, group, limit, Phase, plain, partial, final, Aggregate, Binary, union, join, semi_join, Claim, Size, ExchangeKind, Plan, scan, unary, binary, exchange}
 use Rattle.vx_plan_nodes.specs.Phases.{phase_fits, both_closed}
 use Rattle.vx_plan_nodes.specs.Types.{types_of, unary_types, binary_types, aggregate_type, width, unary_width, binary_width}
-use Rattle.vx_plan_nodes.specs.Typed.{type_eq, types_eq, are_columns, is_side, is_condition, is_aggregate, is_unary, is_pair, are_distinct_pairs, is_binary, typed}
+use Rattle.vx_plan_nodes.specs.Typed.{type_eq, types_eq, are_columns, is_side, is_condition, is_aggregate, is_unary, is_pair, are_distinct_pairs, has_directions, is_binary, typed}
 use Rattle.vx_plan_nodes.specs.Describe.{source, described}
 use Rattle.vx_plan_facts.specs.Facts.{Facts, AreCarried, AreAfter}
 use Rattle.vx_plan_facts.specs.Labels.{source_within}
@@ -111,8 +112,8 @@ pairs-name ts us (p ∷ on) h =
 both-name : (ts us : List ColType) (op : Binary) → is_binary ts us op ≡ true → both_within (length ts) (length us) op ≡ true
 both-name ts us union h = same-types ts us h
 both-name ts us (join m on) h =
-    let p = and_parts (is_some_list on) (list_all (is_pair ts us) on && are_distinct_pairs on) h in
-    pairs-name ts us on (and_parts (list_all (is_pair ts us) on) (are_distinct_pairs on) p.1).0
+    let p = and_parts (is_some_list on) (list_all (is_pair ts us) on && (are_distinct_pairs on && has_directions m on)) h in
+    pairs-name ts us on (and_parts (list_all (is_pair ts us) on) (are_distinct_pairs on && has_directions m on) p.1).0
 both-name ts us (semi_join matched on conditions) h =
     let p = and_parts (is_some_list on) (list_all (is_pair ts us) on && (are_distinct_pairs on && list_all (is_condition (ts ++ us)) conditions)) h in
     pairs-name ts us on (and_parts (list_all (is_pair ts us) on) (are_distinct_pairs on && list_all (is_condition (ts ++ us)) conditions) p.1).0
@@ -150,7 +151,7 @@ typed-both catalog x n c op p q is (s, same, typed_x) =
     let right : length (types_of (relation_at s.catalog) q) ≡ width (relation_at catalog) q = types-width (relation_at s.catalog) q ∙ ap (λ l. width (relation_at l) q) same in
     ((s, same, u.0), (s, same, v.0), rw (left, right) at names)
 
-pub typed-sent : (catalog : List Relation) (x : Plan) (n : ℕ) (c : Claim) (k : ExchangeKind) (m : List ℕ) (p : Plan) → x ≡ exchange n c k m p → IsTypedOver catalog x → IsTypedOver catalog p
+pub typed-sent : (catalog : List Relation) (x : Plan) (n : ℕ) (c : Claim) (k : ExchangeKind) (m : List OrderEntry) (p : Plan) → x ≡ exchange n c k m p → IsTypedOver catalog x → IsTypedOver catalog p
 typed-sent catalog x n c k m p is (s, same, typed_x) = let t = rw is at typed_x in (s, same, (and_parts (typed s p) _ t).0)
 
 -- ---- operators that copy columns

@@ -2,6 +2,7 @@
 use Rattle.std.proofs.Common.{◌≡◌, ◌∙◌, ℕ, zero, suc, ◌+◌, ◌<◌, ◌==◌, Bool, true, List, [], ◌∷◌, ◌++◌, map, length, get_or, ap, sym, refl, arith, ◌&&◌, Some, slice_get, length-append, append_assoc, subst, reverse}
 use Rattle.std.proofs.lemmas.Bool.{eqb-true, and_parts}
 use Rattle.std.proofs.lemmas.List.{append-nil, map-append, reverse-append, length-reverse}
+use Rattle.vx_rows_values.specs.declared.order.OrderEntry.{OrderEntry}
 use Rattle.vx_catalog_relations.specs.Relation.{Relation}
 use Rattle.vx_plan_nodes.specs.Plan.{Claim, Size, Unary, Binary, ExchangeKind, Plan, scan, unary, binary, exchange}
 use Rattle.vx_plan_nodes.specs.Numbering.{nodes, is_numbered}
@@ -39,7 +40,7 @@ both-facts catalog x n c op p q k l own is lefts rights over =
     (subst (λ w. Keeps (binary_width op (width catalog p) w) (binary_equal (width catalog p) op d e) (binary_fixed (width catalog p) (binary_width op (width catalog p) w) (binary_equal (width catalog p) op d e) op f g) own)
     rights.wide left)
 
-pub same-facts : (catalog : ℕ → Relation) (x : Plan) (n : ℕ) (c : Claim) (kind : ExchangeKind) (m : List ℕ) (p : Plan) (k own : Facts) → x ≡ exchange n c kind m p → own ≡ k → AreFactsOf catalog p k → AreFactsOf catalog x own
+pub same-facts : (catalog : ℕ → Relation) (x : Plan) (n : ℕ) (c : Claim) (kind : ExchangeKind) (m : List OrderEntry) (p : Plan) (k own : Facts) → x ≡ exchange n c kind m p → own ≡ k → AreFactsOf catalog p k → AreFactsOf catalog x own
 same-facts catalog x n c kind m p k own is same keeps = subst (λ y. AreFactsOf catalog y own) (sym is) (subst (λ l. AreFactsOf catalog p l) (sym same) keeps)
 
 -- ---- one behind the other
@@ -89,7 +90,7 @@ put-unary catalog x n c op p own old mid new i at is before facts place put =
       put = put ∙ ap (λ xs. xs ++ own ∷ []) before.put ∙ append_assoc old before.made (own ∷ []);
     })
 
-pub put-exchange : (catalog : ℕ → Relation) (x : Plan) (n : ℕ) (c : Claim) (kind : ExchangeKind) (m : List ℕ) (p : Plan) (own : Facts) (old mid new : List Facts) (i at : ℕ) → x ≡ exchange n c kind m p
+pub put-exchange : (catalog : ℕ → Relation) (x : Plan) (n : ℕ) (c : Claim) (kind : ExchangeKind) (m : List OrderEntry) (p : Plan) (own : Facts) (old mid new : List Facts) (i at : ℕ) → x ≡ exchange n c kind m p
     → ArePut catalog p old mid i → AreFactsOf catalog x own → at ≡ length mid → new ≡ mid ++ own ∷ [] → ArePut catalog x old new at
 put-exchange catalog x n c kind m p own old mid new i at is before facts place put =
     let here : AreFactsOf catalog (exchange n c kind m p) own = subst (λ y. AreFactsOf catalog y own) is facts in

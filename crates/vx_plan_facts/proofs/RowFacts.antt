@@ -2,6 +2,7 @@
 use Rattle.std.proofs.Common.{ℕ, suc, ◌≡◌, ◌+◌, nat_lt, Bool, true, false, not, cond, ◌&&◌, ◌||◌, List, [], ◌∷◌, ◌++◌, map, filter, take, length, refl, sym, ap, ◌∙◌, subst, arith, true≢false, eqb-true, eq-eqb, Option, Some, None, length-append}
 use Rattle.std.proofs.lemmas.List.{length-map}
 use Rattle.std.specs.List.{list_all, AllByRecursion}
+use Rattle.vx_rows_values.specs.Order.{order_columns}
 use Rattle.vx_rows_values.specs.declared.value.ColType.{ColType}
 use Rattle.vx_rows_values.specs.Lists.{is_some_list}
 use Rattle.vx_rows_values.specs.Types.{Fits, type_of, type_at}
@@ -12,7 +13,7 @@ use Rattle.vx_catalog_relations.specs.Relation.{Relation}
 use Rattle.vx_catalog_relations.specs.Catalog.{relation_at}
 use Rattle.vx_plan_nodes.specs.Plan.{Condition, Aggregate, plain, partial, final, Unary, select, project, distinct, sort, group, limit, Binary, union, join, semi_join, Plan, scan, unary, binary, exchange}
 use Rattle.vx_plan_nodes.specs.Types.{aggregate_type, unary_types, binary_types, types_of, unary_width, binary_width, width}
-use Rattle.vx_plan_nodes.specs.Typed.{type_eq, types_eq, is_pair, are_distinct_pairs, is_unary, is_binary, is_kind, is_output, are_columns, may_merge, typed}
+use Rattle.vx_plan_nodes.specs.Typed.{type_eq, types_eq, is_pair, are_distinct_pairs, has_directions, is_unary, is_binary, is_kind, is_output, are_columns, may_merge, typed}
 use Rattle.vx_plan_nodes.specs.Phases.{phase_fits, both_closed}
 use Rattle.vx_plan_nodes.specs.Describe.{Copying, whole_rows, columns_kept, left_of, right_of}
 use Rattle.vx_plan_nodes.specs.Serial.{passes, firsts, matches, joined_with, is_matched, aggregate_of, of_key, group_keys, group_row, group_fits, group_rows, unary_rows, binary_rows, SerialResult, rows, overflow, or_overflow, after, serial}
@@ -267,7 +268,8 @@ typed-fits : (ts us : List ColType) (op : Binary) → is_binary ts us op ≡ tru
 typed-fits ts us union h = eq-eqb (length ts) (length us) (same-types ts us h)
 typed-fits ts us (join m on) h =
     let pairs : Bool = list_all (is_pair ts us) on in
-    pairs-below ts us on (and-left pairs (are_distinct_pairs on) (and-right (is_some_list on) (pairs && are_distinct_pairs on) h))
+    let rest : Bool = are_distinct_pairs on && has_directions m on in
+    pairs-below ts us on (and-left pairs rest (and-right (is_some_list on) (pairs && rest) h))
 typed-fits ts us (semi_join matched on conditions) h = refl
 
 pub typed-inputs-fit : TypedInputsFit
@@ -290,5 +292,5 @@ typed-inputs-fit s (binary n c op p q) h =
     (and-both (all_inputs_fit cat q) (inputs_fit (width cat p) (width cat q) op) (typed-inputs-fit s q (and-left (typed s q) (both_closed p q && (here && out)) after_p)) at_q)
 typed-inputs-fit s (exchange n c k m p) h =
     let ts : List ColType = types_of (relation_at s.catalog) p in
-    let rest : Bool = is_kind s ts k && (are_columns (length ts) m && (may_merge k m && is_output s ts c)) in
+    let rest : Bool = is_kind s ts k && (are_columns (length ts) (order_columns m) && (may_merge k m && is_output s ts c)) in
     typed-inputs-fit s p (and-left (typed s p) rest h)

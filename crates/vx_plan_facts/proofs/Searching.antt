@@ -3,6 +3,7 @@ use Rattle.std.proofs.Common.{◌≡◌, ℕ, zero, suc, ◌+◌, ◌*◌, ◌-�
 use Rattle.std.specs.Bool.{⊤}
 use Rattle.std.specs.List.{list_all}
 use Rattle.std.proofs.lemmas.Bool.Decides.{nat_tests}
+use Rattle.vx_rows_values.specs.Order.{order_columns}
 use Rattle.vx_rows_values.specs.Limits.{max_columns}
 use Rattle.vx_rows_values.proofs.Booleans.{and-left, and-right, and-both}
 use Rattle.vx_catalog_relations.specs.Relation.{Relation}
@@ -537,7 +538,7 @@ asked-from catalog w i b old older new last next same h =
 aside-named : (w : ℕ) (c : Claim) → names_columns w c ≡ true → names_columns w (claim_with [] c) ≡ true
 aside-named w c h =
     let parts = all_below w (part_columns c.part) in
-    let orders = all_below w c.order in
+    let orders = all_below w (order_columns c.order) in
     let keyed = list_all (all_below w) c.keys in
     and-both parts (orders && true) (and-left parts (orders && keyed) h) (and-both orders true (and-left orders keyed (and-right parts (orders && keyed) h)) refl)
 

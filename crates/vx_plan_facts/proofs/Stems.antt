@@ -2,6 +2,7 @@
 use Rattle.std.proofs.Common.{◌≡◌, ℕ, zero, suc, ◌+◌, ◌-◌, ◌<◌, ◌≤◌, nat_lt, nat_le, Bool, true, false, not, cond, ◌||◌, ◌⊎◌, inl, inr, ⊎_elim, List, [], ◌∷◌, ◌++◌, map, filter, take, length, refl, sym, ap, ◌∙◌, subst, arith, true≢false, is_le, Option, Some, None, slice_get, ltb-true, leb-true, append-nil}
 use Rattle.std.specs.List.{list_all}
 use Rattle.vx_rows_values.specs.Values.{Row, row_eq, value_at, pick}
+use Rattle.vx_rows_values.specs.declared.order.OrderEntry.{OrderEntry}
 use Rattle.vx_rows_values.specs.Order.{compare_on, insert_sorted, sort_on}
 use Rattle.vx_rows_values.specs.Bags.{count}
 use Rattle.vx_rows_values.proofs.Booleans.{and-left, and-right, and-both}
@@ -74,17 +75,17 @@ all-filter q p (x ∷ xs) h = go (p x) (all-filter q p xs (and-right (q x) (list
     go true r = and-both (q x) (list_all q (filter p xs)) (and-left (q x) (list_all q xs) h) r
     go false r = r
 
-all-insert : (q : Row → Bool) (cols : List ℕ) (x : Row) (ys : List Row) → q x ≡ true → list_all q ys ≡ true → list_all q (insert_sorted cols x ys) ≡ true
-all-insert q cols x [] h k = and-both (q x) true h refl
-all-insert q cols x (y ∷ ys) h k = go (is_le (compare_on cols x y)) (all-insert q cols x ys h (and-right (q y) (list_all q ys) k))
+all-insert : (q : Row → Bool) (order : List OrderEntry) (x : Row) (ys : List Row) → q x ≡ true → list_all q ys ≡ true → list_all q (insert_sorted order x ys) ≡ true
+all-insert q order x [] h k = and-both (q x) true h refl
+all-insert q order x (y ∷ ys) h k = go (is_le (compare_on order x y)) (all-insert q order x ys h (and-right (q y) (list_all q ys) k))
   where
-    go : (b : Bool) → list_all q (insert_sorted cols x ys) ≡ true → list_all q (cond b (x ∷ y ∷ ys) (y ∷ insert_sorted cols x ys)) ≡ true
+    go : (b : Bool) → list_all q (insert_sorted order x ys) ≡ true → list_all q (cond b (x ∷ y ∷ ys) (y ∷ insert_sorted order x ys)) ≡ true
     go true r = and-both (q x) (list_all q (y ∷ ys)) h k
-    go false r = and-both (q y) (list_all q (insert_sorted cols x ys)) (and-left (q y) (list_all q ys) k) r
+    go false r = and-both (q y) (list_all q (insert_sorted order x ys)) (and-left (q y) (list_all q ys) k) r
 
-all-sort : (q : Row → Bool) (cols : List ℕ) (xs : List Row) → list_all q xs ≡ true → list_all q (sort_on cols xs) ≡ true
-all-sort q cols [] h = refl
-all-sort q cols (x ∷ xs) h = all-insert q cols x (sort_on cols xs) (and-left (q x) (list_all q xs) h) (all-sort q cols xs (and-right (q x) (list_all q xs) h))
+all-sort : (q : Row → Bool) (order : List OrderEntry) (xs : List Row) → list_all q xs ≡ true → list_all q (sort_on order xs) ≡ true
+all-sort q order [] h = refl
+all-sort q order (x ∷ xs) h = all-insert q order x (sort_on order xs) (and-left (q x) (list_all q xs) h) (all-sort q order xs (and-right (q x) (list_all q xs) h))
 
 pub all-firsts : (q : Row → Bool) (xs : List Row) → list_all q xs ≡ true → list_all q (firsts xs) ≡ true
 all-firsts q [] h = refl
@@ -175,7 +176,7 @@ unary-stem w (distinct cols) xs ys e a o =
     let P : List Row → Type 0 = λ l. occurs a l ≡ true in
     let stem = first-stem cols xs a (subst P is o) in
     (stem.0, stem.1, copy-kept w cols a stem.0 [] (stem.2 ∙ sym (append-nil (pick cols stem.0))))
-unary-stem w (sort of_parts cols) xs ys e a o = whole-stem w (sort_on cols) (λ q l h. all-sort q cols l h) xs ys e a o
+unary-stem w (sort of_parts order) xs ys e a o = whole-stem w (sort_on order) (λ q l h. all-sort q order l h) xs ys e a o
 unary-stem w (group plain by aggregates) xs ys e a o = group-stem w by aggregates xs ys e a o
 unary-stem w (group partial by aggregates) xs ys e a o = group-stem w by aggregates xs ys e a o
 unary-stem w (group final by aggregates) xs ys e a o = group-stem w by aggregates xs ys e a o

@@ -1,6 +1,7 @@
 -- The nodes of a typed plan have columns within the limit, and copy columns that their inputs have.
 use Rattle.std.proofs.Common.{◌≡◌, ℕ, nat_lt, nat_le, true, ◌&&◌, List, length, subst}
 use Rattle.vx_rows_values.specs.Limits.{max_columns}
+use Rattle.vx_rows_values.specs.Order.{order_columns}
 use Rattle.vx_rows_values.proofs.Booleans.{and-left, and-right, and-both}
 use Rattle.vx_catalog_relations.specs.Catalog.{relation_at}
 use Rattle.vx_plan_nodes.specs.Plan.{Plan, Claim, scan, unary, binary, exchange}
@@ -46,7 +47,7 @@ typed-within s (binary n c op p q) h =
     (output-few s (binary n c op p q) c (and-right fits out (and-right (both_closed p q) (fits && out) more))))
 typed-within s (exchange n c k m p) h =
     let types = types_of (relation_at s.catalog) p in
-    typed-within s p (and-left (typed s p) (is_kind s types k && (are_columns (length types) m && (may_merge k m && is_output s types c))) h)
+    typed-within s p (and-left (typed s p) (is_kind s types k && (are_columns (length types) (order_columns m) && (may_merge k m && is_output s types c))) h)
 
 -- what a caller of the search has to show
 pub typed-known : (s : Scope) (facts : List Facts) (p : Plan) → typed s p ≡ true → well_formed (relation_at s.catalog) p ≡ true → AreNumbered (relation_at s.catalog) facts p

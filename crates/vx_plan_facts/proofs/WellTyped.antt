@@ -1,6 +1,7 @@
 -- What is typed is well formed.
 use Rattle.std.proofs.Common.{◌≡◌, ℕ, suc, ◌+◌, ◌==◌, nat_lt, nat_le, Bool, true, ◌&&◌, List, [], ◌∷◌, ◌++◌, length, refl, sym, ap, ◌∙◌, subst, true≢false, eq-eqb}
 use Rattle.std.specs.List.{list_all}
+use Rattle.vx_rows_values.specs.Order.{order_columns}
 use Rattle.vx_rows_values.specs.declared.value.ColType.{ColType}
 use Rattle.vx_rows_values.specs.Types.{type_at}
 use Rattle.vx_rows_values.specs.Lists.{is_some_list}
@@ -34,12 +35,12 @@ part-below s types (routed (by_range k) (c ∷ d ∷ cs)) h = absurd (true≢fal
 claim-names : (s : Scope) (types : List ColType) (c : Claim) → is_claim s types c ≡ true → names_columns (length types) c ≡ true
 claim-names s types c h =
     let w : ℕ = length types in
-    let rest = and-right (is_part s types c.part) (are_columns w c.order && list_all (are_columns w) c.keys) h in
-    and-both (all_below w (part_columns c.part)) (all_below w c.order && list_all (all_below w) c.keys)
-    (part-below s types c.part (and-left (is_part s types c.part) (are_columns w c.order && list_all (are_columns w) c.keys) h))
-    (and-both (all_below w c.order) (list_all (all_below w) c.keys)
-    (and-left (all_below w c.order) (are_distinct c.order) (and-left (are_columns w c.order) (list_all (are_columns w) c.keys) rest))
-    (all-weaker (are_columns w) (all_below w) (λ k e. and-left (all_below w k) (are_distinct k) e) c.keys (and-right (are_columns w c.order) (list_all (are_columns w) c.keys) rest)))
+    let rest = and-right (is_part s types c.part) (are_columns w (order_columns c.order) && list_all (are_columns w) c.keys) h in
+    and-both (all_below w (part_columns c.part)) (all_below w (order_columns c.order) && list_all (all_below w) c.keys)
+    (part-below s types c.part (and-left (is_part s types c.part) (are_columns w (order_columns c.order) && list_all (are_columns w) c.keys) h))
+    (and-both (all_below w (order_columns c.order)) (list_all (all_below w) c.keys)
+    (and-left (all_below w (order_columns c.order)) (are_distinct (order_columns c.order)) (and-left (are_columns w (order_columns c.order)) (list_all (are_columns w) c.keys) rest))
+    (all-weaker (are_columns w) (all_below w) (λ k e. and-left (all_below w k) (are_distinct k) e) c.keys (and-right (are_columns w (order_columns c.order)) (list_all (are_columns w) c.keys) rest)))
 
 output-names : (s : Scope) (types : List ColType) (c : Claim) → is_output s types c ≡ true → names_columns (length types) c ≡ true
 output-names s types c h = claim-names s types c (and-right (nat_le (length types) 64) (is_claim s types c) h)
@@ -116,7 +117,7 @@ typed-well-formed s (exchange n c k m p) h =
     let out : Bool = is_output s ts c in
     let kind_typed : Bool = is_kind s ts k in
     let more : Bool = may_merge k m && out in
-    let rest = and-right (typed s p) (kind_typed && (are_columns (length ts) m && more)) h in
+    let rest = and-right (typed s p) (kind_typed && (are_columns (length ts) (order_columns m) && more)) h in
     and-both (well_formed (relation_at s.catalog) p) (names_columns (width (relation_at s.catalog) p) c)
-    (typed-well-formed s p (and-left (typed s p) (kind_typed && (are_columns (length ts) m && more)) h))
-    (names-at s p c (and-right (may_merge k m) out (and-right (are_columns (length ts) m) more (and-right kind_typed (are_columns (length ts) m && more) rest))))
+    (typed-well-formed s p (and-left (typed s p) (kind_typed && (are_columns (length ts) (order_columns m) && more)) h))
+    (names-at s p c (and-right (may_merge k m) out (and-right (are_columns (length ts) (order_columns m)) more (and-right kind_typed (are_columns (length ts) (order_columns m) && more) rest))))

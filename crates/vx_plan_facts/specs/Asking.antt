@@ -46,12 +46,12 @@ abbrev pub left_input : (ℕ → Relation) → Plan → Option Input
 left_input catalog (scan n c r m z) = None
 left_input catalog (unary n c op p) = Some ((described op).copying, p)
 left_input catalog (binary n c union p q) = None
-left_input catalog (binary n c (join merging on) p q) = Some (left_of (width catalog p), p)
+left_input catalog (binary n c (join method on) p q) = Some (left_of (width catalog p), p)
 left_input catalog (binary n c (semi_join matched on conditions) p q) = Some (whole_rows, p)
 left_input catalog (exchange n c k m p) = Some (whole_rows, p)
 
 abbrev pub right_input : (ℕ → Relation) → Plan → Option Input
-right_input catalog (binary n c (join merging on) p q) = Some (right_of (width catalog p), q)
+right_input catalog (binary n c (join method on) p q) = Some (right_of (width catalog p), q)
 right_input catalog p = None
 
 -- of w columns those that are copies are copies of columns of the input

@@ -51,7 +51,7 @@ by_none s c = false
 -- rows side by side say nothing of one another; a joined row has a row of each input, and a kept left row is one
 abbrev pub by_both : (v w : ℕ) → Binary → (left right : Columns → Columns) → Columns → Columns
 by_both v w union left right = by_none
-by_both v w (join merging on) left right = λ s c. by_input w (left_of v) left s c || by_input w (right_of v) right s c
+by_both v w (join method on) left right = λ s c. by_input w (left_of v) left s c || by_input w (right_of v) right s c
 by_both v w (semi_join matched on conditions) left right = by_input w whole_rows left
 
 -- what the columns of a set determine at a node

@@ -48,7 +48,7 @@ unary_equal op e = lifted (described op).copying e
 -- one has
 abbrev pub binary_equal : ℕ → Binary → Equality → Equality → Equality
 binary_equal w union e f = λ a b. e a b && f a b
-binary_equal w (join merging on) e f = with_pairs w on (λ a b. lifted (left_of w) e a b || lifted (right_of w) f a b)
+binary_equal w (join method on) e f = with_pairs w on (λ a b. lifted (left_of w) e a b || lifted (right_of w) f a b)
 binary_equal w (semi_join matched on conditions) e f = e
 
 -- the equal columns of a node

@@ -47,7 +47,7 @@ unary_fixed w e op f = carried_values (described op).copying f
 -- over a left input of v columns, for an output of w columns, of which these are equal
 abbrev pub binary_fixed : (v w : ℕ) → Equality → Binary → Values → Values → Values
 binary_fixed v w e union f g = λ c. filter (has_value (g c)) (f c)
-binary_fixed v w e (join merging on) f g = shared_values w e (λ c. carried_values (left_of v) f c ++ carried_values (right_of v) g c)
+binary_fixed v w e (join method on) f g = shared_values w e (λ c. carried_values (left_of v) f c ++ carried_values (right_of v) g c)
 binary_fixed v w e (semi_join matched on conditions) f g = f
 
 -- the fixed columns of a node, with their values

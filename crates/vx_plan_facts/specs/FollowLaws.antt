@@ -2,7 +2,8 @@
 use Rattle.std.specs.Prelude.{◌≡◌, ℕ, ◌<◌, ◌==◌, true, List, length}
 use Rattle.std.specs.List.{list_all}
 use Rattle.vx_rows_values.specs.Values.{Row, row_eq, value_at}
-use Rattle.vx_rows_values.specs.Order.{sorted, agree}
+use Rattle.vx_rows_values.specs.declared.order.OrderEntry.{OrderEntry}
+use Rattle.vx_rows_values.specs.Order.{order_columns, sorted, agree}
 use Rattle.vx_rows_values.specs.Bags.{count}
 use Rattle.vx_rows_values.specs.Keys.{HasKey}
 use Rattle.vx_catalog_relations.specs.Catalog.{all_below}
@@ -28,7 +29,7 @@ pub record Agreeing (w : ℕ) (e : Equality) (det : Columns → Columns) (xs : L
 abbrev pub OrderFollows : Type 0
 OrderFollows =
     (w : ℕ) (e : Equality) (det : Columns → Columns) (xs : List Row) → Agreeing w e det xs
-    → (given order : List ℕ) → all_below w given ≡ true → all_below w order ≡ true → order_follows e det given order ≡ true → sorted given xs ≡ true → sorted order xs ≡ true
+    → (given order : List OrderEntry) → all_below w (order_columns given) ≡ true → all_below w (order_columns order) ≡ true → order_follows e det given order ≡ true → sorted given xs ≡ true → sorted order xs ≡ true
 
 -- columns that determine all of a key are one
 abbrev pub KeyFollows : Type 0
@@ -36,9 +37,9 @@ KeyFollows =
     (w : ℕ) (e : Equality) (det : Columns → Columns) (xs : List Row) → Agreeing w e det xs
     → (keys : List (List ℕ)) → list_all (all_below w) keys ≡ true → KeysHold keys xs → (cols : List ℕ) → key_follows det keys cols ≡ true → HasKey cols xs
 
--- rows as wide as there are columns, which agree on a total order, are one row
+-- rows as wide as there are columns, which agree on the columns of a total order, are one row
 abbrev pub TotalFollows : Type 0
 TotalFollows =
     (w : ℕ) (e : Equality) (det : Columns → Columns) (xs : List Row) → Agreeing w e det xs → list_all (λ row. length row == w) xs ≡ true
-    → (keys : List (List ℕ)) → list_all (all_below w) keys ≡ true → KeysHold keys xs → (order : List ℕ) → total_follows w det keys order ≡ true
-    → (a b : Row) → Occurs a xs → Occurs b xs → agree order a b ≡ true → a ≡ b
+    → (keys : List (List ℕ)) → list_all (all_below w) keys ≡ true → KeysHold keys xs → (cols : List ℕ) → total_follows w det keys cols ≡ true
+    → (a b : Row) → Occurs a xs → Occurs b xs → agree cols a b ≡ true → a ≡ b

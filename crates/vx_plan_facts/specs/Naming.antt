@@ -29,7 +29,7 @@ pair_within v w p = nat_lt p.0 v && nat_lt p.1 w
 -- a union has equally wide inputs; the pairs of a join name some of the first v and of the first w columns
 abbrev pub both_within : ℕ → ℕ → Binary → Bool
 both_within v w union = w == v
-both_within v w (join merging on) = list_all (pair_within v w) on
+both_within v w (join method on) = list_all (pair_within v w) on
 both_within v w (semi_join matched on conditions) = list_all (pair_within v w) on
 
 -- a typed plan over these relations

@@ -1,6 +1,7 @@
 -- What equal and fixed columns say of the rows of a node, one by one; and the laws: it holds of what an operator makes, where it holds of the operator's inputs.
 use Rattle.std.specs.Prelude.{◌≡◌, ℕ, ◌==◌, nat_lt, Bool, true, ◌&&◌, List, length, Some}
 use Rattle.std.specs.List.{list_all, AllByRecursion}
+use Rattle.vx_rows_values.specs.declared.order.OrderEntry.{OrderEntry}
 use Rattle.vx_rows_values.specs.Values.{Val, Row, value_at}
 use Rattle.vx_catalog_relations.specs.Relation.{Relation}
 use Rattle.vx_catalog_relations.specs.Catalog.{relation_at}
@@ -40,7 +41,7 @@ EachWide w xs = AllByRecursion (λ row. length row ≡ w) xs
 -- of two inputs v and w columns wide: those of a union are equally wide, and a join compares columns that its left input has. Left rows that are kept say nothing of the right ones
 abbrev pub inputs_fit : (v w : ℕ) → Binary → Bool
 inputs_fit v w union = v == w
-inputs_fit v w (join merging on) = list_all (λ p. nat_lt p.0 v) on
+inputs_fit v w (join method on) = list_all (λ p. nat_lt p.0 v) on
 inputs_fit v w (semi_join matched on conditions) = true
 
 -- the same at every node; it is a part of being typed
@@ -75,7 +76,7 @@ BinaryMeets =
 -- the rows that an exchange passes on
 abbrev pub ExchangeMeets : Type 0
 ExchangeMeets =
-    (catalog : ℕ → Relation) (n : ℕ) (c : Claim) (k : ExchangeKind) (m : List ℕ) (p : Plan) (xs : List Row)
+    (catalog : ℕ → Relation) (n : ℕ) (c : Claim) (k : ExchangeKind) (m : List OrderEntry) (p : Plan) (xs : List Row)
     → EachMeets catalog p xs → EachMeets catalog (exchange n c k m p) xs
 
 -- the serial rows of every plan, over relations whose rows are as wide as the catalog says

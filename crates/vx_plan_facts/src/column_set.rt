@@ -3,8 +3,10 @@
 ghost use Rattle.std.specs.Prelude.{◌≡◌, ◌<◌, ◌||◌, ◌==◌, ℕ, nat_lt, true, false, not};
 ghost use Rattle.std.specs.List.{list_all};
 ghost use Rattle.vx_rows_values.specs.Limits.{max_columns};
+ghost use Rattle.vx_rows_values.specs.Order.{order_columns};
 ghost use Rattle.vx_plan_facts.specs.Following.{set_of};
 
+use vx_rows_values::OrderEntry;
 use vx_rows_values::limits::MAX_COLUMNS;
 
 /// A set of columns of a node, of those below the limit.
@@ -31,6 +33,17 @@ impl ColumnSet {
         let mut set = ColumnSet::new();
         for column in columns {
             set.put(*column);
+        }
+        set
+    }
+
+    /// The columns of an order, of which those past the limit are left out.
+    pub fn of_order(order: &[OrderEntry]) -> ColumnSet
+        ensures { (c : ℕ) → c < max_columns → set_of_columns result c ≡ set_of (order_columns order.now) c }
+    {
+        let mut set = ColumnSet::new();
+        for entry in order {
+            set.put(entry.column);
         }
         set
     }

@@ -1,8 +1,8 @@
 //! The columns of joins.
 
-ghost use Rattle.std.specs.Prelude.{◌≡◌, ◌+◌, ◌<◌, ◌++◌, Bool, true, map, length, IfOk, OnOk};
+ghost use Rattle.std.specs.Prelude.{◌≡◌, ◌+◌, ◌<◌, ◌++◌, true, map, length, IfOk, OnOk};
 ghost use Rattle.std.specs.List.{list_all};
-ghost use Rattle.vx_plan_nodes.specs.Plan.{join};
+ghost use Rattle.vx_plan_nodes.specs.Plan.{JoinMethod, join};
 ghost use Rattle.vx_plan_facts.specs.Facts.{NamesFirsts, AreAfterBoth};
 ghost use Rattle.vx_plan_facts.specs.FactsView.{fixed_of, facts_of, width_of};
 ghost use Rattle.vx_plan_facts.specs.Naming.{pair_within};
@@ -67,7 +67,7 @@ pub fn joined<'p>(
     right: &ColumnFacts<'p>,
 ) -> Result<ColumnFacts<'p>, AllocError>
     requires { list_all (pair_within (width_of left.now) (width_of right.now)) on.now ≡ true }
-    ensures { IfOk result (λ k. (merging : Bool) → AreAfterBoth (join merging on.now) (facts_of left.now) (facts_of right.now) (facts_of k)) }
+    ensures { IfOk result (λ k. (method : JoinMethod) → AreAfterBoth (join method on.now) (facts_of left.now) (facts_of right.now) (facts_of k)) }
 {
     let lefts = left.firsts.as_slice();
     let rights = right.firsts.as_slice();

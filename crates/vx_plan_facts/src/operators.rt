@@ -57,7 +57,12 @@ pub fn of_both<'p>(
 {
     match operator {
         Binary::Union => united(alloc, left, right),
-        Binary::HashJoin(on) | Binary::MergeJoin(on) => joined(alloc, on.as_slice(), left, right),
+        Binary::HashJoin(on) | Binary::MergeJoin(on, _) => joined(
+            alloc,
+            on.as_slice(),
+            left,
+            right,
+        ),
         Binary::SemiJoin(_, _) | Binary::AntiJoin(_, _) => left.copy(alloc),
     }
 }

@@ -8,16 +8,16 @@ use Rattle.serde_json.specs.Data.{Data, string, object, Members, no_members, mem
 use Rattle.vx_rows_values.specs.Values.{Val, num, text, Name}
 use Rattle.vx_rows_values.specs.Types.{is_held}
 use Rattle.vx_rows_values.specs.Test as comparison
-use Rattle.vx_catalog_json.specs.Look.{name_in, each_onto}
+use Rattle.vx_catalog_json.specs.Look.{name_in, each_onto, OrderText, directed_in, order_entry_in}
 use Rattle.vx_plan_json.specs.Look.{name_at, text_at, value_in, each_in, some_in}
 use Rattle.vx_rows_values.specs.Lists.{is_some_list}
 use Rattle.vx_plan_json.specs.Document.{PartForm, one, any, all, hash_part, range_part, ClaimForm, SideForm, column, constant, ConditionForm, OutputForm, FunctionForm, least, greatest, sum, count_rows, AggregateForm, ScanForm, UnaryForm, select, project, distinct, sort, partial_sort, group, partial_group, final_group, limit, BinaryForm, union, join, semi_join, KindForm, hash, range, round, broadcast, gather, concat, Tree, scan, unary, binary, exchange, Document, tree_nodes, tree_levels}
 use Rattle.vx_rows_values.specs.Ranges.{RangeForm}
-use Rattle.vx_plan_json.specs.Form.{names_in, some_names_in, hash_part_in, range_part_in, part_in, keys_in, claim_in, claimed, test_named, side_in, condition_in, renamed_in, output_in, function_at, aggregate_in, pair_in}
-use Rattle.vx_plan_json.specs.Formed.{are_names, are_some_names, is_range_form, is_head_form, is_part_form, is_claim_form, is_side_form, is_condition_form, is_new_name, is_output_form, is_function_form, is_aggregate_form, is_scan_form, is_unary_form, is_pair_form, is_binary_form, is_kind_form, is_merge_form, is_tree_form, has_few_keys, are_keys_few}
+use Rattle.vx_plan_json.specs.Form.{names_in, some_names_in, order_in, some_order_in, hash_part_in, range_part_in, part_in, keys_in, claim_in, claimed, test_named, side_in, condition_in, renamed_in, output_in, function_at, aggregate_in, pair_in}
+use Rattle.vx_plan_json.specs.Formed.{are_names, are_some_names, is_order_entry, is_order, is_some_order, is_range_form, is_head_form, is_part_form, is_claim_form, is_side_form, is_condition_form, is_new_name, is_output_form, is_function_form, is_aggregate_form, is_scan_form, is_unary_form, is_pair_form, is_binary_form, is_kind_form, is_merge_form, is_tree_form, has_few_keys, are_keys_few}
 use Rattle.vx_plan_json.specs.Operators.{OwnForm, own_scan, own_unary, own_binary, own_exchange, own_in, own_claim, own_under, scan_in, scan_own, select_in, outputs_in, sort_in, partial_sort_in, sorted_in, lists_in, group_in, partial_in, final_in, phased_in, rows_in, limit_in, unary_in, unary_own, inner_in, matches_in, join_in, union_in, hash_in, range_in, sized_in, gather_in, concat_in, kind_in, merge_in, exchange_own}
 use Rattle.vx_plan_json.specs.Reading.{node_in, declared_in, head_of, head_in, document_in}
-use Rattle.vx_plan_json.specs.Written.{list_json, names_json, value_json, with_some, with_text, range_json, part_json, with_part, claim_members, with_object, with_claim, with_side, condition_json, output_json, with_function, aggregate_json, pair_json, with_scan, with_unary, with_binary, with_kind, scan_json, unary_json, binary_json, exchange_json, node_json, with_flag, document_json}
+use Rattle.vx_plan_json.specs.Written.{list_json, names_json, entry_json, order_json, value_json, with_some, with_text, range_json, part_json, with_part, claim_members, with_object, with_claim, with_side, condition_json, output_json, with_function, aggregate_json, pair_json, with_scan, with_unary, with_binary, with_kind, scan_json, unary_json, binary_json, exchange_json, node_json, with_flag, document_json}
 use Rattle.vx_plan_json.proofs.Holds.{and-left, and-right}
 use Rattle.vx_catalog_json.proofs.LookFacts.{list_of-items_of}
 use Rattle.vx_plan_json.proofs.NodeFacts.{node_step}
@@ -52,6 +52,23 @@ some_names-back : (ns : List Name) → are_some_names ns ≡ true → some_names
 unfolding some_names_in
 some_names-back ns h = some-back is_some_list name_in string name-back ns h
 
+entry_at : (n : Name) (falling : Bool) → is_some_list n ≡ true → order_entry_in (entry_json (record { name = n; falling = falling })) ≡ Some (record { name = n; falling = falling })
+unfolding order_entry_in directed_in
+entry_at n true h = rw (name-back n h) refl
+entry_at [] false h = cc
+entry_at (b ∷ bs) false h = refl
+
+entry-back : (e : OrderText) → is_order_entry e ≡ true → order_entry_in (entry_json e) ≡ Some e
+entry-back e h = entry_at e.name e.falling h
+
+order-back : (es : List OrderText) → is_order es ≡ true → order_in (order_json es) ≡ Some es
+unfolding order_in
+order-back es h = list-back is_order_entry order_entry_in entry_json entry-back es h
+
+some_order-back : (es : List OrderText) → is_some_order es ≡ true → some_order_in (order_json es) ≡ Some es
+unfolding some_order_in
+some_order-back es h = some-back is_order_entry order_entry_in entry_json entry-back es h
+
 small : (n : ℕ) → is_held (num (pos n)) ≡ true → ltb n 9223372036854775808 ≡ true
 small n h = grind (arith, nat_tests, h)
 
@@ -82,24 +99,24 @@ keys-back : (ks : List (List Name)) → list_all are_names ks ≡ true → keys_
 unfolding keys_in
 keys-back ks h = list-back are_names names_in names_json names-back ks h
 
-lists-bare : (o : List Name) (ks : List (List Name)) → are_names o ≡ true → list_all are_names ks ≡ true
-    → claim_in (object (with_some (codes "keys") names_json ks (with_some (codes "order") string o no_members))) ≡ Some (record { part = any; order = o; keys = ks })
+lists-bare : (o : List OrderText) (ks : List (List Name)) → is_order o ≡ true → list_all are_names ks ≡ true
+    → claim_in (object (with_some (codes "keys") names_json ks (with_some (codes "order") entry_json o no_members))) ≡ Some (record { part = any; order = o; keys = ks })
 unfolding claim_in
 lists-bare [] [] h k = refl
-lists-bare (n ∷ ns) [] h k = rw (names-back (n ∷ ns) h) refl
+lists-bare (n ∷ ns) [] h k = rw (order-back (n ∷ ns) h) refl
 lists-bare [] (x ∷ xs) h k = rw (keys-back (x ∷ xs) k) refl
-lists-bare (n ∷ ns) (x ∷ xs) h k = rw (names-back (n ∷ ns) h, keys-back (x ∷ xs) k) refl
+lists-bare (n ∷ ns) (x ∷ xs) h k = rw (order-back (n ∷ ns) h, keys-back (x ∷ xs) k) refl
 
-lists-parted : (p : PartForm) (d : Data) → part_in d ≡ Some p → (o : List Name) (ks : List (List Name)) → are_names o ≡ true → list_all are_names ks ≡ true
-    → claim_in (object (with_some (codes "keys") names_json ks (with_some (codes "order") string o (member (codes "part") d no_members)))) ≡ Some (record { part = p; order = o; keys = ks })
+lists-parted : (p : PartForm) (d : Data) → part_in d ≡ Some p → (o : List OrderText) (ks : List (List Name)) → is_order o ≡ true → list_all are_names ks ≡ true
+    → claim_in (object (with_some (codes "keys") names_json ks (with_some (codes "order") entry_json o (member (codes "part") d no_members)))) ≡ Some (record { part = p; order = o; keys = ks })
 unfolding claim_in
 lists-parted p d e [] [] h k = rw e refl
-lists-parted p d e (n ∷ ns) [] h k = rw (e, names-back (n ∷ ns) h) refl
+lists-parted p d e (n ∷ ns) [] h k = rw (e, order-back (n ∷ ns) h) refl
 lists-parted p d e [] (x ∷ xs) h k = rw (e, keys-back (x ∷ xs) k) refl
-lists-parted p d e (n ∷ ns) (x ∷ xs) h k = rw (e, names-back (n ∷ ns) h, keys-back (x ∷ xs) k) refl
+lists-parted p d e (n ∷ ns) (x ∷ xs) h k = rw (e, order-back (n ∷ ns) h, keys-back (x ∷ xs) k) refl
 
-claim_at : (p : PartForm) (o : List Name) (ks : List (List Name)) → is_part_form p ≡ true → are_names o ≡ true → list_all are_names ks ≡ true
-    → claim_in (object (with_some (codes "keys") names_json ks (with_some (codes "order") string o (with_part p no_members)))) ≡ Some (record { part = p; order = o; keys = ks })
+claim_at : (p : PartForm) (o : List OrderText) (ks : List (List Name)) → is_part_form p ≡ true → is_order o ≡ true → list_all are_names ks ≡ true
+    → claim_in (object (with_some (codes "keys") names_json ks (with_some (codes "order") entry_json o (with_part p no_members)))) ≡ Some (record { part = p; order = o; keys = ks })
 claim_at one o ks g h k = lists-parted one (part_json one) (part-back one g) o ks h k
 claim_at any o ks g h k = lists-bare o ks h k
 claim_at all o ks g h k = lists-parted all (part_json all) (part-back all g) o ks h k
@@ -108,9 +125,9 @@ claim_at (range_part name col) o ks g h k = lists-parted (range_part name col) (
 
 claim-back : (c : ClaimForm) → is_claim_form c ≡ true → claim_in (object (claim_members c)) ≡ Some c
 claim-back c h =
-    let rest = and-right (is_part_form c.part) (are_names c.order && list_all are_names c.keys) h in
-    claim_at c.part c.order c.keys (and-left (is_part_form c.part) (are_names c.order && list_all are_names c.keys) h)
-    (and-left (are_names c.order) (list_all are_names c.keys) rest) (and-right (are_names c.order) (list_all are_names c.keys) rest)
+    let rest = and-right (is_part_form c.part) (is_order c.order && list_all are_names c.keys) h in
+    claim_at c.part c.order c.keys (and-left (is_part_form c.part) (is_order c.order && list_all are_names c.keys) h)
+    (and-left (is_order c.order) (list_all are_names c.keys) rest) (and-right (is_order c.order) (list_all are_names c.keys) rest)
 
 -- nothing is claimed
 abbrev bare : ClaimForm
@@ -201,8 +218,8 @@ unfolding own_in text_at unary_own unary_in select_in outputs_in sort_in partial
 unary_bare (select cs) d h = rw (some-back is_condition_form condition_in condition_json condition-back cs h) refl
 unary_bare (project os) d h = rw (some-back is_output_form output_in output_json output-back os h) refl
 unary_bare (distinct os) d h = rw (some-back is_output_form output_in output_json output-back os h) refl
-unary_bare (sort cols) d h = rw (some_names-back cols h) refl
-unary_bare (partial_sort cols) d h = rw (some_names-back cols h) refl
+unary_bare (sort order) d h = rw (some_order-back order h) refl
+unary_bare (partial_sort order) d h = rw (some_order-back order h) refl
 unary_bare (group [] []) d h = cc
 unary_bare (group [] (a ∷ as')) d h = rw (names-back [] refl, list-back is_aggregate_form aggregate_in aggregate_json aggregate-back (a ∷ as') h) refl
 unary_bare (group (n ∷ ns) as') d h = rw (names-back (n ∷ ns) (and-left (are_names (n ∷ ns)) (list_all is_aggregate_form as') h), list-back is_aggregate_form aggregate_in aggregate_json aggregate-back as' (and-right (are_names (n ∷ ns)) (list_all is_aggregate_form as') h)) refl
@@ -218,8 +235,8 @@ unfolding own_in text_at unary_own unary_in select_in outputs_in sort_in partial
 unary_claimed e c g (select cs) d h = rw (g, some-back is_condition_form condition_in condition_json condition-back cs h) refl
 unary_claimed e c g (project os) d h = rw (g, some-back is_output_form output_in output_json output-back os h) refl
 unary_claimed e c g (distinct os) d h = rw (g, some-back is_output_form output_in output_json output-back os h) refl
-unary_claimed e c g (sort cols) d h = rw (g, some_names-back cols h) refl
-unary_claimed e c g (partial_sort cols) d h = rw (g, some_names-back cols h) refl
+unary_claimed e c g (sort order) d h = rw (g, some_order-back order h) refl
+unary_claimed e c g (partial_sort order) d h = rw (g, some_order-back order h) refl
 unary_claimed e c g (group [] []) d h = cc
 unary_claimed e c g (group [] (a ∷ as')) d h = rw (g, names-back [] refl, list-back is_aggregate_form aggregate_in aggregate_json aggregate-back (a ∷ as') h) refl
 unary_claimed e c g (group (n ∷ ns) as') d h = rw (g, names-back (n ∷ ns) (and-left (are_names (n ∷ ns)) (list_all is_aggregate_form as') h), list-back is_aggregate_form aggregate_in aggregate_json aggregate-back as' (and-right (are_names (n ∷ ns)) (list_all is_aggregate_form as') h)) refl
@@ -265,41 +282,41 @@ binary-back : (c : ClaimForm) (op : BinaryForm) (d f : Data) → is_claim_form c
 binary-back c op d f h k =
     by_claim (λ ms c. own_in (object (put (codes "right") f (put (codes "left") d (with_binary op ms)))) ≡ Some (own_binary c op d f)) (binary_bare op d f k) (λ e c g. binary_claimed e c g op d f k) c h
 
-exchange_bare : (k : KindForm) (m : List Name) (d : Data) → is_kind_form k ≡ true → is_merge_form k m ≡ true
-    → own_in (object (put (codes "input") d (with_some (codes "merge") string m (with_kind k (with_text (codes "op") (codes "exchange") no_members))))) ≡ Some (own_exchange bare k m d)
+exchange_bare : (k : KindForm) (m : List OrderText) (d : Data) → is_kind_form k ≡ true → is_merge_form k m ≡ true
+    → own_in (object (put (codes "input") d (with_some (codes "merge") entry_json m (with_kind k (with_text (codes "op") (codes "exchange") no_members))))) ≡ Some (own_exchange bare k m d)
 unfolding own_in text_at name_at exchange_own kind_in hash_in range_in sized_in gather_in concat_in merge_in claimed
 exchange_bare (hash z r cols) [] d h k = rw (name-back z (and-left (is_some_list z) (is_some_list r && are_some_names cols) h), name-back r (and-left (is_some_list r) (are_some_names cols) (and-right (is_some_list z) (is_some_list r && are_some_names cols) h)), some_names-back cols (and-right (is_some_list r) (are_some_names cols) (and-right (is_some_list z) (is_some_list r && are_some_names cols) h))) refl
-exchange_bare (hash z r cols) (x ∷ xs) d h k = rw (name-back z (and-left (is_some_list z) (is_some_list r && are_some_names cols) h), name-back r (and-left (is_some_list r) (are_some_names cols) (and-right (is_some_list z) (is_some_list r && are_some_names cols) h)), some_names-back cols (and-right (is_some_list r) (are_some_names cols) (and-right (is_some_list z) (is_some_list r && are_some_names cols) h)), some_names-back (x ∷ xs) k) refl
+exchange_bare (hash z r cols) (x ∷ xs) d h k = rw (name-back z (and-left (is_some_list z) (is_some_list r && are_some_names cols) h), name-back r (and-left (is_some_list r) (are_some_names cols) (and-right (is_some_list z) (is_some_list r && are_some_names cols) h)), some_names-back cols (and-right (is_some_list r) (are_some_names cols) (and-right (is_some_list z) (is_some_list r && are_some_names cols) h)), some_order-back (x ∷ xs) k) refl
 exchange_bare (range z n col) [] d h k = rw (name-back z (and-left (is_some_list z) (is_some_list n && is_some_list col) h), name-back n (and-left (is_some_list n) (is_some_list col) (and-right (is_some_list z) (is_some_list n && is_some_list col) h)), name-back col (and-right (is_some_list n) (is_some_list col) (and-right (is_some_list z) (is_some_list n && is_some_list col) h))) refl
-exchange_bare (range z n col) (x ∷ xs) d h k = rw (name-back z (and-left (is_some_list z) (is_some_list n && is_some_list col) h), name-back n (and-left (is_some_list n) (is_some_list col) (and-right (is_some_list z) (is_some_list n && is_some_list col) h)), name-back col (and-right (is_some_list n) (is_some_list col) (and-right (is_some_list z) (is_some_list n && is_some_list col) h)), some_names-back (x ∷ xs) k) refl
+exchange_bare (range z n col) (x ∷ xs) d h k = rw (name-back z (and-left (is_some_list z) (is_some_list n && is_some_list col) h), name-back n (and-left (is_some_list n) (is_some_list col) (and-right (is_some_list z) (is_some_list n && is_some_list col) h)), name-back col (and-right (is_some_list n) (is_some_list col) (and-right (is_some_list z) (is_some_list n && is_some_list col) h)), some_order-back (x ∷ xs) k) refl
 exchange_bare (round z) [] d h k = rw (name-back z h) refl
-exchange_bare (round z) (x ∷ xs) d h k = rw (name-back z h, some_names-back (x ∷ xs) k) refl
+exchange_bare (round z) (x ∷ xs) d h k = rw (name-back z h, some_order-back (x ∷ xs) k) refl
 exchange_bare (broadcast z) [] d h k = rw (name-back z h) refl
-exchange_bare (broadcast z) (x ∷ xs) d h k = rw (name-back z h, some_names-back (x ∷ xs) k) refl
+exchange_bare (broadcast z) (x ∷ xs) d h k = rw (name-back z h, some_order-back (x ∷ xs) k) refl
 exchange_bare gather [] d h k = refl
-exchange_bare gather (x ∷ xs) d h k = rw (some_names-back (x ∷ xs) k) refl
+exchange_bare gather (x ∷ xs) d h k = rw (some_order-back (x ∷ xs) k) refl
 exchange_bare concat [] d h k = refl
 exchange_bare concat (x ∷ xs) d h k = cc
 
-exchange_claimed : (e : Data) (c : ClaimForm) → claim_in e ≡ Some c → (k : KindForm) (m : List Name) (d : Data) → is_kind_form k ≡ true → is_merge_form k m ≡ true
-    → own_in (object (put (codes "input") d (with_some (codes "merge") string m (with_kind k (with_text (codes "op") (codes "exchange") (member (codes "claim") e no_members)))))) ≡ Some (own_exchange c k m d)
+exchange_claimed : (e : Data) (c : ClaimForm) → claim_in e ≡ Some c → (k : KindForm) (m : List OrderText) (d : Data) → is_kind_form k ≡ true → is_merge_form k m ≡ true
+    → own_in (object (put (codes "input") d (with_some (codes "merge") entry_json m (with_kind k (with_text (codes "op") (codes "exchange") (member (codes "claim") e no_members)))))) ≡ Some (own_exchange c k m d)
 unfolding own_in text_at name_at exchange_own kind_in hash_in range_in sized_in gather_in concat_in merge_in claimed
 exchange_claimed e c g (hash z r cols) [] d h k = rw (g, name-back z (and-left (is_some_list z) (is_some_list r && are_some_names cols) h), name-back r (and-left (is_some_list r) (are_some_names cols) (and-right (is_some_list z) (is_some_list r && are_some_names cols) h)), some_names-back cols (and-right (is_some_list r) (are_some_names cols) (and-right (is_some_list z) (is_some_list r && are_some_names cols) h))) refl
-exchange_claimed e c g (hash z r cols) (x ∷ xs) d h k = rw (g, name-back z (and-left (is_some_list z) (is_some_list r && are_some_names cols) h), name-back r (and-left (is_some_list r) (are_some_names cols) (and-right (is_some_list z) (is_some_list r && are_some_names cols) h)), some_names-back cols (and-right (is_some_list r) (are_some_names cols) (and-right (is_some_list z) (is_some_list r && are_some_names cols) h)), some_names-back (x ∷ xs) k) refl
+exchange_claimed e c g (hash z r cols) (x ∷ xs) d h k = rw (g, name-back z (and-left (is_some_list z) (is_some_list r && are_some_names cols) h), name-back r (and-left (is_some_list r) (are_some_names cols) (and-right (is_some_list z) (is_some_list r && are_some_names cols) h)), some_names-back cols (and-right (is_some_list r) (are_some_names cols) (and-right (is_some_list z) (is_some_list r && are_some_names cols) h)), some_order-back (x ∷ xs) k) refl
 exchange_claimed e c g (range z n col) [] d h k = rw (g, name-back z (and-left (is_some_list z) (is_some_list n && is_some_list col) h), name-back n (and-left (is_some_list n) (is_some_list col) (and-right (is_some_list z) (is_some_list n && is_some_list col) h)), name-back col (and-right (is_some_list n) (is_some_list col) (and-right (is_some_list z) (is_some_list n && is_some_list col) h))) refl
-exchange_claimed e c g (range z n col) (x ∷ xs) d h k = rw (g, name-back z (and-left (is_some_list z) (is_some_list n && is_some_list col) h), name-back n (and-left (is_some_list n) (is_some_list col) (and-right (is_some_list z) (is_some_list n && is_some_list col) h)), name-back col (and-right (is_some_list n) (is_some_list col) (and-right (is_some_list z) (is_some_list n && is_some_list col) h)), some_names-back (x ∷ xs) k) refl
+exchange_claimed e c g (range z n col) (x ∷ xs) d h k = rw (g, name-back z (and-left (is_some_list z) (is_some_list n && is_some_list col) h), name-back n (and-left (is_some_list n) (is_some_list col) (and-right (is_some_list z) (is_some_list n && is_some_list col) h)), name-back col (and-right (is_some_list n) (is_some_list col) (and-right (is_some_list z) (is_some_list n && is_some_list col) h)), some_order-back (x ∷ xs) k) refl
 exchange_claimed e c g (round z) [] d h k = rw (g, name-back z h) refl
-exchange_claimed e c g (round z) (x ∷ xs) d h k = rw (g, name-back z h, some_names-back (x ∷ xs) k) refl
+exchange_claimed e c g (round z) (x ∷ xs) d h k = rw (g, name-back z h, some_order-back (x ∷ xs) k) refl
 exchange_claimed e c g (broadcast z) [] d h k = rw (g, name-back z h) refl
-exchange_claimed e c g (broadcast z) (x ∷ xs) d h k = rw (g, name-back z h, some_names-back (x ∷ xs) k) refl
+exchange_claimed e c g (broadcast z) (x ∷ xs) d h k = rw (g, name-back z h, some_order-back (x ∷ xs) k) refl
 exchange_claimed e c g gather [] d h k = rw (g) refl
-exchange_claimed e c g gather (x ∷ xs) d h k = rw (g, some_names-back (x ∷ xs) k) refl
+exchange_claimed e c g gather (x ∷ xs) d h k = rw (g, some_order-back (x ∷ xs) k) refl
 exchange_claimed e c g concat [] d h k = rw (g) refl
 exchange_claimed e c g concat (x ∷ xs) d h k = cc
 
-exchange-back : (c : ClaimForm) (k : KindForm) (m : List Name) (d : Data) → is_claim_form c ≡ true → is_kind_form k ≡ true → is_merge_form k m ≡ true → own_in (exchange_json c k m d) ≡ Some (own_exchange c k m d)
+exchange-back : (c : ClaimForm) (k : KindForm) (m : List OrderText) (d : Data) → is_claim_form c ≡ true → is_kind_form k ≡ true → is_merge_form k m ≡ true → own_in (exchange_json c k m d) ≡ Some (own_exchange c k m d)
 exchange-back c k m d h i j =
-    by_claim (λ ms c. own_in (object (put (codes "input") d (with_some (codes "merge") string m (with_kind k (with_text (codes "op") (codes "exchange") ms))))) ≡ Some (own_exchange c k m d))
+    by_claim (λ ms c. own_in (object (put (codes "input") d (with_some (codes "merge") entry_json m (with_kind k (with_text (codes "op") (codes "exchange") ms))))) ≡ Some (own_exchange c k m d))
     (exchange_bare k m d i j) (λ e c g. exchange_claimed e c g k m d i j) c h
 
 -- the same in a plan that asks for what is known of its columns, or does not

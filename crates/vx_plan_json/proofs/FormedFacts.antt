@@ -5,12 +5,12 @@ use Rattle.serde_json.specs.Data.{Data}
 use Rattle.serde_json.specs.Find.{get, as_str, as_number, as_i64}
 use Rattle.vx_rows_values.specs.Values.{Val, num, text, Name}
 use Rattle.vx_rows_values.specs.Types.{is_held}
-use Rattle.vx_catalog_json.specs.Look.{as_list, has_only, some_entry, name_in, each_onto}
+use Rattle.vx_catalog_json.specs.Look.{as_list, has_only, some_entry, name_in, each_onto, OrderText, flag_in, directed_in, order_entry_by, order_entry_in}
 use Rattle.vx_plan_json.specs.Look.{name_at, text_at, value_or, if_held, value_in, each_in, some_in, or_default}
 use Rattle.vx_rows_values.specs.Lists.{is_some_list}
 use Rattle.vx_plan_json.specs.Document.{one, any, all, hash_part, range_part, column, constant, least, greatest, sum, count_rows}
-use Rattle.vx_plan_json.specs.Form.{names_in, some_names_in, part_named, hash_part_in, range_part_in, part_by, part_in, keys_in, claim_in, claimed, test_named, side_in, condition_in, renamed_in, output_by, output_in, function_named, function_at, aggregate_in, as_pair, pair_in}
-use Rattle.vx_plan_json.specs.Formed.{are_names, are_some_names, is_part_form, is_claim_form, is_side_form, is_condition_form, is_output_form, is_function_form, is_aggregate_form, is_pair_form}
+use Rattle.vx_plan_json.specs.Form.{names_in, some_names_in, order_in, some_order_in, part_named, hash_part_in, range_part_in, part_by, part_in, keys_in, claim_in, claimed, test_named, side_in, condition_in, renamed_in, output_by, output_in, function_named, function_at, aggregate_in, as_pair, pair_in}
+use Rattle.vx_plan_json.specs.Formed.{are_names, are_some_names, is_order_entry, is_order, is_some_order, is_part_form, is_claim_form, is_side_form, is_condition_form, is_output_form, is_function_form, is_aggregate_form, is_pair_form}
 use Rattle.vx_plan_json.proofs.Holds.{and-both, Within, within_then, within_any, within_map, within_if, within_each, within_some}
 
 entry_some : {X : Type 0} (xs : List X) → Within is_some_list (some_entry xs)
@@ -46,6 +46,34 @@ names_within d = each_within is_some_list name_in name_some d
 pub some_names_within : (d : Data) → Within are_some_names (some_names_in d)
 unfolding some_names_in
 some_names_within d = some_within is_some_list name_in name_some d
+
+directed-within : (d : Data) → Within is_order_entry (directed_in d)
+unfolding directed_in
+directed-within d =
+    within_if is_order_entry (has_only (codes "column" ∷ codes "desc" ∷ []) d) _ None
+    (within_then is_some_list is_order_entry (λ n. option_map (λ f. record { name = n; falling = f }) (flag_in (codes "desc") d)) (option_and_then name_in (get (codes "column") d))
+    (within_any is_some_list name_in (get (codes "column") d) name_some)
+    (λ n h. within_map (λ (b : Bool). true) is_order_entry (λ f. record { name = n; falling = f }) (flag_in (codes "desc") d) (any_flag (flag_in (codes "desc") d)) (λ f k. h))) tt
+  where
+    any_flag : (o : Option Bool) → Within (λ (b : Bool). true) o
+    any_flag None = tt
+    any_flag (Some b) = refl
+
+entry_by-within : (o : Option (List ℕ)) (d : Data) → Within is_order_entry (order_entry_by o d)
+entry_by-within None d = directed-within d
+entry_by-within (Some s) d = within_map is_some_list is_order_entry (λ n. record { name = n; falling = false }) (some_entry s) (entry_some s) (λ n h. h)
+
+entry-within : (d : Data) → Within is_order_entry (order_entry_in d)
+unfolding order_entry_in
+entry-within d = entry_by-within (as_str d) d
+
+pub order_within : (d : Data) → Within is_order (order_in d)
+unfolding order_in
+order_within d = each_within is_order_entry order_entry_in entry-within d
+
+pub some_order_within : (d : Data) → Within is_some_order (some_order_in d)
+unfolding some_order_in
+some_order_within d = some_within is_order_entry order_entry_in entry-within d
 
 part_named-within : (s : List ℕ) → Within is_part_form (part_named s)
 part_named-within s = within_if is_part_form (bytes_eq s (codes "one")) (Some one) _ refl
@@ -84,14 +112,14 @@ unfolding claim_in
 claim_in-within d =
     within_if is_claim_form (has_only (codes "part" ∷ codes "order" ∷ codes "keys" ∷ []) d) _ None
     (within_then is_part_form is_claim_form
-    (λ p. option_and_then (λ o. option_and_then (λ ks. Some (record { part = p; order = o; keys = ks })) (or_default [] keys_in (get (codes "keys") d))) (or_default [] names_in (get (codes "order") d)))
+    (λ p. option_and_then (λ o. option_and_then (λ ks. Some (record { part = p; order = o; keys = ks })) (or_default [] keys_in (get (codes "keys") d))) (or_default [] order_in (get (codes "order") d)))
     (or_default any part_in (get (codes "part") d)) (default_within is_part_form any part_in refl part-within (get (codes "part") d))
-    (λ p h. within_then are_names is_claim_form
+    (λ p h. within_then is_order is_claim_form
     (λ o. option_and_then (λ ks. Some (record { part = p; order = o; keys = ks })) (or_default [] keys_in (get (codes "keys") d)))
-    (or_default [] names_in (get (codes "order") d)) (default_within are_names [] names_in refl names_within (get (codes "order") d))
+    (or_default [] order_in (get (codes "order") d)) (default_within is_order [] order_in refl order_within (get (codes "order") d))
     (λ o k. within_then (list_all are_names) is_claim_form (λ ks. Some (record { part = p; order = o; keys = ks })) (or_default [] keys_in (get (codes "keys") d))
     (default_within (list_all are_names) [] keys_in refl keys-within (get (codes "keys") d))
-    (λ ks m. and-both (is_part_form p) (are_names o && list_all are_names ks) h (and-both (are_names o) (list_all are_names ks) k m))))) tt
+    (λ ks m. and-both (is_part_form p) (is_order o && list_all are_names ks) h (and-both (is_order o) (list_all are_names ks) k m))))) tt
 
 pub claimed-within : (d : Data) → Within is_claim_form (claimed d)
 unfolding claimed

@@ -4,12 +4,12 @@ use Rattle.std.specs.List.{list_all}
 use Rattle.serde_json.specs.Data.{Data}
 use Rattle.serde_json.specs.Find.{get}
 use Rattle.vx_rows_values.specs.Types.{is_held}
-use Rattle.vx_catalog_json.specs.Look.{has_only}
+use Rattle.vx_catalog_json.specs.Look.{has_only, flag_in}
 use Rattle.vx_plan_json.specs.Look.{name_at, value_in, each_in, or_default}
 use Rattle.vx_rows_values.specs.Lists.{is_some_list}
 use Rattle.vx_plan_json.specs.Form.{names_in}
 use Rattle.vx_plan_json.specs.Formed.{are_names, is_range_form, is_head_form}
-use Rattle.vx_plan_json.specs.Reading.{Head, head_of, flag_in, head_in, declared_in}
+use Rattle.vx_plan_json.specs.Reading.{Head, head_of, head_in, declared_in}
 use Rattle.vx_plan_json.proofs.Holds.{and-both, Within, within_then, within_any, within_map, within_if}
 use Rattle.vx_plan_json.proofs.FormedFacts.{name_at-some, default_within, each_within, names_within, value_held}
 

@@ -9,3 +9,4 @@ pub mod LevelFacts
 pub mod HeadFacts
 pub mod PlainFacts
 pub mod BackFacts
+pub mod OrderFacts

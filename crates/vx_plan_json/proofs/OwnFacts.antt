@@ -3,18 +3,18 @@ use Rattle.std.proofs.Common.{◌≡◌, ℕ, zero, suc, ◌+◌, List, [], ◌�
 use Rattle.std.specs.List.{list_all}
 use Rattle.serde_json.specs.Data.{Data}
 use Rattle.serde_json.specs.Find.{get, as_str, as_number, as_u64}
-use Rattle.vx_catalog_json.specs.Look.{has_only}
+use Rattle.vx_catalog_json.specs.Look.{has_only, OrderText}
 use Rattle.vx_plan_json.specs.Look.{name_at, text_at, each_in, some_in, or_default}
 use Rattle.vx_rows_values.specs.Lists.{is_some_list}
 use Rattle.vx_plan_json.specs.Fault.{Refusal, too_deep, ◌>>=◌}
 use Rattle.vx_rows_values.specs.Values.{Name}
 use Rattle.vx_plan_json.specs.Document.{ConditionForm, AggregateForm, select, project, distinct, sort, partial_sort, group, partial_group, final_group, limit, BinaryForm, union, join, semi_join, hash, range, round, broadcast, gather, concat, KindForm, Tree, unary, binary, exchange}
-use Rattle.vx_plan_json.specs.Form.{names_in, some_names_in, claimed, condition_in, output_in, aggregate_in, pair_in}
+use Rattle.vx_plan_json.specs.Form.{names_in, some_names_in, some_order_in, claimed, condition_in, output_in, aggregate_in, pair_in}
 use Rattle.vx_plan_json.specs.Operators.{OwnForm, own_scan, own_unary, own_binary, own_exchange, mode_named, scan_in, scan_own, select_in, outputs_in, sort_in, partial_sort_in, sort_named, sort_by, sorted_in, group_or, lists_in, group_in, partial_in, final_in, phase_named, group_by, phased_in, if_small, rows_in, limit_in, unary_in, unary_own, method_named, inner_in, matches_by, matches_in, join_named, join_by, join_in, union_in, binary_own, hash_in, range_in, sized_in, gather_in, concat_in, kind_in, merge_in, merge_by, exchange_own, own_named, own_in, own_claim, if_few_keys, own_under}
 use Rattle.vx_plan_json.specs.Reading.{node_in, with_inputs}
-use Rattle.vx_plan_json.specs.Formed.{are_names, are_some_names, is_claim_form, is_condition_form, is_output_form, is_aggregate_form, is_scan_form, is_group_form, is_unary_form, is_pair_form, is_binary_form, is_kind_form, is_merge_form, is_tree_form, has_few_keys}
+use Rattle.vx_plan_json.specs.Formed.{are_names, are_some_names, is_order, is_some_order, is_claim_form, is_condition_form, is_output_form, is_aggregate_form, is_scan_form, is_group_form, is_unary_form, is_pair_form, is_binary_form, is_kind_form, is_merge_form, is_tree_form, has_few_keys}
 use Rattle.vx_plan_json.proofs.Holds.{and-left, and-right, and-both, Within, within_then, within_any, within_map, within_if, Holds, holds_then}
-use Rattle.vx_plan_json.proofs.FormedFacts.{name_at-some, each_within, some_within, names_within, some_names_within, claimed-within, condition-within, output-within, aggregate-within, pair-within}
+use Rattle.vx_plan_json.proofs.FormedFacts.{name_at-some, each_within, some_within, names_within, some_names_within, some_order_within, claimed-within, condition-within, output-within, aggregate-within, pair-within}
 
 -- what a node says of itself has the form
 is_own_form : OwnForm → Bool
@@ -61,13 +61,13 @@ sort-within : (d : Data) → Within is_unary_form (sort_in d)
 unfolding sort_in
 sort-within d =
     within_if is_unary_form (has_only (codes "op" ∷ codes "columns" ∷ codes "input" ∷ codes "claim" ∷ []) d) _ None
-    (within_map are_some_names is_unary_form sort (option_and_then some_names_in (get (codes "columns") d)) (within_any are_some_names some_names_in (get (codes "columns") d) some_names_within) (λ ns h. h)) tt
+    (within_map is_some_order is_unary_form sort (option_and_then some_order_in (get (codes "columns") d)) (within_any is_some_order some_order_in (get (codes "columns") d) some_order_within) (λ es h. h)) tt
 
 partial_sort-within : (d : Data) → Within is_unary_form (partial_sort_in d)
 unfolding partial_sort_in
 partial_sort-within d =
     within_if is_unary_form (has_only (codes "op" ∷ codes "phase" ∷ codes "columns" ∷ codes "input" ∷ codes "claim" ∷ []) d) _ None
-    (within_map are_some_names is_unary_form partial_sort (option_and_then some_names_in (get (codes "columns") d)) (within_any are_some_names some_names_in (get (codes "columns") d) some_names_within) (λ ns h. h)) tt
+    (within_map is_some_order is_unary_form partial_sort (option_and_then some_order_in (get (codes "columns") d)) (within_any is_some_order some_order_in (get (codes "columns") d) some_order_within) (λ es h. h)) tt
 
 sort_named-within : (s : List ℕ) (d : Data) → Within is_unary_form (sort_named s d)
 sort_named-within s d = within_if is_unary_form (bytes_eq s (codes "partial")) (partial_sort_in d) None (partial_sort-within d) tt
@@ -262,18 +262,15 @@ kind-within s d =
     (within_if is_kind_form (bytes_eq s (codes "gather")) (gather_in d) _ (gather-within d)
     (within_if is_kind_form (bytes_eq s (codes "concat")) (concat_in d) None (concat-within d) tt)))))
 
-some_are_names : (ns : List Name) → are_some_names ns ≡ true → are_names ns ≡ true
-some_are_names ns h = and-right (is_some_list ns) (are_names ns) h
-
-default-within : (o : Option Data) → Within are_names (or_default [] some_names_in o)
+default-within : (o : Option Data) → Within is_order (or_default [] some_order_in o)
 default-within None = refl
-default-within (Some d) = go (some_names_in d) (some_names_within d)
+default-within (Some d) = go (some_order_in d) (some_order_within d)
   where
-    go : (o : Option (List Name)) → Within are_some_names o → Within are_names o
+    go : (o : Option (List OrderText)) → Within is_some_order o → Within is_order o
     go None h = tt
-    go (Some ns) h = some_are_names ns h
+    go (Some es) h = and-right (is_some_list es) (is_order es) h
 
-merge_in-within : (d : Data) → Within are_names (merge_in d)
+merge_in-within : (d : Data) → Within is_order (merge_in d)
 unfolding merge_in
 merge_in-within d = default-within (get (codes "merge") d)
 

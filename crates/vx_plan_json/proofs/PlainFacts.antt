@@ -8,11 +8,12 @@ use Rattle.serde_json.specs.Data.{Data, boolean, number, unsigned, string, objec
 use Rattle.serde_json.specs.Written.{has_float, items_have_float, members_have_float}
 use Rattle.serde_json.specs.View.{items_of, members_view}
 use Rattle.serde_json.specs.declared.value.Value.{Value}
+use Rattle.vx_catalog_json.specs.Look.{OrderText}
 use Rattle.vx_rows_values.specs.Values.{Val, num, text, Name}
 use Rattle.vx_rows_values.specs.Test.{test_text}
 use Rattle.vx_plan_json.specs.Document.{PartForm, one, any, all, hash_part, range_part, ClaimForm, SideForm, column, constant, ConditionForm, OutputForm, FunctionForm, least, greatest, sum, count_rows, AggregateForm, ScanForm, UnaryForm, select, project, distinct, sort, partial_sort, group, partial_group, final_group, limit, BinaryForm, union, join, semi_join, KindForm, hash, range, round, broadcast, gather, concat, Tree, scan, unary, binary, exchange, Document, tree_levels}
 use Rattle.vx_rows_values.specs.Ranges.{RangeForm}
-use Rattle.vx_plan_json.specs.Written.{list_json, names_json, value_json, with_some, with_text, range_json, part_json, with_part, claim_members, with_object, with_claim, with_side, condition_json, renamed_json, output_json, with_call, with_function, aggregate_json, pair_json, with_some_text, mode_text, with_scan, with_lists, with_phase, with_unary, method_text, kind_text, with_join, with_matches, with_binary, with_kind, node_json, with_flag, document_json}
+use Rattle.vx_plan_json.specs.Written.{list_json, names_json, entry_json, order_json, value_json, with_some, with_text, range_json, part_json, with_part, claim_members, with_object, with_claim, with_side, condition_json, renamed_json, output_json, with_call, with_function, aggregate_json, pair_json, with_some_text, mode_text, with_scan, with_lists, with_phase, with_unary, method_text, kind_text, with_join, with_matches, with_binary, with_kind, node_json, with_flag, document_json}
 
 -- no deeper than n, and without floats
 pub record IsPlain (n : ℕ) (d : Data) : Type 0 where
@@ -73,13 +74,23 @@ list-plain n json plain xs =
 names-plain : (n : ℕ) (names : List Name) → IsPlain (suc n) (names_json names)
 names-plain n names = list-plain n string (text-plain n) names
 
+with_text-plain : (n : ℕ) (key s : List ℕ) (ms : Members) → ArePlain n ms → ArePlain n (with_text key s ms)
+with_text-plain n key s ms q = put-plain n key (string s) ms (text-plain n s) q
+
+directed-plain : (n : ℕ) (name : Name) (falling : Bool) → IsPlain (suc n) (entry_json (record { name = name; falling = falling }))
+directed-plain n name true = object-plain n _ (put-plain n (codes "desc") (boolean true) _ (record { low = omega arith; exact = refl }) (with_text-plain n (codes "column") name no_members (none-plain n)))
+directed-plain n name false = text-plain (suc n) name
+
+entry-plain : (n : ℕ) (e : OrderText) → IsPlain (suc n) (entry_json e)
+entry-plain n e = directed-plain n e.name e.falling
+
+order-plain : (n : ℕ) (order : List OrderText) → IsPlain (suc (suc n)) (order_json order)
+order-plain n order = list-plain (suc n) entry_json (entry-plain n) order
+
 value-plain : (n : ℕ) (v : Val) → IsPlain n (value_json v)
 value-plain n (num (pos k)) = record { low = omega arith; exact = refl }
 value-plain n (num (negsuc k)) = record { low = omega arith; exact = refl }
 value-plain n (text s) = text-plain n s
-
-with_text-plain : (n : ℕ) (key s : List ℕ) (ms : Members) → ArePlain n ms → ArePlain n (with_text key s ms)
-with_text-plain n key s ms q = put-plain n key (string s) ms (text-plain n s) q
 
 with_some-plain : {X : Type 0} (n : ℕ) (key : List ℕ) (json : X → Data) → ((x : X) → IsPlain n (json x)) → (xs : List X) (ms : Members) → ArePlain (suc n) ms → ArePlain (suc n) (with_some key json xs ms)
 with_some-plain n key json plain [] ms q = q
@@ -104,7 +115,7 @@ with_part-plain (range_part name col) ms q = put-plain 2 (codes "part") (part_js
 
 claim_members-plain : (c : ClaimForm) → ArePlain 2 (claim_members c)
 claim_members-plain c =
-    with_some-plain 1 (codes "keys") names_json (names-plain 0) c.keys _ (with_some-plain 1 (codes "order") string (text-plain 1) c.order _ (with_part-plain c.part no_members (none-plain _)))
+    with_some-plain 1 (codes "keys") names_json (names-plain 0) c.keys _ (with_some-plain 1 (codes "order") entry_json (entry-plain 0) c.order _ (with_part-plain c.part no_members (none-plain _)))
 
 pub claim-plain : (c : ClaimForm) → IsPlain 3 (object (claim_members c))
 claim-plain c = object-plain 2 (claim_members c) (claim_members-plain c)
@@ -173,9 +184,9 @@ with_unary-plain : (op : UnaryForm) (ms : Members) → ArePlain 3 ms → ArePlai
 with_unary-plain (select cs) ms q = put-plain 3 (codes "where") _ _ (more (omega arith) (list-plain 1 condition_json condition-plain cs)) (with_text-plain 3 (codes "op") (codes "select") ms q)
 with_unary-plain (project os) ms q = put-plain 3 (codes "columns") _ _ (more (omega arith) (list-plain 1 output_json output-plain os)) (with_text-plain 3 (codes "op") (codes "project") ms q)
 with_unary-plain (distinct os) ms q = put-plain 3 (codes "columns") _ _ (more (omega arith) (list-plain 1 output_json output-plain os)) (with_text-plain 3 (codes "op") (codes "distinct") ms q)
-with_unary-plain (sort cols) ms q = put-plain 3 (codes "columns") _ _ (names-plain 2 cols) (with_text-plain 3 (codes "op") (codes "sort") ms q)
-with_unary-plain (partial_sort cols) ms q =
-    put-plain 3 (codes "columns") _ _ (names-plain 2 cols) (with_text-plain 3 (codes "phase") (codes "partial") _ (with_text-plain 3 (codes "op") (codes "sort") ms q))
+with_unary-plain (sort order) ms q = put-plain 3 (codes "columns") _ _ (order-plain 1 order) (with_text-plain 3 (codes "op") (codes "sort") ms q)
+with_unary-plain (partial_sort order) ms q =
+    put-plain 3 (codes "columns") _ _ (order-plain 1 order) (with_text-plain 3 (codes "phase") (codes "partial") _ (with_text-plain 3 (codes "op") (codes "sort") ms q))
 with_unary-plain (group by aggregates) ms q = lists-plain by aggregates _ (with_text-plain 3 (codes "op") (codes "group") ms q)
 with_unary-plain (partial_group by aggregates) ms q = lists-plain by aggregates _ (phase-plain (codes "partial") ms q)
 with_unary-plain final_group ms q = phase-plain (codes "final") ms q
@@ -219,7 +230,7 @@ node-plain (binary c op t u) =
 node-plain (exchange c k m t) =
     more {n = suc (tree_levels t + 3)} (omega arith)
     (object-plain (tree_levels t + 3) _ (put-plain (tree_levels t + 3) (codes "input") (node_json t) _ (node-plain t)
-    (all-more _ (omega arith) (with_some-plain 2 (codes "merge") string (text-plain 2) m _ (with_kind-plain k _ (with_text-plain 3 (codes "op") (codes "exchange") _ (with_claim-plain c)))))))
+    (all-more _ (omega arith) (with_some-plain 2 (codes "merge") entry_json (entry-plain 1) m _ (with_kind-plain k _ (with_text-plain 3 (codes "op") (codes "exchange") _ (with_claim-plain c)))))))
 
 flag-plain : (key : List ℕ) (b : Bool) (ms : Members) → ArePlain 3 ms → ArePlain 3 (with_flag key b ms)
 flag-plain key false ms q = q

@@ -1,6 +1,7 @@
 -- Plans as their documents say them: relations, columns, sizes and ranges by name.
 use Rattle.std.specs.Prelude.{ℕ, suc, ◌+◌, max, List, map, Bool, true, false, Option, option_map, string_bytes, String}
 use Rattle.std.specs.declared.alloc.Global.{Global}
+use Rattle.vx_catalog_json.specs.Look.{OrderText}
 use Rattle.vx_rows_values.specs.Values.{Name, Val}
 use Rattle.vx_rows_values.specs.ValueView.{val_of, test_of}
 use Rattle.vx_rows_values.specs.Test as comparison
@@ -34,7 +35,7 @@ pub data PartForm : Type 0 where
 
 pub record ClaimForm : Type 0 where
   pub part : PartForm
-  pub order : List Name
+  pub order : List OrderText
   pub keys : List (List Name)
 
 pub data SideForm : Type 0 where
@@ -73,8 +74,8 @@ pub data UnaryForm : Type 0 where
   select : List ConditionForm → UnaryForm
   project : List OutputForm → UnaryForm
   distinct : List OutputForm → UnaryForm
-  sort : List Name → UnaryForm
-  partial_sort : List Name → UnaryForm
+  sort : List OrderText → UnaryForm
+  partial_sort : List OrderText → UnaryForm
   group : List Name → List AggregateForm → UnaryForm
   partial_group : List Name → List AggregateForm → UnaryForm
   final_group : UnaryForm
@@ -94,12 +95,12 @@ pub data KindForm : Type 0 where
   gather : KindForm
   concat : KindForm
 
--- an exchange merges on its list of columns, if that is not empty
+-- an exchange merges by its order, if that is not empty
 pub data Tree : Type 0 where
   scan : ClaimForm → ScanForm → Tree
   unary : ClaimForm → UnaryForm → Tree → Tree
   binary : ClaimForm → BinaryForm → Tree → Tree → Tree
-  exchange : ClaimForm → KindForm → List Name → Tree → Tree
+  exchange : ClaimForm → KindForm → List OrderText → Tree → Tree
 
 pub record Document : Type 0 where
   pub sizes : List Name
@@ -132,7 +133,7 @@ part_form (part.Hash route columns) = hash_part (string_bytes route) (map string
 part_form (part.Range name col) = range_part (string_bytes name) (string_bytes col)
 
 abbrev pub claim_form : NamedClaim → ClaimForm
-claim_form c = record { part = part_form c.part; order = map string_bytes c.order.items; keys = map (λ k. map string_bytes k.items) c.keys.items }
+claim_form c = record { part = part_form c.part; order = c.order.items; keys = map (λ k. map string_bytes k.items) c.keys.items }
 
 abbrev pub side_form : NamedSide → SideForm
 side_form (side.Column name) = column (string_bytes name)
@@ -160,8 +161,8 @@ abbrev pub unary_form : NamedUnary → UnaryForm
 unary_form (op.Select conditions) = select (map condition_form conditions.items)
 unary_form (op.Project outputs) = project (map output_form outputs.items)
 unary_form (op.Distinct outputs) = distinct (map output_form outputs.items)
-unary_form (op.Sort columns) = sort (map string_bytes columns.items)
-unary_form (op.PartialSort columns) = partial_sort (map string_bytes columns.items)
+unary_form (op.Sort order) = sort order.items
+unary_form (op.PartialSort order) = partial_sort order.items
 unary_form (op.Group by aggregates) = group (map string_bytes by.items) (map aggregate_form aggregates.items)
 unary_form (op.PartialGroup by aggregates) = partial_group (map string_bytes by.items) (map aggregate_form aggregates.items)
 unary_form op.FinalGroup = final_group
@@ -189,4 +190,4 @@ abbrev pub tree_of : Node → Tree
 tree_of (node.Scan claim s) = scan (claim_form claim) (scan_form s)
 tree_of (node.Unary' claim o p input) = unary (claim_form claim) (unary_form o) (tree_of input)
 tree_of (node.Binary' claim o p left q right) = binary (claim_form claim) (binary_form o) (tree_of left) (tree_of right)
-tree_of (node.Exchange' claim k merge p input) = exchange (claim_form claim) (kind_form k) (map string_bytes merge.items) (tree_of input)
+tree_of (node.Exchange' claim k merge p input) = exchange (claim_form claim) (kind_form k) merge.items (tree_of input)

@@ -3,7 +3,7 @@ use Rattle.std.specs.Prelude.{ℕ, List, [], ◌∷◌, Option, Some, None, opti
 use Rattle.serde_json.specs.Data.{Data}
 use Rattle.serde_json.specs.Find.{get, as_str}
 use Rattle.vx_rows_values.specs.Test as comparison
-use Rattle.vx_catalog_json.specs.Look.{as_list, has_only, some_entry, name_in}
+use Rattle.vx_catalog_json.specs.Look.{as_list, has_only, some_entry, name_in, OrderText, order_entry_in}
 use Rattle.vx_plan_json.specs.Look.{name_at, text_at, value_in, each_in, some_in, or_default}
 use Rattle.vx_rows_values.specs.Values.{Name}
 use Rattle.vx_plan_json.specs.Document.{PartForm, one, any, all, hash_part, range_part, ClaimForm, SideForm, column, constant, ConditionForm, OutputForm, FunctionForm, least, greatest, sum, count_rows, AggregateForm}
@@ -17,6 +17,12 @@ names_in d = each_in name_in d
 
 unfoldable pub some_names_in : Data → Option (List Name)
 some_names_in d = some_in name_in d
+
+unfoldable pub order_in : Data → Option (List OrderText)
+order_in d = each_in order_entry_in d
+
+unfoldable pub some_order_in : Data → Option (List OrderText)
+some_order_in d = some_in order_entry_in d
 
 -- ---- claims
 
@@ -57,7 +63,7 @@ unfoldable pub claim_in : Data → Option ClaimForm
 claim_in d = if has_only (codes "part" ∷ codes "order" ∷ codes "keys" ∷ []) d
     then (do
       p ← or_default any part_in (get (codes "part") d)
-      o ← or_default [] names_in (get (codes "order") d)
+      o ← or_default [] order_in (get (codes "order") d)
       ks ← or_default [] keys_in (get (codes "keys") d)
       Some (record { part = p; order = o; keys = ks }))
     else None

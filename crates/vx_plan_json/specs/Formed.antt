@@ -4,6 +4,7 @@ use Rattle.std.specs.List.{list_all}
 use Rattle.vx_rows_values.specs.Types.{is_held}
 use Rattle.vx_rows_values.specs.Lists.{is_some_list}
 use Rattle.vx_rows_values.specs.Limits.{max_keys}
+use Rattle.vx_catalog_json.specs.Look.{OrderText}
 use Rattle.vx_rows_values.specs.Values.{Name}
 use Rattle.vx_plan_json.specs.Document.{PartForm, one, any, all, hash_part, range_part, ClaimForm, SideForm, column, constant, ConditionForm, OutputForm, FunctionForm, least, greatest, sum, count_rows, AggregateForm, ScanForm, UnaryForm, select, project, distinct, sort, partial_sort, group, partial_group, final_group, limit, BinaryForm, union, join, semi_join, KindForm, hash, range, round, broadcast, gather, concat, Tree, scan, unary, binary, exchange}
 use Rattle.vx_rows_values.specs.Ranges.{RangeForm}
@@ -14,6 +15,17 @@ are_names names = list_all is_some_list names
 -- an entry or more, and none is empty
 abbrev pub are_some_names : List Name → Bool
 are_some_names names = is_some_list names && are_names names
+
+-- a column has a name
+abbrev pub is_order_entry : OrderText → Bool
+is_order_entry e = is_some_list e.name
+
+abbrev pub is_order : List OrderText → Bool
+is_order order = list_all is_order_entry order
+
+-- an entry or more
+abbrev pub is_some_order : List OrderText → Bool
+is_some_order order = is_some_list order && is_order order
 
 abbrev pub is_range_form : RangeForm → Bool
 is_range_form r = is_some_list r.name && list_all is_held r.bounds
@@ -30,7 +42,7 @@ is_part_form (hash_part route cols) = is_some_list route && are_some_names cols
 is_part_form (range_part name col) = is_some_list name && is_some_list col
 
 abbrev pub is_claim_form : ClaimForm → Bool
-is_claim_form c = is_part_form c.part && (are_names c.order && list_all are_names c.keys)
+is_claim_form c = is_part_form c.part && (is_order c.order && list_all are_names c.keys)
 
 abbrev pub is_side_form : SideForm → Bool
 is_side_form (column name) = is_some_list name
@@ -66,8 +78,8 @@ abbrev pub is_unary_form : UnaryForm → Bool
 is_unary_form (select cs) = is_some_list cs && list_all is_condition_form cs
 is_unary_form (project os) = is_some_list os && list_all is_output_form os
 is_unary_form (distinct os) = is_some_list os && list_all is_output_form os
-is_unary_form (sort names) = are_some_names names
-is_unary_form (partial_sort names) = are_some_names names
+is_unary_form (sort order) = is_some_order order
+is_unary_form (partial_sort order) = is_some_order order
 is_unary_form (group by aggregates) = is_group_form by aggregates
 is_unary_form (partial_group by aggregates) = is_group_form by aggregates
 is_unary_form final_group = true
@@ -89,14 +101,14 @@ is_kind_form (broadcast size) = is_some_list size
 is_kind_form gather = true
 is_kind_form concat = true
 
--- the columns on which an exchange of the kind merges: a concatenation on none
-abbrev pub is_merge_form : KindForm → List Name → Bool
-is_merge_form (hash size route cols) names = are_names names
-is_merge_form (range size name col) names = are_names names
-is_merge_form (round size) names = are_names names
-is_merge_form (broadcast size) names = are_names names
-is_merge_form gather names = are_names names
-is_merge_form concat names = not (is_some_list names)
+-- the order by which an exchange of the kind merges: a concatenation by none
+abbrev pub is_merge_form : KindForm → List OrderText → Bool
+is_merge_form (hash size route cols) order = is_order order
+is_merge_form (range size name col) order = is_order order
+is_merge_form (round size) order = is_order order
+is_merge_form (broadcast size) order = is_order order
+is_merge_form gather order = is_order order
+is_merge_form concat order = not (is_some_list order)
 
 -- every node has the form
 abbrev pub is_tree_form : Tree → Bool

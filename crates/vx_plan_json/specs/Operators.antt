@@ -1,13 +1,13 @@
 -- Which operator a JSON object is, by its own members.
-use Rattle.std.specs.Prelude.{ℕ, List, [], ◌∷◌, Bool, true, false, Option, Some, None, option_map, option_and_then, bytes_eq, codes, if◌then◌else◌, map, string_bytes, nat_lt, ◌^◌}
+use Rattle.std.specs.Prelude.{ℕ, List, [], ◌∷◌, Bool, true, false, Option, Some, None, option_map, option_and_then, bytes_eq, codes, if◌then◌else◌, nat_lt, ◌^◌}
 use Rattle.serde_json.specs.Data.{Data}
 use Rattle.serde_json.specs.Find.{get, as_str, as_number, as_u64}
 use Rattle.serde_json.specs.View.{view}
-use Rattle.vx_catalog_json.specs.Look.{has_only}
+use Rattle.vx_catalog_json.specs.Look.{has_only, OrderText}
 use Rattle.vx_plan_json.specs.Look.{name_at, text_at, each_in, some_in, or_default}
 use Rattle.vx_rows_values.specs.Values.{Name}
 use Rattle.vx_plan_json.specs.Document.{ClaimForm, ScanForm, ConditionForm, OutputForm, AggregateForm, UnaryForm, select, project, distinct, sort, partial_sort, group, partial_group, final_group, limit, BinaryForm, union, join, semi_join, KindForm, hash, range, round, broadcast, gather, concat, claim_form, scan_form, unary_form, binary_form, kind_form}
-use Rattle.vx_plan_json.specs.Form.{names_in, some_names_in, claimed, condition_in, output_in, aggregate_in, pair_in}
+use Rattle.vx_plan_json.specs.Form.{names_in, some_names_in, some_order_in, claimed, condition_in, output_in, aggregate_in, pair_in}
 use Rattle.vx_plan_json.specs.Formed.{has_few_keys}
 use Rattle.vx_plan_json.specs.declared.operators.Own.{Own}
 use Rattle.vx_plan_json.specs.declared.operators.Own.TheVariants as own
@@ -21,13 +21,13 @@ pub data OwnForm : Type 0 where
   own_scan : ClaimForm → ScanForm → OwnForm
   own_unary : ClaimForm → UnaryForm → Data → OwnForm
   own_binary : ClaimForm → BinaryForm → Data → Data → OwnForm
-  own_exchange : ClaimForm → KindForm → List Name → Data → OwnForm
+  own_exchange : ClaimForm → KindForm → List OrderText → Data → OwnForm
 
 abbrev pub own_form : Own → OwnForm
 own_form (own.Scan c s) = own_scan (claim_form c) (scan_form s)
 own_form (own.Unary c op d) = own_unary (claim_form c) (unary_form op) (view d.now)
 own_form (own.Binary c op d e) = own_binary (claim_form c) (binary_form op) (view d.now) (view e.now)
-own_form (own.Exchange c k m d) = own_exchange (claim_form c) (kind_form k) (map string_bytes m.items) (view d.now)
+own_form (own.Exchange c k m d) = own_exchange (claim_form c) (kind_form k) m.items (view d.now)
 
 -- whether the workers share the rows
 abbrev pub mode_named : List ℕ → Option Bool
@@ -60,11 +60,11 @@ outputs_in d = if has_only (codes "op" ∷ codes "columns" ∷ codes "input" ∷
 
 unfoldable pub sort_in : Data → Option UnaryForm
 sort_in d = if has_only (codes "op" ∷ codes "columns" ∷ codes "input" ∷ codes "claim" ∷ []) d
-    then option_map sort (option_and_then some_names_in (get (codes "columns") d)) else None
+    then option_map sort (option_and_then some_order_in (get (codes "columns") d)) else None
 
 unfoldable pub partial_sort_in : Data → Option UnaryForm
 partial_sort_in d = if has_only (codes "op" ∷ codes "phase" ∷ codes "columns" ∷ codes "input" ∷ codes "claim" ∷ []) d
-    then option_map partial_sort (option_and_then some_names_in (get (codes "columns") d)) else None
+    then option_map partial_sort (option_and_then some_order_in (get (codes "columns") d)) else None
 
 abbrev pub sort_named : List ℕ → Data → Option UnaryForm
 sort_named s d = if bytes_eq s (codes "partial") then partial_sort_in d else None
@@ -226,12 +226,12 @@ kind_in s d =
     else (if bytes_eq s (codes "gather") then gather_in d
     else (if bytes_eq s (codes "concat") then concat_in d else None)))))
 
--- the columns in `merge`; none where it is left out
-unfoldable pub merge_in : Data → Option (List Name)
-merge_in d = or_default [] some_names_in (get (codes "merge") d)
+-- the order in `merge`; empty where it is left out
+unfoldable pub merge_in : Data → Option (List OrderText)
+merge_in d = or_default [] some_order_in (get (codes "merge") d)
 
--- the columns on which an exchange of the kind merges: a concatenation on none
-abbrev pub merge_by : KindForm → Data → Option (List Name)
+-- the order by which an exchange of the kind merges: a concatenation by none
+abbrev pub merge_by : KindForm → Data → Option (List OrderText)
 merge_by (hash size route cols) d = merge_in d
 merge_by (range size name col) d = merge_in d
 merge_by (round size) d = merge_in d

@@ -2,10 +2,10 @@
 use Rattle.std.specs.Prelude.{ℕ, zero, suc, ◌+◌, List, [], ◌∷◌, ◌++◌, Bool, false, Option, Some, None, option_map, option_and_then, codes, Result, Ok, Err, nat_lt, if◌then◌else◌, map, string_bytes}
 use Rattle.std.specs.Str.{is_utf8}
 use Rattle.serde_json.specs.Data.{Data}
-use Rattle.serde_json.specs.Find.{get, as_bool}
+use Rattle.serde_json.specs.Find.{get}
 use Rattle.serde_json.specs.Read.{read}
 use Rattle.vx_plan_json.specs.Fault.{Refusal, not_json, bad_node, too_deep, ◌>>=◌}
-use Rattle.vx_catalog_json.specs.Look.{has_only}
+use Rattle.vx_catalog_json.specs.Look.{has_only, flag_in}
 use Rattle.vx_plan_json.specs.Look.{name_at, value_in, each_in, or_default}
 use Rattle.vx_plan_json.specs.declared.reading.Header.{Header}
 use Rattle.serde_json.specs.View.{view}
@@ -49,10 +49,6 @@ head_of zs rs total derives d = record { sizes = zs; ranges = rs; total = total;
 
 abbrev pub head_form : Header → Head
 head_form h = record { sizes = map string_bytes h.sizes.items; ranges = map range_form h.ranges.items; total = h.total; derives = h.derives; root = view h.root.now }
-
--- a member that is true or false; false where it is left out
-abbrev pub flag_in : List ℕ → Data → Option Bool
-flag_in key d = or_default false as_bool (get key d)
 
 unfoldable pub head_in : Data → Option Head
 head_in d = if has_only (codes "sizes" ∷ codes "ranges" ∷ codes "total" ∷ codes "derive" ∷ codes "root" ∷ []) d

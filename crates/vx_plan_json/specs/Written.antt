@@ -3,6 +3,7 @@ use Rattle.std.specs.Prelude.{ℕ, List, [], ◌∷◌, map, Bool, true, false, 
 use Rattle.serde_json.specs.Data.{Data, boolean, number, unsigned, string, array, object, Members, no_members, member, put}
 use Rattle.serde_json.specs.Find.{of_integer}
 use Rattle.serde_json.specs.View.{items_of}
+use Rattle.vx_catalog_json.specs.Look.{OrderText}
 use Rattle.vx_rows_values.specs.Values.{Val, num, text, Name}
 use Rattle.vx_rows_values.specs.Test as comparison
 use Rattle.vx_plan_json.specs.Document.{PartForm, one, any, all, hash_part, range_part, ClaimForm, SideForm, column, constant, ConditionForm, OutputForm, FunctionForm, least, greatest, sum, count_rows, AggregateForm, ScanForm, UnaryForm, select, project, distinct, sort, partial_sort, group, partial_group, final_group, limit, BinaryForm, union, join, semi_join, KindForm, hash, range, round, broadcast, gather, concat, Tree, scan, unary, binary, exchange, Document}
@@ -32,6 +33,13 @@ range_json r = object (put (codes "bounds") (list_json value_json r.bounds) (wit
 
 -- ---- claims
 
+-- a column of an order: its name where it rises, and where it falls an object that says so
+abbrev pub entry_json : OrderText → Data
+entry_json e = if e.falling then object (put (codes "desc") (boolean true) (with_text (codes "column") e.name no_members)) else string e.name
+
+abbrev pub order_json : List OrderText → Data
+order_json order = list_json entry_json order
+
 abbrev pub part_json : PartForm → Data
 part_json one = string (codes "one")
 part_json any = string (codes "any")
@@ -51,7 +59,7 @@ abbrev pub with_part : PartForm → Members → Members
 with_part p ms = if is_any p then ms else put (codes "part") (part_json p) ms
 
 abbrev pub claim_members : ClaimForm → Members
-claim_members c = with_some (codes "keys") names_json c.keys (with_some (codes "order") string c.order (with_part c.part no_members))
+claim_members c = with_some (codes "keys") names_json c.keys (with_some (codes "order") entry_json c.order (with_part c.part no_members))
 
 -- with the object at the key, unless it has no members
 abbrev pub with_object : List ℕ → Members → Members → Members
@@ -120,8 +128,8 @@ abbrev pub with_unary : UnaryForm → Members → Members
 with_unary (select cs) ms = put (codes "where") (list_json condition_json cs) (with_text (codes "op") (codes "select") ms)
 with_unary (project os) ms = put (codes "columns") (list_json output_json os) (with_text (codes "op") (codes "project") ms)
 with_unary (distinct os) ms = put (codes "columns") (list_json output_json os) (with_text (codes "op") (codes "distinct") ms)
-with_unary (sort cols) ms = put (codes "columns") (names_json cols) (with_text (codes "op") (codes "sort") ms)
-with_unary (partial_sort cols) ms = put (codes "columns") (names_json cols) (with_text (codes "phase") (codes "partial") (with_text (codes "op") (codes "sort") ms))
+with_unary (sort order) ms = put (codes "columns") (order_json order) (with_text (codes "op") (codes "sort") ms)
+with_unary (partial_sort order) ms = put (codes "columns") (order_json order) (with_text (codes "phase") (codes "partial") (with_text (codes "op") (codes "sort") ms))
 with_unary (group by aggregates) ms = with_lists by aggregates (with_text (codes "op") (codes "group") ms)
 with_unary (partial_group by aggregates) ms = with_lists by aggregates (with_phase (codes "partial") ms)
 with_unary final_group ms = with_phase (codes "final") ms
@@ -164,9 +172,9 @@ unary_json c op input = object (put (codes "input") input (with_unary op (with_c
 abbrev pub binary_json : ClaimForm → BinaryForm → Data → Data → Data
 binary_json c op left right = object (put (codes "right") right (put (codes "left") left (with_binary op (with_claim c no_members))))
 
-abbrev pub exchange_json : ClaimForm → KindForm → List Name → Data → Data
+abbrev pub exchange_json : ClaimForm → KindForm → List OrderText → Data → Data
 exchange_json c k merge input = object (put (codes "input") input
-    (with_some (codes "merge") string merge (with_kind k (with_text (codes "op") (codes "exchange") (with_claim c no_members)))))
+    (with_some (codes "merge") entry_json merge (with_kind k (with_text (codes "op") (codes "exchange") (with_claim c no_members)))))
 
 abbrev pub node_json : Tree → Data
 node_json (scan c s) = scan_json c s

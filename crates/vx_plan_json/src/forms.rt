@@ -10,7 +10,7 @@ ghost use Rattle.vx_rows_values.specs.ValueView.{test_of};
 ghost use Rattle.vx_plan_json.specs.Document.{any, part_form, claim_form, side_form, ConditionForm, condition_form, OutputForm, output_form, function_form, AggregateForm, aggregate_form, pair_form};
 ghost use Rattle.vx_plan_json.specs.Form.{hash_part_in, range_part_in, routed_part_in, part_in, claim_in, claimed, test_named, side_in, condition_in, renamed_in, output_in, function_named, function_at, aggregate_in, pair_in};
 
-use crate::look::{NamesReader, ValueReader, get_text_at, read_name_at};
+use crate::look::{NamesReader, ValueReader, get_text_at, read_name_at, read_order_or_empty};
 use crate::plan::{
     NamedAggregate, NamedClaim, NamedCondition, NamedFunction, NamedOutput, NamedPart, NamedSide,
 };
@@ -72,13 +72,13 @@ fn read_part_or_any(alloc: Global, value: &Json) -> Result<NamedPart, Misread>
     }
 }
 
-#[tactic(auto, unfolding(crate::specs::Form::claim_in, crate::specs::Form::names_in, crate::specs::Form::keys_in))]
+#[tactic(auto, unfolding(crate::specs::Form::claim_in, crate::specs::Form::keys_in))]
 fn read_claim(alloc: Global, value: &Json) -> Result<NamedClaim, Misread>
     ensures { Parses claim_form result (claim_in (view value.now)) }
 {
     test_members(value, &["part", "order", "keys"])?;
     let part = read_part_or_any(alloc, value)?;
-    let order = read_list_or_empty::<NameReader>(alloc, value, "order")?;
+    let order = read_order_or_empty(alloc, value, "order")?;
     let keys = read_list_or_empty::<NamesReader>(alloc, value, "keys")?;
     Ok(NamedClaim { part, order, keys })
 }

@@ -1,16 +1,17 @@
 //! A plan as JSON.
 
-ghost use Rattle.std.specs.Prelude.{◌≡◌, ℕ, List, map, string_bytes, codes, Ok, IfOk, OnOk};
+ghost use Rattle.std.specs.Prelude.{◌≡◌, ℕ, List, map, true, string_bytes, codes, Ok, IfOk, OnOk};
 ghost use Rattle.serde_json.specs.Data.{object, string, put};
 ghost use Rattle.serde_json.specs.View.{view, members_view};
 ghost use Rattle.serde_json.specs.Written.{compact_text};
+ghost use Rattle.vx_catalog_json.specs.Look.{OrderText};
 ghost use Rattle.vx_rows_values.specs.Values.{Name, Val};
 ghost use Rattle.vx_rows_values.specs.ValueView.{val_of};
 ghost use Rattle.vx_plan_json.specs.Document.{hash_part, range_part, part_form, claim_form, side_form, ConditionForm, condition_form, OutputForm, output_form, function_form, AggregateForm, aggregate_form, scan_form, unary_form, pair_form, binary_form, kind_form, tree_of};
 ghost use Rattle.vx_rows_values.specs.Ranges.{RangeForm, range_form};
 ghost use Rattle.vx_plan_json.specs.PlanView.{document_of};
 ghost use Rattle.vx_plan_json.specs.Reading.{document_of_text};
-ghost use Rattle.vx_plan_json.specs.Written.{names_json, list_json, value_json, with_some, with_text, range_json, part_json, with_part, claim_members, with_object, with_claim, with_side, condition_json, output_json, with_function, with_call, aggregate_json, pair_json, scan_json, unary_json, binary_json, exchange_json, node_json, with_flag, document_json};
+ghost use Rattle.vx_plan_json.specs.Written.{names_json, entry_json, order_json, list_json, value_json, with_some, with_text, range_json, part_json, with_part, claim_members, with_object, with_claim, with_side, condition_json, output_json, with_function, with_call, aggregate_json, pair_json, scan_json, unary_json, binary_json, exchange_json, node_json, with_flag, document_json};
 
 use crate::document::Plan;
 use crate::operators::{put_binary, put_kind, put_scan, put_unary};
@@ -20,6 +21,7 @@ use crate::plan::{
 };
 use serde_json::{Map, Value as Json, put};
 use std::alloc::{AllocError, Global};
+use vx_catalog_json::OrderText;
 use vx_rows_values::{NamedRange, Value};
 
 /// The members of an object.
@@ -121,6 +123,58 @@ pub fn put_text(
     put(members, alloc, key, text(alloc, value)?)
 }
 
+// The name of a column that falls, in an object that says so.
+fn falling_json(alloc: Global, name: &str) -> Result<Json, AllocError>
+    ensures { IfOk result (λ d. view d ≡ entry_json (record { name = name.now; falling = true })) }
+{
+    let mut members = Map::new(alloc);
+    put_text(&mut members, alloc, "column", name)?;
+    put(&mut members, alloc, "desc", Json::Bool(true))?;
+    Ok(Json::Object(members))
+}
+
+impl ToJson for OrderText {
+    ghost Form = { OrderText };
+
+    ghost look = { λ e. e };
+
+    ghost json = { entry_json };
+
+    fn to_value(&self, alloc: Global) -> Result<Json, AllocError> {
+        if self.falling {
+            falling_json(alloc, self.name.as_str())
+        } else {
+            text(alloc, self.name.as_str())
+        }
+    }
+}
+
+/// An order as a member.
+#[tactic(auto, using(crate::proofs::OrderFacts::same_order))]
+pub fn put_order(
+    members: &mut Members,
+    alloc: Global,
+    key: &str,
+    order: &[OrderText],
+) -> Result<(), AllocError>
+    ensures { OnOk result (members_view members.new.entries ≡ put key.now (order_json order.now) (members_view members.old.entries)) }
+{
+    put_list(members, alloc, key, order)
+}
+
+/// An order as a member, unless it is empty.
+#[tactic(auto, using(crate::proofs::OrderFacts::same_order))]
+pub fn put_some_order(
+    members: &mut Members,
+    alloc: Global,
+    key: &str,
+    order: &[OrderText],
+) -> Result<(), AllocError>
+    ensures { OnOk result (members_view members.new.entries ≡ with_some key.now entry_json order.now (members_view members.old.entries)) }
+{
+    put_some(members, alloc, key, order)
+}
+
 impl ToJson for Value {
     ghost Form = { Val };
 
@@ -200,7 +254,7 @@ fn claim_members(alloc: Global, claim: &NamedClaim) -> Result<Members, AllocErro
 {
     let mut own = Map::new(alloc);
     put_part(&mut own, alloc, &claim.part)?;
-    put_some(&mut own, alloc, "order", claim.order.as_slice())?;
+    put_some_order(&mut own, alloc, "order", claim.order.as_slice())?;
     put_some(&mut own, alloc, "keys", claim.keys.as_slice())?;
     Ok(own)
 }
@@ -373,16 +427,16 @@ fn exchange_json(
     alloc: Global,
     claim: &NamedClaim,
     kind: &NamedKind,
-    merge: &[String],
+    merge: &[OrderText],
     input: Json,
 ) -> Result<Json, AllocError>
-    ensures { IfOk result (λ d. view d ≡ exchange_json (claim_form claim.now) (kind_form kind.now) (map string_bytes merge.now) (view input)) }
+    ensures { IfOk result (λ d. view d ≡ exchange_json (claim_form claim.now) (kind_form kind.now) merge.now (view input)) }
 {
     let mut members = Map::new(alloc);
     put_claim(&mut members, alloc, claim)?;
     put_text(&mut members, alloc, "op", "exchange")?;
     put_kind(&mut members, alloc, kind)?;
-    put_some(&mut members, alloc, "merge", merge)?;
+    put_some_order(&mut members, alloc, "merge", merge)?;
     put(&mut members, alloc, "input", input)?;
     Ok(Json::Object(members))
 }

@@ -1,16 +1,21 @@
-//! Looking into a JSON value: names and texts in members, lists of names, and constants.
+//! Looking into a JSON value: names and texts in members, lists of names, orders, and constants.
 
-ghost use Rattle.std.specs.Prelude.{List, ℕ, map, string_bytes};
+ghost use Rattle.std.specs.Prelude.{List, [], ℕ, map, string_bytes};
 ghost use Rattle.serde_json.specs.View.{view};
 ghost use Rattle.vx_rows_values.specs.Values.{Val};
 ghost use Rattle.vx_rows_values.specs.ValueView.{val_of};
 ghost use Rattle.vx_catalog_json.specs.Look.{Finds, Parses};
 ghost use Rattle.vx_plan_json.specs.Look.{name_at, text_at, value_in};
-ghost use Rattle.vx_plan_json.specs.Form.{names_in};
+ghost use Rattle.serde_json.specs.Find.{get};
+ghost use Rattle.vx_plan_json.specs.Look.{or_default};
+ghost use Rattle.vx_plan_json.specs.Form.{names_in, order_in, some_order_in};
 
 use serde_json::Value as Json;
 use std::alloc::Global;
-use vx_catalog_json::{Misread, NameReader, Reader, get_member, get_text, read_list, read_name};
+use vx_catalog_json::{
+    Misread, NameReader, OrderReader, OrderText, Reader, get_member, get_text, read_list,
+    read_list_or_empty, read_name, read_some,
+};
 use vx_rows_values::{Cell, Value};
 
 /// The name in a member.
@@ -45,6 +50,26 @@ impl Reader for NamesReader {
     fn read(alloc: Global, value: &Json) -> Result<Vec<String>, Misread> {
         read_list::<NameReader>(alloc, value)
     }
+}
+
+/// The order in a member. Where the member is left out, it is empty.
+#[tactic(auto, unfolding(crate::specs::Form::order_in), using(crate::proofs::OrderFacts::same_order))]
+pub fn read_order_or_empty(
+    alloc: Global,
+    value: &Json,
+    key: &str,
+) -> Result<Vec<OrderText>, Misread>
+    ensures { Parses (λ v. v.items) result (or_default [] order_in (get key.now (view value.now))) }
+{
+    read_list_or_empty::<OrderReader>(alloc, value, key)
+}
+
+/// An order with an entry or more.
+#[tactic(auto, unfolding(crate::specs::Form::some_order_in), using(crate::proofs::OrderFacts::same_order))]
+pub fn read_some_order(alloc: Global, value: &Json) -> Result<Vec<OrderText>, Misread>
+    ensures { Parses (λ v. v.items) result (some_order_in (view value.now)) }
+{
+    read_some::<OrderReader>(alloc, value)
 }
 
 /// Reads constants: numbers of 64 signed bits, and texts.

@@ -11,8 +11,8 @@ ghost use Rattle.vx_plan_json.specs.Operators.{own_form, mode_named, scan_in, sc
 ghost use Rattle.vx_plan_json.specs.Written.{with_text, with_some_text, with_scan, with_lists, with_phase, with_unary, with_join, with_matches, with_binary, with_kind};
 
 use crate::forms::{AggregateReader, ConditionReader, OutputReader, PairReader, read_node_claim};
-use crate::json::{Members, put_list, put_some, put_text};
-use crate::look::{get_text_at, read_name_at};
+use crate::json::{Members, put_list, put_order, put_some, put_text};
+use crate::look::{get_text_at, read_name_at, read_some_order};
 use crate::plan::{
     NamedAggregate, NamedBinary, NamedClaim, NamedCondition, NamedKind, NamedOutput, NamedScan,
     NamedUnary,
@@ -20,7 +20,7 @@ use crate::plan::{
 use serde_json::{Value as Json, put};
 use std::alloc::{AllocError, Global};
 use vx_catalog_json::{
-    Misread, NameReader, get_member, get_text, read_list, read_some, test_members,
+    Misread, NameReader, OrderText, get_member, get_text, read_list, read_some, test_members,
 };
 use vx_rows_values::limits::MAX_KEYS;
 
@@ -30,7 +30,7 @@ pub enum Own<'v> {
     Scan(NamedClaim, NamedScan),
     Unary(NamedClaim, NamedUnary, &'v Json),
     Binary(NamedClaim, NamedBinary, &'v Json, &'v Json),
-    Exchange(NamedClaim, NamedKind, Vec<String>, &'v Json),
+    Exchange(NamedClaim, NamedKind, Vec<OrderText>, &'v Json),
 }
 
 impl Own<'_> {
@@ -114,22 +114,22 @@ fn read_outputs(alloc: Global, value: &Json) -> Result<Vec<NamedOutput>, Misread
     read_some::<OutputReader>(alloc, get_member(value, "columns")?)
 }
 
-#[tactic(auto, unfolding(crate::specs::Operators::sort_in, crate::specs::Form::some_names_in))]
+#[tactic(auto, unfolding(crate::specs::Operators::sort_in))]
 fn read_plain_sort(alloc: Global, value: &Json) -> Result<NamedUnary, Misread>
     ensures { Parses unary_form result (sort_in (view value.now)) }
 {
     test_members(value, &["op", "columns", "input", "claim"])?;
-    let columns = read_some::<NameReader>(alloc, get_member(value, "columns")?)?;
-    Ok(NamedUnary::Sort(columns))
+    let order = read_some_order(alloc, get_member(value, "columns")?)?;
+    Ok(NamedUnary::Sort(order))
 }
 
-#[tactic(auto, unfolding(crate::specs::Operators::partial_sort_in, crate::specs::Form::some_names_in))]
+#[tactic(auto, unfolding(crate::specs::Operators::partial_sort_in))]
 fn read_partial_sort(alloc: Global, value: &Json) -> Result<NamedUnary, Misread>
     ensures { Parses unary_form result (partial_sort_in (view value.now)) }
 {
     test_members(value, &["op", "phase", "columns", "input", "claim"])?;
-    let columns = read_some::<NameReader>(alloc, get_member(value, "columns")?)?;
-    Ok(NamedUnary::PartialSort(columns))
+    let order = read_some_order(alloc, get_member(value, "columns")?)?;
+    Ok(NamedUnary::PartialSort(order))
 }
 
 fn read_sort_phase(alloc: Global, phase: &str, value: &Json) -> Result<NamedUnary, Misread>
@@ -462,16 +462,16 @@ fn read_kind(alloc: Global, kind: &str, value: &Json) -> Result<NamedKind, Misre
     }
 }
 
-// The columns on which an exchange of the kind merges.
-#[tactic(auto, unfolding(crate::specs::Operators::merge_in, crate::specs::Form::some_names_in))]
-fn read_merge(alloc: Global, kind: &NamedKind, value: &Json) -> Result<Vec<String>, Misread>
-    ensures { Parses (λ v. map string_bytes v.items) result (merge_by (kind_form kind.now) (view value.now)) }
+// The order by which an exchange of the kind merges.
+#[tactic(auto, unfolding(crate::specs::Operators::merge_in))]
+fn read_merge(alloc: Global, kind: &NamedKind, value: &Json) -> Result<Vec<OrderText>, Misread>
+    ensures { Parses (λ v. v.items) result (merge_by (kind_form kind.now) (view value.now)) }
 {
     if matches!(kind, NamedKind::Concat) {
         return Ok(Vec::new(alloc));
     }
     match value.get("merge") {
-        Some(names) => read_some::<NameReader>(alloc, names),
+        Some(merge) => read_some_order(alloc, merge),
         None => Ok(Vec::new(alloc)),
     }
 }
@@ -585,14 +585,14 @@ pub fn put_unary(members: &mut Members, alloc: Global, unary: &NamedUnary) -> Re
             put_text(members, alloc, "op", "distinct")?;
             put_list(members, alloc, "columns", outputs.as_slice())
         }
-        NamedUnary::Sort(names) => {
+        NamedUnary::Sort(order) => {
             put_text(members, alloc, "op", "sort")?;
-            put_list(members, alloc, "columns", names.as_slice())
+            put_order(members, alloc, "columns", order.as_slice())
         }
-        NamedUnary::PartialSort(names) => {
+        NamedUnary::PartialSort(order) => {
             put_text(members, alloc, "op", "sort")?;
             put_text(members, alloc, "phase", "partial")?;
-            put_list(members, alloc, "columns", names.as_slice())
+            put_order(members, alloc, "columns", order.as_slice())
         }
         NamedUnary::Group(by, aggregates) => {
             put_text(members, alloc, "op", "group")?;

@@ -1,5 +1,6 @@
 //! Plans as their documents say them: relations, columns, sizes and ranges by name.
 
+use vx_catalog_json::OrderText;
 use vx_rows_values::{Test, Value};
 
 /// How rows lie on workers, as a claim says it.
@@ -18,8 +19,8 @@ pub enum NamedPart {
 /// An optimizer's note on a node. Nothing is assumed of it.
 pub struct NamedClaim {
     pub part: NamedPart,
-    /// The columns on which each stream is sorted, the first before the second.
-    pub order: Vec<String>,
+    /// The order in which each stream is sorted.
+    pub order: Vec<OrderText>,
     /// Lists of columns on which no two rows agree.
     pub keys: Vec<Vec<String>>,
 }
@@ -98,8 +99,8 @@ pub enum NamedUnary {
     Select(Vec<NamedCondition>),
     Project(Vec<NamedOutput>),
     Distinct(Vec<NamedOutput>),
-    Sort(Vec<String>),
-    PartialSort(Vec<String>),
+    Sort(Vec<OrderText>),
+    PartialSort(Vec<OrderText>),
     Group(Vec<String>, Vec<NamedAggregate>),
     PartialGroup(Vec<String>, Vec<NamedAggregate>),
     FinalGroup,
@@ -189,12 +190,12 @@ impl Drop for NamedKind {
     }
 }
 
-/// A tree of operators. An exchange merges on its list of columns, if that is not empty.
+/// A tree of operators. An exchange merges by its order, if that is not empty.
 pub enum Node {
     Scan(NamedClaim, NamedScan),
     Unary(NamedClaim, NamedUnary, Box<Node>),
     Binary(NamedClaim, NamedBinary, Box<Node>, Box<Node>),
-    Exchange(NamedClaim, NamedKind, Vec<String>, Box<Node>),
+    Exchange(NamedClaim, NamedKind, Vec<OrderText>, Box<Node>),
 }
 
 impl Drop for Node {

@@ -2,11 +2,11 @@
 
 ghost use Rattle.std.specs.Prelude.{◌≡◌, ◌+◌, ◌++◌, string_bytes, IfOk};
 ghost use Rattle.serde_json.specs.View.{view};
-ghost use Rattle.vx_catalog_json.specs.Look.{Finds, Parses};
+ghost use Rattle.vx_catalog_json.specs.Look.{Parses};
 ghost use Rattle.vx_plan_json.specs.Fault.{Gives};
 ghost use Rattle.vx_plan_json.specs.Document.{tree_of};
 ghost use Rattle.vx_rows_values.specs.Ranges.{RangeForm, range_form};
-ghost use Rattle.vx_plan_json.specs.Reading.{node_in, declared_in, flag_in, head_in, head_form, document_in, document_of_text};
+ghost use Rattle.vx_plan_json.specs.Reading.{node_in, declared_in, head_in, head_form, document_in, document_of_text};
 ghost use Rattle.vx_plan_json.specs.PlanView.{document_of};
 
 use crate::document::Plan;
@@ -17,7 +17,7 @@ use crate::plan::Node;
 use serde_json::Value as Json;
 use std::alloc::{AllocError, Global};
 use vx_catalog_json::{
-    Misread, NameReader, Reader, get_member, read_list, read_list_or_empty, test_members,
+    Misread, NameReader, Reader, get_member, read_flag, read_list, read_list_or_empty, test_members,
 };
 use vx_rows_values::NamedRange;
 use vx_rows_values::limits::{MAX_LEVELS, MAX_NODES};
@@ -121,16 +121,6 @@ pub struct Header<'v> {
     total: bool,
     derives: bool,
     root: &'v Json,
-}
-
-// A member that is true or false; false where it is left out.
-fn read_flag(value: &Json, key: &str) -> Result<bool, Misread>
-    ensures { Finds (λ b. b) result (flag_in key.now (view value.now)) }
-{
-    match value.get(key) {
-        Some(flag) => flag.as_bool().ok_or(Misread::NotOfForm),
-        None => Ok(false),
-    }
 }
 
 // A document's own members, and the value of its root.

@@ -6,6 +6,7 @@ use Rattle.std.proofs.Common.{◌≡◌, ℕ, suc, ◌+◌, ◌==◌, nat_lt, na
 use Rattle.vx_rows_values.specs.declared.value.ColType.{ColType}
 use Rattle.vx_catalog_relations.specs.Relation.{Relation}
 use Rattle.vx_catalog_relations.specs.Catalog.{relation_at, all_below}
+use Rattle.vx_rows_values.specs.Order.{order_columns}
 use Rattle.vx_plan_nodes.specs.Plan.{Claim, Plan, scan, unary, binary, exchange, Aggregate, least, greatest, sum, count_rows, Unary, select, project, distinct, sort, group, limit, plain, partial, final}
 use Rattle.vx_plan_nodes.specs.Types.{unary_types, binary_types, types_of, aggregate_type}
 use Rattle.vx_plan_nodes.specs.Typed.{Scope, is_claim, is_unary, is_binary, is_size, is_output, typed, IsTyped}
@@ -25,7 +26,7 @@ erased-closed i (unary n c op p) = go (is_final op) (erased-closed i p)
     plain_op (select cs) below = refl
     plain_op (project cols) below = refl
     plain_op (distinct cols) below = refl
-    plain_op (sort of_parts cols) below = refl
+    plain_op (sort of_parts order) below = refl
     plain_op (group phase by aggregates) below = refl
     plain_op (limit m) below = refl
 
@@ -92,9 +93,9 @@ final-types catalog keys puts (scan n c r m z) e = absurd (true≢false (sym e))
 final-types catalog keys puts (unary n c (select cs) p) e = absurd (true≢false (sym e))
 final-types catalog keys puts (unary n c (project cols) p) e = absurd (true≢false (sym e))
 final-types catalog keys puts (unary n c (distinct cols) p) e = absurd (true≢false (sym e))
-final-types catalog keys puts (unary n c (sort false cols) p) e = absurd (true≢false (sym e))
-final-types catalog keys puts (unary n c (sort true cols) p) e =
-    final-types catalog keys puts p (and-right (all_below (length keys) cols) (opens keys puts p) e)
+final-types catalog keys puts (unary n c (sort false order) p) e = absurd (true≢false (sym e))
+final-types catalog keys puts (unary n c (sort true order) p) e =
+    final-types catalog keys puts p (and-right (all_below (length keys) (order_columns order)) (opens keys puts p) e)
 final-types catalog keys puts (unary n c (group plain by aggregates) p) e = absurd (true≢false (sym e))
 final-types catalog keys puts (unary n c (group partial by aggregates) p) e =
     let k = columns_eq-is keys (first_columns (length by)) (and-left (columns_eq keys (first_columns (length by))) (aggregates_eq puts (merged (length by) aggregates)) e) in
@@ -113,7 +114,7 @@ pub once-types : (op : Unary) (ts : List ColType) → unary_types (at_once op) t
 once-types (select cs) ts = refl
 once-types (project cols) ts = refl
 once-types (distinct cols) ts = refl
-once-types (sort of_parts cols) ts = refl
+once-types (sort of_parts order) ts = refl
 once-types (group phase by aggregates) ts = refl
 once-types (limit m) ts = refl
 
@@ -121,7 +122,7 @@ once-unary : (op : Unary) (ts : List ColType) → is_unary ts (at_once op) ≡ i
 once-unary (select cs) ts = refl
 once-unary (project cols) ts = refl
 once-unary (distinct cols) ts = refl
-once-unary (sort of_parts cols) ts = refl
+once-unary (sort of_parts order) ts = refl
 once-unary (group phase by aggregates) ts = refl
 once-unary (limit m) ts = refl
 
@@ -129,7 +130,7 @@ once-fits : (op : Unary) (p : Plan) → is_open p ≡ false → phase_fits (at_o
 once-fits (select cs) p e = ap not e
 once-fits (project cols) p e = ap not e
 once-fits (distinct cols) p e = ap not e
-once-fits (sort of_parts cols) p e = ap not e
+once-fits (sort of_parts order) p e = ap not e
 once-fits (group phase by aggregates) p e = ap not e
 once-fits (limit m) p e = ap not e
 
@@ -154,7 +155,7 @@ erased-types s i (unary n c op p) h =
     go (select cs) f ih = over (select cs) ih
     go (project cols) f ih = over (project cols) ih
     go (distinct cols) f ih = over (distinct cols) ih
-    go (sort of_parts cols) f ih = over (sort of_parts cols) ih
+    go (sort of_parts order) f ih = over (sort of_parts order) ih
     go (group plain by aggregates) f ih = over (group plain by aggregates) ih
     go (group partial by aggregates) f ih = over (group partial by aggregates) ih
     go (limit m) f ih = over (limit m) ih

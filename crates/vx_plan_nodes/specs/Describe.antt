@@ -1,5 +1,6 @@
 -- What an operator does with columns and rows, whatever its inputs claim.
 use Rattle.std.specs.Prelude.{ℕ, ◌+◌, ◌-◌, ◌==◌, nat_lt, nat_le, cond, List, length, position, Option, Some, None, slice_get}
+use Rattle.vx_rows_values.specs.declared.order.OrderEntry.{OrderEntry}
 use Rattle.vx_plan_nodes.specs.Plan.{Unary, select, project, distinct, sort, group, limit, plain, partial, final, Binary, union, join, semi_join}
 use Rattle.vx_rows_values.specs.Limits.{max_columns}
 
@@ -31,10 +32,10 @@ place no_columns c = None
 
 -- ---- operators over one input
 
--- what becomes of the order of the rows: it goes on, or they are put in order on these input columns
+-- what becomes of the order of the rows: it goes on, or they are put in this order of input columns
 pub data OrderAfter : Type 0 where
   order_kept : OrderAfter
-  sorted_on : List ℕ → OrderAfter
+  sorted_on : List OrderEntry → OrderAfter
 
 -- what becomes of the keys: they go on, or the first columns of the output are one, or there is none
 pub data KeysAfter : Type 0 where
@@ -54,7 +55,7 @@ abbrev pub described : Unary → Described
 described (select cs) = record { copying = whole_rows; meets = None; order = order_kept; keys = keys_kept }
 described (project cols) = record { copying = columns_kept cols; meets = None; order = order_kept; keys = keys_kept }
 described (distinct cols) = record { copying = columns_kept cols; meets = Some cols; order = order_kept; keys = key_of_first (length cols) }
-described (sort of_parts cols) = record { copying = whole_rows; meets = None; order = sorted_on cols; keys = cond of_parts no_key keys_kept }
+described (sort of_parts order) = record { copying = whole_rows; meets = None; order = sorted_on order; keys = cond of_parts no_key keys_kept }
 described (group plain by aggregates) = record { copying = columns_kept by; meets = Some by; order = order_kept; keys = key_of_first (length by) }
 described (group partial by aggregates) = record { copying = columns_kept by; meets = None; order = order_kept; keys = no_key }
 described (group final by aggregates) = record { copying = columns_kept by; meets = Some by; order = order_kept; keys = key_of_first (length by) }

@@ -1,9 +1,10 @@
 -- Typed plans with the names that they keep, and the plan of the definitions that each stands for.
 use Rattle.std.specs.Prelude.{ℕ, List, [], map, Bool, true, false, string_bytes}
+use Rattle.vx_rows_values.specs.declared.order.OrderEntry.{OrderEntry}
 use Rattle.std.specs.Arc.{arc_value}
 use Rattle.vx_rows_values.specs.declared.value.ColType.{ColType}
 use Rattle.vx_rows_values.specs.ValueView.{val_of, test_of}
-use Rattle.vx_plan_nodes.specs.Plan.{Size, one_worker, group_of, Route, by_hash, by_range, Part, one, any, all, routed, Claim, Side, column, constant, Condition, Aggregate, least, greatest, sum, count_rows, Unary, select, project, distinct, sort, group, limit, Phase, plain, partial, final, Binary, union, join, semi_join, ExchangeKind, route_to, round, broadcast, gather, concat, Plan}
+use Rattle.vx_plan_nodes.specs.Plan.{Size, one_worker, group_of, Route, by_hash, by_range, Part, one, any, all, routed, Claim, Side, column, constant, Condition, Aggregate, least, greatest, sum, count_rows, Unary, select, project, distinct, sort, group, limit, Phase, plain, partial, final, by_hashing, by_merging, Binary, union, join, semi_join, ExchangeKind, route_to, round, broadcast, gather, concat, Plan}
 use Rattle.vx_plan_nodes.specs.Plan as plan
 use Rattle.vx_rows_values.specs.Values.{Name}
 use Rattle.vx_plan_nodes.specs.declared.typed.Size as rust_size
@@ -49,7 +50,7 @@ pub data Outline : Type 0 where
   scan : Top → (relation : ℕ) → (shared : Bool) → Size → (prefix : List ℕ) → Outline
   unary : Top → Unary → (renamed : List Bool) → Outline → Outline
   binary : Top → Binary → Outline → Outline → Outline
-  exchange : Top → ExchangeKind → List ℕ → Outline → Outline
+  exchange : Top → ExchangeKind → List OrderEntry → Outline → Outline
 
 -- the node at the top
 abbrev pub top : Outline → Top
@@ -134,8 +135,8 @@ renamed_of (op.Limit n) = []
 
 abbrev pub binary_of : rust_binary.Binary → Binary
 binary_of both.Union = union
-binary_of (both.HashJoin on) = join false on.items
-binary_of (both.MergeJoin on) = join true on.items
+binary_of (both.HashJoin on) = join by_hashing on.items
+binary_of (both.MergeJoin on falls) = join (by_merging falls.items) on.items
 binary_of (both.SemiJoin on conditions) = semi_join true on.items (map condition_of conditions.items)
 binary_of (both.AntiJoin on conditions) = semi_join false on.items (map condition_of conditions.items)
 

@@ -2,7 +2,7 @@
 use Rattle.std.specs.Prelude.{◌≡◌, ℕ, zero, suc, ◌==◌, Bool, true, false, not, ◌&&◌, List, [], ◌∷◌, ◌++◌, map, flat_map, length}
 use Rattle.std.specs.List.{list_all}
 use Rattle.vx_rows_values.specs.Values.{Row, row_eq, pick}
-use Rattle.vx_rows_values.specs.Order.{agree, sort_on}
+use Rattle.vx_rows_values.specs.Order.{order_columns, agree, sort_on}
 use Rattle.vx_rows_values.specs.Bags.{SameRows}
 use Rattle.vx_catalog_relations.specs.Catalog.{all_below}
 use Rattle.vx_plan_nodes.specs.Plan.{partial, final, Aggregate, least, greatest, sum, count_rows, Unary, sort, group, Plan, scan, unary, binary, exchange}
@@ -80,7 +80,7 @@ is_final_of keys aggregates op = false
 
 -- a sort of parts is on columns of the keys; any other operator is the partial
 abbrev pub unary_opens : List ℕ → List Aggregate → Unary → Bool → Bool
-unary_opens keys aggregates (sort true cols) below = all_below (length keys) cols && below
+unary_opens keys aggregates (sort true order) below = all_below (length keys) (order_columns order) && below
 unary_opens keys aggregates op below = is_final_of keys aggregates op
 
 -- the first node from here down that is neither an exchange nor a sort of parts is the partial of this final, and these sorts are on its keys

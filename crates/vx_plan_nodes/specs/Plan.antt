@@ -1,5 +1,7 @@
 -- Typed plans: columns by position, nodes by their numbers in preorder. The exchange is Graefe's: producers below it, consumers above it.
-use Rattle.std.specs.Prelude.{ℕ, ◌==◌, Bool, true, false, List}
+use Rattle.std.specs.Prelude.{ℕ, ◌==◌, Bool, true, false, List, map}
+use Rattle.vx_rows_values.specs.Order.{in_directions}
+use Rattle.vx_rows_values.specs.declared.order.OrderEntry.{OrderEntry}
 use Rattle.vx_rows_values.specs.Values.{Val}
 pub use Rattle.vx_rows_values.specs.Test.{Test, equal, unequal, below, at_most, above, at_least}
 
@@ -20,10 +22,10 @@ pub data Part : Type 0 where
   all : Part
   routed : Route → List ℕ → Part
 
--- an optimizer's note on a node: how its rows lie, on which columns they are sorted, and which lists of columns are keys; columns of the output by position
+-- an optimizer's note on a node: how its rows lie, in which order they are, and which lists of columns are keys; columns of the output by position
 pub record Claim : Type 0 where
   pub part : Part
-  pub order : List ℕ
+  pub order : List OrderEntry
   pub keys : List (List ℕ)
 
 -- the right side of a condition
@@ -57,15 +59,20 @@ pub data Unary : Type 0 where
   select : List Condition → Unary
   project : List ℕ → Unary
   distinct : List ℕ → Unary
-  sort : (of_parts : Bool) → List ℕ → Unary
+  sort : (of_parts : Bool) → List OrderEntry → Unary
   group : Phase → List ℕ → List Aggregate → Unary
   limit : ℕ → Unary
 
--- operators over two inputs; a join by the pairs (left column, right column), by merging or by hashing; and the left rows that some right row matches (a semi join),
+-- how a join finds its pairs of rows: by hashing, or by merging inputs that are both in order on its columns, of each pair whether they fall
+pub data JoinMethod : Type 0 where
+  by_hashing : JoinMethod
+  by_merging : (falls : List Bool) → JoinMethod
+
+-- operators over two inputs; a join by the pairs (left column, right column); and the left rows that some right row matches (a semi join),
 -- or those that none does (an anti join): it agrees on the pairs, and the conditions hold of the left columns and then the right ones
 pub data Binary : Type 0 where
   union : Binary
-  join : (merging : Bool) → List (ℕ × ℕ) → Binary
+  join : JoinMethod → List (ℕ × ℕ) → Binary
   semi_join : (matched : Bool) → List (ℕ × ℕ) → List Condition → Binary
 
 -- how an exchange sends, and to how many; a gather shuffles what it gets, a concat takes the producers in the order of their numbers
@@ -76,12 +83,19 @@ pub data ExchangeKind : Type 0 where
   gather : ExchangeKind
   concat : ExchangeKind
 
--- each node has its number and its claim; an exchange merges on its last list of columns, if that is not empty
+-- each node has its number and its claim; an exchange merges by its order, if that is not empty
 pub data Plan : Type 0 where
   scan : ℕ → Claim → (relation : ℕ) → (shared : Bool) → Size → Plan
   unary : ℕ → Claim → Unary → Plan → Plan
   binary : ℕ → Claim → Binary → Plan → Plan → Plan
-  exchange : ℕ → Claim → ExchangeKind → List ℕ → Plan → Plan
+  exchange : ℕ → Claim → ExchangeKind → List OrderEntry → Plan → Plan
+
+-- the orders in which a join by merging has to have the rows of its left and of its right input
+abbrev pub left_order : (falls : List Bool) → List (ℕ × ℕ) → List OrderEntry
+left_order falls on = in_directions (map (λ x. x.0) on) falls
+
+abbrev pub right_order : (falls : List Bool) → List (ℕ × ℕ) → List OrderEntry
+right_order falls on = in_directions (map (λ x. x.1) on) falls
 
 -- the node at the top
 abbrev pub number : Plan → ℕ

@@ -1,5 +1,6 @@
 -- The run relation: which streams a plan's workers may make together, without packets and order of events (Graefe's exchange).
 use Rattle.std.specs.Prelude.{◌≡◌, ℕ, ◌<◌, true, false, List, Some, Bool}
+use Rattle.vx_rows_values.specs.declared.order.OrderEntry.{OrderEntry}
 use Rattle.vx_rows_values.specs.Values.{Row}
 use Rattle.vx_rows_values.specs.Order.{sorted}
 use Rattle.vx_plan_nodes.specs.Plan.{ExchangeKind, target, Plan, scan, unary, binary, exchange, size, route_to, round, broadcast, gather, concat}
@@ -16,7 +17,7 @@ is_concat gather = false
 is_concat concat = true
 
 -- what each of m producers sends to each of n consumers, and each consumer's shuffle of what it gets; of a concat it is the producers' lists in the order of their numbers
-pub record Exchanges (goes : Routing) (kind : ExchangeKind) (merge : List ℕ) (m n : ℕ) (inputs outputs : Streams) : Type 0 where
+pub record Exchanges (goes : Routing) (kind : ExchangeKind) (merge : List OrderEntry) (m n : ℕ) (inputs outputs : Streams) : Type 0 where
   pub sent : ℕ → Streams
   pub sends : (i : ℕ) → i < m → Sends goes kind n (inputs i) (sent i)
   pub gets : (j : ℕ) → j < n → Dealt m (outputs j) (λ i. sent i j)

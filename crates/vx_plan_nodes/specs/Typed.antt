@@ -1,5 +1,7 @@
 -- Typed plans: each node names what there is, and compares, sums and routes what has the type for it.
 use Rattle.vx_rows_values.specs.Lists.{is_some_list}
+use Rattle.vx_rows_values.specs.declared.order.OrderEntry.{OrderEntry}
+use Rattle.vx_rows_values.specs.Order.{order_columns}
 use Rattle.std.specs.Prelude.{◌≡◌, ℕ, ◌==◌, nat_lt, nat_le, Bool, true, false, not, ◌&&◌, ◌||◌, List, [], ◌∷◌, ◌++◌, length, slice_index_or}
 use Rattle.std.specs.List.{list_all, list_any}
 use Rattle.std.specs.Ordering.{is_lt}
@@ -9,7 +11,7 @@ use Rattle.vx_rows_values.specs.Values.{Val, val_cmp}
 use Rattle.vx_rows_values.specs.Types.{type_of, type_at, is_held}
 use Rattle.vx_catalog_relations.specs.Relation.{Relation}
 use Rattle.vx_catalog_relations.specs.Catalog.{relation_at, all_below, are_distinct}
-use Rattle.vx_plan_nodes.specs.Plan.{Size, one_worker, group_of, Route, by_hash, by_range, Part, routed, Claim, Side, column, constant, Condition, Aggregate, least, greatest, sum, count_rows, Unary, select, project, distinct, sort, group, limit, Binary, union, join, semi_join, ExchangeKind, route_to, round, broadcast, gather, Plan, scan, unary, binary, exchange, concat}
+use Rattle.vx_plan_nodes.specs.Plan.{Size, one_worker, group_of, Route, by_hash, by_range, Part, routed, Claim, Side, column, constant, Condition, Aggregate, least, greatest, sum, count_rows, Unary, select, project, distinct, sort, group, limit, JoinMethod, by_hashing, by_merging, Binary, union, join, semi_join, ExchangeKind, route_to, round, broadcast, gather, Plan, scan, unary, binary, exchange, concat}
 use Rattle.vx_plan_nodes.specs.Types.{types_of}
 use Rattle.vx_plan_nodes.specs.Numbering.{is_numbered}
 use Rattle.vx_plan_nodes.specs.Phases.{phase_fits, both_closed, is_open}
@@ -76,7 +78,7 @@ is_part s types _ = true
 
 -- a claim names output columns, none twice in one list, and a route there is
 abbrev pub is_claim : Scope → List ColType → Claim → Bool
-is_claim s types c = is_part s types c.part && (are_columns (length types) c.order && list_all (are_columns (length types)) c.keys)
+is_claim s types c = is_part s types c.part && (are_columns (length types) (order_columns c.order) && list_all (are_columns (length types)) c.keys)
 
 -- both sides of a condition have one type
 abbrev pub is_side : List ColType → ColType → Side → Bool
@@ -99,7 +101,7 @@ abbrev pub is_unary : List ColType → Unary → Bool
 is_unary types (select cs) = is_some_list cs && list_all (is_condition types) cs
 is_unary types (project cols) = is_some_list cols && all_below (length types) cols
 is_unary types (distinct cols) = is_some_list cols && all_below (length types) cols
-is_unary types (sort of_parts cols) = is_some_list cols && are_columns (length types) cols
+is_unary types (sort of_parts order) = is_some_list order && are_columns (length types) (order_columns order)
 is_unary types (group phase by aggregates) =
     (is_some_list by || is_some_list aggregates) && (are_columns (length types) by && list_all (is_aggregate types) aggregates)
 is_unary types (limit n) = true
@@ -113,10 +115,15 @@ abbrev pub are_distinct_pairs : List (ℕ × ℕ) → Bool
 are_distinct_pairs [] = true
 are_distinct_pairs (x ∷ xs) = not (list_any (λ y. (x.0 == y.0) && (x.1 == y.1)) xs) && are_distinct_pairs xs
 
+-- a merge join has a direction for each pair
+abbrev pub has_directions : JoinMethod → List (ℕ × ℕ) → Bool
+has_directions by_hashing on = true
+has_directions (by_merging falls) on = length falls == length on
+
 -- a union of equal types; a join on some pairs, none twice, and of a semi or an anti join conditions on the left columns and then the right ones
 abbrev pub is_binary : List ColType → List ColType → Binary → Bool
 is_binary ts us union = types_eq ts us
-is_binary ts us (join m on) = is_some_list on && (list_all (is_pair ts us) on && are_distinct_pairs on)
+is_binary ts us (join m on) = is_some_list on && (list_all (is_pair ts us) on && (are_distinct_pairs on && has_directions m on))
 is_binary ts us (semi_join matched on conditions) =
     is_some_list on && (list_all (is_pair ts us) on && (are_distinct_pairs on && list_all (is_condition (ts ++ us)) conditions))
 
@@ -129,9 +136,9 @@ is_kind s types gather = true
 is_kind s types concat = true
 
 -- a concat does not merge
-abbrev pub may_merge : ExchangeKind → List ℕ → Bool
-may_merge concat (c ∷ cols) = false
-may_merge k cols = true
+abbrev pub may_merge : ExchangeKind → List OrderEntry → Bool
+may_merge concat (e ∷ order) = false
+may_merge k order = true
 
 -- not too many output columns, and a claim on them
 abbrev pub is_output : Scope → List ColType → Claim → Bool
@@ -146,7 +153,7 @@ typed s (unary n c op p) =
 typed s (binary n c op p q) =
     typed s p && (typed s q && (both_closed p q && (is_binary (types_of (relation_at s.catalog) p) (types_of (relation_at s.catalog) q) op && is_output s (types_of (relation_at s.catalog) (binary n c op p q)) c)))
 typed s (exchange n c k m p) =
-    typed s p && (is_kind s (types_of (relation_at s.catalog) p) k && (are_columns (length (types_of (relation_at s.catalog) p)) m && (may_merge k m && is_output s (types_of (relation_at s.catalog) p) c)))
+    typed s p && (is_kind s (types_of (relation_at s.catalog) p) k && (are_columns (length (types_of (relation_at s.catalog) p)) (order_columns m) && (may_merge k m && is_output s (types_of (relation_at s.catalog) p) c)))
 
 -- what a typed plan keeps: its ranges are ranges, at most 16 size names, every node is typed, nodes are numbered in preorder from 0, and no partial
 -- grouping is left without its final

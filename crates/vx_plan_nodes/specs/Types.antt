@@ -1,5 +1,6 @@
 -- The types of a plan's output columns, and how many there are.
 use Rattle.std.specs.Prelude.{ℕ, ◌+◌, ◌==◌, ◌&&◌, Bool, List, [], ◌++◌, map, length}
+use Rattle.vx_rows_values.specs.Order.{order_columns}
 use Rattle.std.specs.List.{list_all}
 use Rattle.vx_rows_values.specs.declared.value.ColType.{ColType}
 use Rattle.vx_rows_values.specs.declared.value.ColType.TheVariants.{Int}
@@ -66,7 +67,7 @@ part_columns _ = []
 
 -- a claim names columns of the output
 abbrev pub names_columns : ℕ → Claim → Bool
-names_columns w c = all_below w (part_columns c.part) && (all_below w c.order && list_all (all_below w) c.keys)
+names_columns w c = all_below w (part_columns c.part) && (all_below w (order_columns c.order) && list_all (all_below w) c.keys)
 
 -- the part of being typed that the meaning of claims needs: claims name output columns, the inputs of a union are equally wide, and each final grouping
 -- stands over its partial, each partial under its final

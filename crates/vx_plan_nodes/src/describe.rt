@@ -7,8 +7,8 @@ ghost use Rattle.vx_plan_nodes.specs.DescribeView.{keys_after_of, described_of, 
 ghost use Rattle.vx_plan_nodes.specs.Outline.{unary_of, binary_of};
 
 use crate::typed::{Binary, Phase, Projected, SortPhase, Unary};
-use vx_rows_values::ColType;
 use vx_rows_values::limits::MAX_COLUMNS;
+use vx_rows_values::{ColType, OrderEntry};
 
 /// The columns of its input that an operator keeps.
 #[derive(Clone, Copy)]
@@ -38,8 +38,8 @@ pub enum Copying<'p> {
 #[derive(Clone, Copy)]
 pub enum OrderAfter<'p> {
     Kept,
-    /// They are put in order on these columns.
-    SortedOn(&'p [usize]),
+    /// They are put in this order.
+    SortedOn(&'p [OrderEntry]),
 }
 
 /// What becomes of the keys.
@@ -220,16 +220,16 @@ impl Unary {
                 order: OrderAfter::Kept,
                 keys: KeysAfter::First(kept.len()),
             },
-            Unary::Sort(SortPhase::Plain, columns) => Described {
+            Unary::Sort(SortPhase::Plain, order) => Described {
                 copying: Copying::WholeRows,
                 meets: None,
-                order: OrderAfter::SortedOn(columns.as_slice()),
+                order: OrderAfter::SortedOn(order.as_slice()),
                 keys: KeysAfter::Kept,
             },
-            Unary::Sort(SortPhase::Partial, columns) => Described {
+            Unary::Sort(SortPhase::Partial, order) => Described {
                 copying: Copying::WholeRows,
                 meets: None,
-                order: OrderAfter::SortedOn(columns.as_slice()),
+                order: OrderAfter::SortedOn(order.as_slice()),
                 keys: KeysAfter::NoKey,
             },
             Unary::Group(Phase::Plain, by, _) | Unary::Group(Phase::Final, by, _) => Described {
@@ -265,7 +265,7 @@ impl Binary {
                 right: Copying::WholeRows,
                 meeting: Meeting::SideBySide,
             },
-            Binary::HashJoin(on) | Binary::MergeJoin(on) => DescribedBoth {
+            Binary::HashJoin(on) | Binary::MergeJoin(on, _) => DescribedBoth {
                 left: Copying::Left(left),
                 right: Copying::Right(left),
                 meeting: Meeting::PairedOn(on.as_slice()),

@@ -6,7 +6,7 @@ ghost use Rattle.vx_plan_nodes.specs.Plan.{claim, number, size, target};
 
 use crate::name::Name;
 use std::sync::Arc;
-use vx_rows_values::{ColType, Test, Value};
+use vx_rows_values::{ColType, OrderEntry, Test, Value};
 
 /// How many workers: one, or as many as a declared size name is bound to, by the name's number.
 #[derive(Clone, Copy, PartialEq, Eq)]
@@ -42,8 +42,8 @@ pub enum Part {
 /// An optimizer's note, over the columns of the node's output.
 pub struct Claim {
     pub part: Part,
-    /// The columns on which each stream is sorted, the first before the second.
-    pub order: Vec<usize>,
+    /// The order in which each stream is sorted.
+    pub order: Vec<OrderEntry>,
     /// Lists of columns on which no two rows agree.
     pub keys: Vec<Vec<usize>>,
 }
@@ -170,8 +170,8 @@ pub enum Unary {
     Project(Vec<Projected>),
     /// These columns of each row, each list of values once.
     Distinct(Vec<Projected>),
-    /// The rows in ascending order on these columns; rows that are equal on them keep theirs.
-    Sort(SortPhase, Vec<usize>),
+    /// The rows in this order; rows that are equal on its columns stay as they stood.
+    Sort(SortPhase, Vec<OrderEntry>),
     /// For each key the values in these columns, and then the aggregates of its rows.
     Group(Phase, Vec<usize>, Vec<Aggregate>),
     /// So many first rows, or all if there are fewer.
@@ -198,7 +198,8 @@ impl Drop for Unary {
 pub enum Binary {
     Union,
     HashJoin(Vec<(usize, usize)>),
-    MergeJoin(Vec<(usize, usize)>),
+    /// Over inputs that are both in order on the pairs' columns: of each pair, whether they fall.
+    MergeJoin(Vec<(usize, usize)>, Vec<bool>),
     /// The left rows that some right row matches.
     SemiJoin(Vec<(usize, usize)>, Vec<Condition>),
     /// The left rows that no right row matches.
@@ -210,7 +211,7 @@ impl Drop for Binary {
         match self {
             Binary::Union => {}
             Binary::HashJoin(_) => {}
-            Binary::MergeJoin(_) => {}
+            Binary::MergeJoin(_, _) => {}
             Binary::SemiJoin(_, _) => {}
             Binary::AntiJoin(_, _) => {}
         }
@@ -246,10 +247,10 @@ impl ExchangeKind {
     }
 }
 
-/// An exchange. It merges on these columns, if there are any.
+/// An exchange. It merges by this order, if it has an entry.
 pub struct Exchange {
     pub kind: ExchangeKind,
-    pub merge: Vec<usize>,
+    pub merge: Vec<OrderEntry>,
 }
 
 impl Drop for Exchange {

@@ -1,18 +1,21 @@
 -- The first clash, from the positions of rows in order: rows that agree are neighbours there, the earlier one first.
-use Rattle.std.proofs.Common.{◌≡◌, ℕ, zero, suc, ◌+◌, ◌-◌, ◌<◌, ◌≤◌, Bool, true, false, cond, ltb, List, [], ◌∷◌, ◌++◌, length, get_or, filter, Option, Some, None, refl, sym, ap, ◌∙◌, subst, arith, inl, inr, true≢false, is_le, append_assoc, zero-le}
+use Rattle.std.proofs.Common.{◌≡◌, ℕ, zero, suc, ◌+◌, ◌-◌, ◌<◌, ◌≤◌, Bool, true, false, cond, ltb, List, [], ◌∷◌, ◌++◌, length, get_or, filter, Option, Some, None, refl, sym, ap, ◌∙◌, subst, arith, inl, inr, true≢false, Ordering, is_le, is_eq, append_assoc, zero-le}
 use Rattle.std.specs.List.{AllByRecursion}
 use Rattle.std.proofs.lemmas.Bool.{cases_lt}
 use Rattle.std.proofs.lemmas.List.Elements.{filter-append}
+use Rattle.std.specs.Cmp.{IsTotalOrder}
+use Rattle.std.proofs.lemmas.Cmp.{on_total}
 use Rattle.vx_rows_values.specs.Values.{Row, row_cmp, pick}
+use Rattle.vx_rows_values.specs.Order.{rising}
 use Rattle.std.proofs.lemmas.Bool.{ltb-true, ltb-false}
 use Rattle.vx_rows_values.specs.Keys.{first_clash, earlier_clash}
 use Rattle.vx_rows.specs.Lists.{each_below}
-use Rattle.vx_rows.specs.Sorting.{order_on}
+use Rattle.vx_rows.specs.Sorting.{sort_by, order_on}
 use Rattle.vx_rows.specs.View.{ArePositions}
-use Rattle.vx_rows_values.proofs.Compare.{row_cmp_total, row_le-trans, row_eq-refl, agree-both}
+use Rattle.vx_rows_values.proofs.Compare.{row_cmp_total, compare_on-rising, agree-both}
 use Rattle.vx_rows_values.proofs.Booleans.{and-left, and-right}
 use Rattle.vx_rows.proofs.Below.{all_push}
-use Rattle.vx_rows.proofs.SortFacts.{ordered, same_rank, alike, low, eq-le, both-le, sort-is-sorted, sort-alike}
+use Rattle.vx_rows.proofs.SortFacts.{ordered, alike, low, eq-le, both-le, cmp-trans, same-self, sort-is-sorted, sort-alike}
 use Rattle.vx_rows.proofs.PlaceFacts.{order-there}
 use Rattle.vx_rows_values.proofs.ClashFacts.{meet, Apart, IsFirst, clash-none, clash-some}
 
@@ -77,14 +80,14 @@ record Behind (z : ℕ) (xs : List ℕ) : Type 0 where
   pub is : xs ≡ first ∷ between ++ z ∷ after
 
 -- the element right before z in a list
-record Before (rank : ℕ → Row) (z : ℕ) (ys : List ℕ) : Type 0 where
+record Before (cmp : ℕ → ℕ → Ordering) (z : ℕ) (ys : List ℕ) : Type 0 where
   pub at : ℕ
   pub near : suc at < length ys
   pub is : get_or ys (suc at) 0 ≡ z
-  pub same : same_rank rank z (get_or ys at 0) ≡ true
+  pub same : is_eq (cmp z (get_or ys at 0)) ≡ true
 
-before-cons : (rank : ℕ → Row) (z y : ℕ) (ys : List ℕ) → Before rank z ys → Before rank z (y ∷ ys)
-before-cons rank z y ys b = let near = b.near in record { at = suc b.at; near = omega (arith, near); is = b.is; same = b.same }
+before-cons : (cmp : ℕ → ℕ → Ordering) (z y : ℕ) (ys : List ℕ) → Before cmp z ys → Before cmp z (y ∷ ys)
+before-cons cmp z y ys b = let near = b.near in record { at = suc b.at; near = omega (arith, near); is = b.is; same = b.same }
 
 abbrev tail-of : List ℕ → List ℕ
 tail-of [] = []
@@ -94,74 +97,74 @@ abbrev head-of : List ℕ → ℕ
 head-of [] = 0
 head-of (x ∷ xs) = x
 
-module _ (rank : ℕ → Row) where
-  -- in an ordered list z stands right behind an element of its rank, if one comes before it
-  next-is : (z y : ℕ) (ys after : List ℕ) → ordered rank (y ∷ ys) ≡ true → same_rank rank z y ≡ true → alike rank z ys ≡ z ∷ after → Before rank z (y ∷ ys)
+module _ (cmp : ℕ → ℕ → Ordering) (total : IsTotalOrder cmp) where
+  -- in an ordered list z stands right behind an equal element, if one comes before it
+  next-is : (z y : ℕ) (ys after : List ℕ) → ordered cmp (y ∷ ys) ≡ true → is_eq (cmp z y) ≡ true → alike cmp z ys ≡ z ∷ after → Before cmp z (y ∷ ys)
   next-is z y [] after o s e = absurd (cc e)
-  next-is z y (x ∷ xs) after o s e = step (same_rank rank z x) refl e
+  next-is z y (x ∷ xs) after o s e = step (is_eq (cmp z x)) refl e
     where
-      step : (b : Bool) → same_rank rank z x ≡ b → cond b (x ∷ alike rank z xs) (alike rank z xs) ≡ z ∷ after → Before rank z (y ∷ x ∷ xs)
+      step : (b : Bool) → is_eq (cmp z x) ≡ b → cond b (x ∷ alike cmp z xs) (alike cmp z xs) ≡ z ∷ after → Before cmp z (y ∷ x ∷ xs)
       step true t f = record { at = 0; near = omega arith; is = ap head-of f; same = s }
       step false t f =
-          let up : is_le (row_cmp (rank y) (rank x)) ≡ true = and-left _ _ (and-left _ _ o) in
-          let rest : ordered rank (x ∷ xs) ≡ true = and-right _ _ o in
-          let down : is_le (row_cmp (rank x) (rank z)) ≡ true = low rank x z xs (and-left _ _ rest) z after f in
-          let back : is_le (row_cmp (rank z) (rank x)) ≡ true = row_le-trans (rank z) (rank y) (rank x) (eq-le _ s) up in
-          let meets : same_rank rank z x ≡ true = both-le _ _ (row_cmp_total.antisymm (rank z) (rank x)) back down in
+          let up : is_le (cmp y x) ≡ true = and-left _ _ (and-left _ _ o) in
+          let rest : ordered cmp (x ∷ xs) ≡ true = and-right _ _ o in
+          let down : is_le (cmp x z) ≡ true = low cmp total x z xs (and-left _ _ rest) z after f in
+          let back : is_le (cmp z x) ≡ true = cmp-trans cmp total z y x (eq-le _ s) up in
+          let meets : is_eq (cmp z x) ≡ true = both-le _ _ (total.antisymm z x) back down in
           absurd (true≢false (sym meets ∙ t))
 
-  before-in : (z : ℕ) (ys : List ℕ) (first : ℕ) (between after : List ℕ) → ordered rank ys ≡ true → alike rank z ys ≡ first ∷ between ++ z ∷ after → Before rank z ys
+  before-in : (z : ℕ) (ys : List ℕ) (first : ℕ) (between after : List ℕ) → ordered cmp ys ≡ true → alike cmp z ys ≡ first ∷ between ++ z ∷ after → Before cmp z ys
   before-in z [] first between after o e = absurd (cc e)
   before-in z (y ∷ ys) first between after o e =
-      step (same_rank rank z y) between refl e (before-in z ys first between after (and-right _ _ o)) (λ next more. before-in z ys next more after (and-right _ _ o)) refl
+      step (is_eq (cmp z y)) between refl e (before-in z ys first between after (and-right _ _ o)) (λ next more. before-in z ys next more after (and-right _ _ o)) refl
     where
-      step : (b : Bool) (more : List ℕ) → same_rank rank z y ≡ b → cond b (y ∷ alike rank z ys) (alike rank z ys) ≡ first ∷ more ++ z ∷ after
-          → (alike rank z ys ≡ first ∷ between ++ z ∷ after → Before rank z ys)
-          → ((next : ℕ) (rest : List ℕ) → alike rank z ys ≡ next ∷ rest ++ z ∷ after → Before rank z ys)
-          → more ≡ between → Before rank z (y ∷ ys)
+      step : (b : Bool) (more : List ℕ) → is_eq (cmp z y) ≡ b → cond b (y ∷ alike cmp z ys) (alike cmp z ys) ≡ first ∷ more ++ z ∷ after
+          → (alike cmp z ys ≡ first ∷ between ++ z ∷ after → Before cmp z ys)
+          → ((next : ℕ) (rest : List ℕ) → alike cmp z ys ≡ next ∷ rest ++ z ∷ after → Before cmp z ys)
+          → more ≡ between → Before cmp z (y ∷ ys)
       step true [] s f r q w = next-is z y ys after o s (ap tail-of f)
-      step true (u ∷ us) s f r q w = before-cons rank z y ys (q u us (ap tail-of f))
-      step false more s f r q w = before-cons rank z y ys (r (f ∙ ap (λ l. first ∷ l ++ z ∷ after) w))
+      step true (u ∷ us) s f r q w = before-cons cmp z y ys (q u us (ap tail-of f))
+      step false more s f r q w = before-cons cmp z y ys (r (f ∙ ap (λ l. first ∷ l ++ z ∷ after) w))
 
-  some-pass : (i n z : ℕ) → i < n → same_rank rank z i ≡ true → (first : ℕ) × (rest : List ℕ) × (alike rank z (each_below n (λ k. k)) ≡ first ∷ rest)
+  some-pass : (i n z : ℕ) → i < n → is_eq (cmp z i) ≡ true → (first : ℕ) × (rest : List ℕ) × (alike cmp z (each_below n (λ k. k)) ≡ first ∷ rest)
   unfolding each_below
   some-pass i zero z h s = absurd (omega arith)
   some-pass i (suc n) z h s =
       let numbers = each_below n (λ k. k) in
-      let e = filter-append (same_rank rank z) numbers (n ∷ []) in
+      let e = filter-append (λ k. is_eq (cmp z k)) numbers (n ∷ []) in
       elim (cases_lt i n) [
-        | inl l ↦ let p = some-pass i n z l s in (p.0, p.1 ++ alike rank z (n ∷ []), e ∙ ap (λ l. l ++ alike rank z (n ∷ [])) p.2)
+        | inl l ↦ let p = some-pass i n z l s in (p.0, p.1 ++ alike cmp z (n ∷ []), e ∙ ap (λ l. l ++ alike cmp z (n ∷ [])) p.2)
         | inr g ↦
             let same : i ≡ n = omega arith in
-            let here : alike rank z (n ∷ []) ≡ n ∷ [] = ap (λ b. cond b (n ∷ []) []) (ap (same_rank rank z) (sym same) ∙ s) in
-            let p = first-of (alike rank z numbers) n in
-            (p.0, p.1, e ∙ (ap (λ l. alike rank z numbers ++ l) here ∙ p.2))
+            let here : alike cmp z (n ∷ []) ≡ n ∷ [] = ap (λ b. cond b (n ∷ []) []) (ap (λ k. is_eq (cmp z k)) (sym same) ∙ s) in
+            let p = first-of (alike cmp z numbers) n in
+            (p.0, p.1, e ∙ (ap (λ l. alike cmp z numbers ++ l) here ∙ p.2))
       ]
     where
       first-of : (xs : List ℕ) (n : ℕ) → (first : ℕ) × (rest : List ℕ) × (xs ++ n ∷ [] ≡ first ∷ rest)
       first-of [] n = (n, [], refl)
       first-of (x ∷ xs) n = (x, xs ++ n ∷ [], refl)
 
-  behind : (i j n : ℕ) → i < j → j < n → same_rank rank j i ≡ true → Behind j (alike rank j (each_below n (λ k. k)))
+  behind : (i j n : ℕ) → i < j → j < n → is_eq (cmp j i) ≡ true → Behind j (alike cmp j (each_below n (λ k. k)))
   unfolding each_below
   behind i j zero h l s = absurd (omega arith)
   behind i j (suc n) h l s =
       let numbers = each_below n (λ k. k) in
-      let e = filter-append (same_rank rank j) numbers (n ∷ []) in
+      let e = filter-append (λ k. is_eq (cmp j k)) numbers (n ∷ []) in
       elim (cases_lt j n) [
         | inl m ↦
             let b = behind i j n h m s in
             record {
               first = b.first;
               between = b.between;
-              after = b.after ++ alike rank j (n ∷ []);
-              is = e ∙ (ap (λ l. l ++ alike rank j (n ∷ [])) b.is ∙ ap (λ l. b.first ∷ l) (append_assoc b.between (j ∷ b.after) (alike rank j (n ∷ []))));
+              after = b.after ++ alike cmp j (n ∷ []);
+              is = e ∙ (ap (λ l. l ++ alike cmp j (n ∷ [])) b.is ∙ ap (λ l. b.first ∷ l) (append_assoc b.between (j ∷ b.after) (alike cmp j (n ∷ []))));
             }
         | inr g ↦
             let same : j ≡ n = omega arith in
             let p = some-pass i n j (omega arith) s in
-            let here : alike rank j (n ∷ []) ≡ j ∷ [] = ap (λ k. alike rank j (k ∷ [])) (sym same) ∙ ap (λ b. cond b (j ∷ []) []) (row_eq-refl (rank j)) in
-            record { first = p.0; between = p.1; after = []; is = e ∙ (ap (λ l. l ++ alike rank j (n ∷ [])) p.2 ∙ ap (λ l. p.0 ∷ p.1 ++ l) here) }
+            let here : alike cmp j (n ∷ []) ≡ j ∷ [] = ap (λ k. alike cmp j (k ∷ [])) (sym same) ∙ ap (λ b. cond b (j ∷ []) []) (same-self cmp total j) in
+            record { first = p.0; between = p.1; after = []; is = e ∙ (ap (λ l. l ++ alike cmp j (n ∷ [])) p.2 ∙ ap (λ l. p.0 ∷ p.1 ++ l) here) }
       ]
 
 not-so : (b : Bool) → (b ≡ true → ⊥) → b ≡ false
@@ -170,8 +173,15 @@ not-so false h = refl
 
 -- what a walk over the neighbours below k has found: nothing that agrees, or of all that agree the least second
 module _ (cols : List ℕ) (rows : List Row) where
-  abbrev rank : ℕ → Row
-  rank i = pick cols (get_or rows i [])
+  abbrev compare : ℕ → ℕ → Ordering
+  compare i j = row_cmp (pick cols (get_or rows i [])) (pick cols (get_or rows j []))
+
+  compare_total : IsTotalOrder compare
+  compare_total = on_total (λ i. pick cols (get_or rows i [])) row_cmp_total
+
+  -- on rising columns rows are in the order of their values there
+  by-values : order_on (rising cols) rows ≡ sort_by compare (each_below (length rows) (λ k. k))
+  by-values = λ t. sort_by (λ i j. compare_on-rising cols (get_or rows i []) (get_or rows j []) t) (each_below (length rows) (λ k. k))
 
   pub record Found (ps : List ℕ) (k : ℕ) (p : ℕ × ℕ) : Type 0 where
     pub at : ℕ
@@ -186,33 +196,34 @@ module _ (cols : List ℕ) (rows : List Row) where
   Least ps k (Some p) = Found ps k p
 
   -- rows that agree: the later one has a neighbour before it that agrees
-  neighbour : (ps : List ℕ) → ps ≡ order_on cols rows → (i j : ℕ) → i < j → j < length rows → meet cols rows j i ≡ true → Before rank j ps
+  neighbour : (ps : List ℕ) → ps ≡ order_on (rising cols) rows → (i j : ℕ) → i < j → j < length rows → meet cols rows j i ≡ true → Before compare j ps
   neighbour ps e i j h l m =
       let numbers = each_below (length rows) (λ k. k) in
-      let b = behind rank i j (length rows) h l m in
-      let found = before-in rank j (order_on cols rows) b.first b.between b.after (sort-is-sorted rank numbers) (sort-alike rank j numbers ∙ b.is) in
-      subst (λ (qs : List ℕ). Before rank j qs) (sym e) found
+      let b = behind compare compare_total i j (length rows) h l m in
+      let found = before-in compare compare_total j (sort_by compare numbers) b.first b.between b.after (sort-is-sorted compare compare_total numbers) (sort-alike compare compare_total j numbers ∙ b.is) in
+      subst (λ (qs : List ℕ). Before compare j qs) (sym (e ∙ by-values)) found
 
-  agrees-there : (ps : List ℕ) (j : ℕ) (b : Before rank j ps) → meet cols rows (get_or ps (suc b.at) 0) (get_or ps b.at 0) ≡ true
+  agrees-there : (ps : List ℕ) (j : ℕ) (b : Before compare j ps) → meet cols rows (get_or ps (suc b.at) 0) (get_or ps b.at 0) ≡ true
   agrees-there ps j b = ap (λ q. meet cols rows q (get_or ps b.at 0)) b.is ∙ b.same
 
   -- neighbours that agree stand in the order of their positions
-  rises : (ps : List ℕ) → ps ≡ order_on cols rows → (k : ℕ) → suc k < length ps → meet cols rows (get_or ps (suc k) 0) (get_or ps k 0) ≡ true → get_or ps k 0 < get_or ps (suc k) 0
+  rises : (ps : List ℕ) → ps ≡ order_on (rising cols) rows → (k : ℕ) → suc k < length ps → meet cols rows (get_or ps (suc k) 0) (get_or ps k 0) ≡ true → get_or ps k 0 < get_or ps (suc k) 0
   rises ps e k h m =
       let numbers = each_below (length rows) (λ i. i) in
       let q = get_or ps (suc k) 0 in
-      let same : alike rank q ps ≡ alike rank q numbers = ap (alike rank q) e ∙ sort-alike rank q numbers in
-      neighbours-rise (same_rank rank q) ps k (subst Rising (sym same) (rising-filter (same_rank rank q) numbers (numbers-rise (length rows)))) h m (row_eq-refl (rank q))
+      let alikes : ℕ → Bool = λ i. is_eq (compare q i) in
+      let same : alike compare q ps ≡ alike compare q numbers = ap (alike compare q) (e ∙ by-values) ∙ sort-alike compare compare_total q numbers in
+      neighbours-rise alikes ps k (subst Rising (sym same) (rising-filter alikes numbers (numbers-rise (length rows)))) h m (same-self compare compare_total q)
 
-  none-found : (ps : List ℕ) → ps ≡ order_on cols rows → Least ps (length ps) None → Apart cols rows (length rows)
+  none-found : (ps : List ℕ) → ps ≡ order_on (rising cols) rows → Least ps (length ps) None → Apart cols rows (length rows)
   none-found ps e f i j h l = not-so _ (λ m. let b = neighbour ps e i j h l m in true≢false (sym (agrees-there ps j b) ∙ f b.at b.near))
 
-  one-found : (ps : List ℕ) (p : ℕ × ℕ) → ps ≡ order_on cols rows → Found ps (length ps) p → IsFirst cols rows p.0 p.1
+  one-found : (ps : List ℕ) (p : ℕ × ℕ) → ps ≡ order_on (rising cols) rows → Found ps (length ps) p → IsFirst cols rows p.0 p.1
   one-found ps p e f =
       let first = f.first in
       let second = f.second in
       let up = rises ps e f.at f.near f.agrees in
-      let there = subst (λ (qs : List ℕ). ArePositions (length rows) qs) (sym e) (order-there cols rows) (suc f.at) 0 f.near in
+      let there = subst (λ (qs : List ℕ). ArePositions (length rows) qs) (sym e) (order-there (rising cols) rows) (suc f.at) 0 f.near in
       let meets : meet cols rows p.1 p.0 ≡ true = ap (λ a. meet cols rows a p.0) second ∙ (ap (λ b. meet cols rows (get_or ps (suc f.at) 0) b) first ∙ f.agrees) in
       record {
         order = omega (arith, first, second, up);
@@ -231,7 +242,7 @@ module _ (cols : List ℕ) (rows : List Row) where
             omega (arith, least, is, first, second, up));
       }
 
-  pub least-is : (ps : List ℕ) (best : Option (ℕ × ℕ)) → ps ≡ order_on cols rows → Least ps (length ps) best → best ≡ first_clash cols rows
+  pub least-is : (ps : List ℕ) (best : Option (ℕ × ℕ)) → ps ≡ order_on (rising cols) rows → Least ps (length ps) best → best ≡ first_clash cols rows
   least-is ps None e f = sym (clash-none cols [] rows (none-found ps e f))
   least-is ps (Some p) e f = sym (clash-some cols [] rows p.0 p.1 (one-found ps p e f) zero-le)
 

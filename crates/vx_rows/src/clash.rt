@@ -1,17 +1,18 @@
 //! The first clash of rows on the columns of a key.
 
 ghost use Rattle.std.specs.Prelude.{◌≡◌, ◌<◌, length, None, true, IfOk, IfSome, IsOk, IsTrue, if◌then◌else◌};
-ghost use Rattle.vx_rows_values.specs.Order.{agree, sorted};
+ghost use Rattle.vx_rows_values.specs.Order.{rising, compare_on, agree, sorted};
 ghost use Rattle.vx_rows_values.specs.Keys.{first_clash, earlier_clash};
 ghost use Rattle.vx_rows.specs.Numbers.{AreKeyNumbers};
 ghost use Rattle.vx_rows.specs.Sorting.{order_on};
 ghost use Rattle.vx_rows.specs.View.{row, AreColumns};
 
 use crate::numbers::Numbers;
-use crate::sorting::compare_on;
 use crate::spans::{first_equal, span_of};
 use crate::table::Table;
 use std::alloc::{AllocError, Global};
+use std::cmp::Ordering;
+use vx_rows_values::{compare_cells, rising};
 
 // The clash found before, or this one where its second row comes first.
 fn earlier(best: Option<(usize, usize)>, first: usize, second: usize) -> Option<(usize, usize)>
@@ -30,6 +31,22 @@ fn earlier(best: Option<(usize, usize)>, first: usize, second: usize) -> Option<
 }
 
 impl Table {
+    // Compares the rows at two positions in these columns, all of them rising.
+    fn compare_columns(&self, cols: &[usize], i: usize, j: usize) -> Ordering
+        requires columns { AreColumns (length self.now.types) cols.now }
+        requires first { i < length self.now.rows }
+        requires second { j < length self.now.rows }
+        ensures { result ≡ compare_on (rising cols.now) (row self.now i) (row self.now j) }
+    {
+        for c in cols {
+            match compare_cells(self.cell(i, *c), self.cell(j, *c)) {
+                Ordering::Equal => {}
+                other => return other,
+            }
+        }
+        Ordering::Equal
+    }
+
     // The clash found before, or that of these two rows where they agree and the second of them comes first.
     fn with_pair(
         &self,
@@ -43,7 +60,7 @@ impl Table {
         requires second { second < length self.now.rows }
         ensures { result ≡ (if agree cols.now (row self.now second) (row self.now first) then earlier_clash best first second else best) }
     {
-        if compare_on(cols, self, second, self, first).is_eq() {
+        if self.compare_columns(cols, second, first).is_eq() {
             earlier(best, first, second)
         } else {
             best
@@ -54,10 +71,10 @@ impl Table {
     fn rises(&self, cols: &[usize]) -> bool
         requires { AreColumns (length self.now.types) cols.now }
         ensures apart { IsTrue result → first_clash cols.now self.now.rows ≡ None }
-        ensures rising { sorted cols.now self.now.rows ≡ true → first_clash cols.now self.now.rows ≡ None → IsTrue result }
+        ensures rising { sorted (rising cols.now) self.now.rows ≡ true → first_clash cols.now self.now.rows ≡ None → IsTrue result }
     {
         for i in 1..self.len() {
-            if !compare_on(cols, self, i - 1, self, i).is_lt() {
+            if !self.compare_columns(cols, i - 1, i).is_lt() {
                 return false;
             }
         }
@@ -67,7 +84,7 @@ impl Table {
     // The first clash, from the positions of the rows in order: rows that agree are neighbours there.
     fn least_clash(&self, cols: &[usize], positions: &[usize]) -> Option<(usize, usize)>
         requires columns { AreColumns (length self.now.types) cols.now }
-        requires order { positions.now ≡ order_on cols.now self.now.rows }
+        requires order { positions.now ≡ order_on (rising cols.now) self.now.rows }
         ensures { result ≡ first_clash cols.now self.now.rows }
     {
         let mut best = None;
@@ -97,7 +114,8 @@ impl Table {
         requires { AreColumns (length self.now.types) cols.now }
         ensures { IfOk result (λ o. o ≡ first_clash cols.now self.now.rows) }
     {
-        let positions = self.sorted_positions(alloc, cols)?;
+        let order = rising(alloc, cols)?;
+        let positions = self.sorted_positions(alloc, order.as_slice())?;
         Ok(self.least_clash(cols, positions.as_slice()))
     }
 
@@ -128,7 +146,7 @@ impl Table {
     ) -> Result<Option<(usize, usize)>, AllocError>
         requires { AreColumns (length self.now.types) cols.now }
         ensures clash { IfOk result (λ o. o ≡ first_clash cols.now self.now.rows) }
-        ensures rising { sorted cols.now self.now.rows ≡ true → first_clash cols.now self.now.rows ≡ None → IsOk result }
+        ensures rising { sorted (rising cols.now) self.now.rows ≡ true → first_clash cols.now self.now.rows ≡ None → IsOk result }
     {
         if self.rises(cols) {
             return Ok(None);

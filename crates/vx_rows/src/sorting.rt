@@ -2,9 +2,9 @@
 
 ghost use Rattle.std.specs.Prelude.{◌≡◌, ◌-◌, ◌<◌, length, map, IfOk};
 ghost use Rattle.std.specs.Ordering.{is_lt};
-ghost use Rattle.vx_rows_values.specs.Values.{row_cmp, value_at};
-ghost use Rattle.vx_rows_values.specs.Order.{compare_on, sorted, sort_on};
-ghost use Rattle.vx_rows.specs.Sorting.{sort_by, order_on, first_number, place_of, place_rank};
+ghost use Rattle.vx_rows_values.specs.Values.{value_at};
+ghost use Rattle.vx_rows_values.specs.Order.{order_columns, compare_on, sorted, sort_on};
+ghost use Rattle.vx_rows.specs.Sorting.{sort_by, order_on, first_number, first_falls, place_of, compare_places};
 ghost use Rattle.vx_rows.specs.Lists.{each_below};
 ghost use Rattle.vx_rows_values.specs.ValueView.{cell_val};
 ghost use Rattle.vx_rows.specs.View.{row, AreColumns, ArePositions};
@@ -12,18 +12,18 @@ ghost use Rattle.vx_rows.specs.View.{row, AreColumns, ArePositions};
 use crate::table::Table;
 use std::alloc::{AllocError, Global};
 use std::cmp::Ordering;
-use vx_rows_values::{Cell, compare_cells};
+use vx_rows_values::{Cell, OrderEntry};
 
-/// Compares two rows column by column: numbers by size, texts by their bytes.
-pub fn compare_on(cols: &[usize], a: &Table, i: usize, b: &Table, j: usize) -> Ordering
+/// Compares two rows entry by entry: numbers by size, texts by their bytes.
+pub fn compare_on(order: &[OrderEntry], a: &Table, i: usize, b: &Table, j: usize) -> Ordering
     requires types { a.now.types ≡ b.now.types }
-    requires columns { AreColumns (length a.now.types) cols.now }
+    requires columns { AreColumns (length a.now.types) (order_columns order.now) }
     requires a { i < length a.now.rows }
     requires b { j < length b.now.rows }
-    ensures { result ≡ compare_on cols.now (row a.now i) (row b.now j) }
+    ensures { result ≡ compare_on order.now (row a.now i) (row b.now j) }
 {
-    for c in cols {
-        match compare_cells(a.cell(i, *c), b.cell(j, *c)) {
+    for entry in order {
+        match entry.compare(a.cell(i, entry.column), b.cell(j, entry.column)) {
             Ordering::Equal => {}
             other => return other,
         }
@@ -33,29 +33,39 @@ pub fn compare_on(cols: &[usize], a: &Table, i: usize, b: &Table, j: usize) -> O
 
 /// Where a row stands, with a number by which most rows are told apart without reading them.
 #[derive(Clone, Copy)]
-pub(crate) struct SortEntry {
+pub(crate) struct SortPlace {
     first: i64,
     position: usize,
 }
 
+// Whether the first column of the order falls.
+fn starts_falling(order: &[OrderEntry]) -> bool
+    ensures { result ≡ first_falls order.now }
+{
+    match order {
+        [] => false,
+        [entry, ..] => entry.falling,
+    }
+}
+
 impl Table {
     // Whether the row at a position is smaller than the one before it.
-    fn falls(&self, cols: &[usize], i: usize) -> bool
+    fn falls(&self, order: &[OrderEntry], i: usize) -> bool
         requires later { 0 < i }
         requires near { i < length self.now.rows }
-        requires columns { AreColumns (length self.now.types) cols.now }
-        ensures { result ≡ is_lt (compare_on cols.now (row self.now i) (row self.now (i - 1))) }
+        requires columns { AreColumns (length self.now.types) (order_columns order.now) }
+        ensures { result ≡ is_lt (compare_on order.now (row self.now i) (row self.now (i - 1))) }
     {
-        compare_on(cols, self, i, self, i - 1).is_lt()
+        compare_on(order, self, i, self, i - 1).is_lt()
     }
 
     /// Whether no row is smaller than an earlier one.
-    pub fn is_sorted(&self, cols: &[usize]) -> bool
-        requires { AreColumns (length self.now.types) cols.now }
-        ensures { result ≡ sorted cols.now self.now.rows }
+    pub fn is_sorted(&self, order: &[OrderEntry]) -> bool
+        requires { AreColumns (length self.now.types) (order_columns order.now) }
+        ensures { result ≡ sorted order.now self.now.rows }
     {
         for i in 1..self.len() {
-            if self.falls(cols, i) {
+            if self.falls(order, i) {
                 return false;
             }
         }
@@ -75,12 +85,14 @@ impl Table {
     }
 
     // Compares the rows at two positions, past the last row a row of no values.
-    fn compare_rows(&self, cols: &[usize], i: usize, j: usize) -> Ordering
-        requires { AreColumns (length self.now.types) cols.now }
-        ensures { result ≡ compare_on cols.now (row self.now i) (row self.now j) }
+    fn compare_rows(&self, order: &[OrderEntry], i: usize, j: usize) -> Ordering
+        requires { AreColumns (length self.now.types) (order_columns order.now) }
+        ensures { result ≡ compare_on order.now (row self.now i) (row self.now j) }
     {
-        for c in cols {
-            match compare_cells(self.cell_or_zero(i, *c), self.cell_or_zero(j, *c)) {
+        for entry in order {
+            let a = self.cell_or_zero(i, entry.column);
+            let b = self.cell_or_zero(j, entry.column);
+            match entry.compare(a, b) {
                 Ordering::Equal => {}
                 other => return other,
             }
@@ -88,26 +100,37 @@ impl Table {
         Ordering::Equal
     }
 
-    // Compares two places by their numbers, and then by the rows there.
-    fn compare_places(&self, cols: &[usize], a: &SortEntry, b: &SortEntry) -> Ordering
-        requires { AreColumns (length self.now.types) cols.now }
-        ensures { result ≡ row_cmp (place_rank cols.now self.now.rows a.now) (place_rank cols.now self.now.rows b.now) }
+    // Compares two places by their numbers, rising or falling, and then by the rows there.
+    fn compare_places(
+        &self,
+        falling: bool,
+        order: &[OrderEntry],
+        a: &SortPlace,
+        b: &SortPlace,
+    ) -> Ordering
+        requires { AreColumns (length self.now.types) (order_columns order.now) }
+        ensures { result ≡ compare_places falling order.now self.now.rows a.now b.now }
     {
-        match a.first.cmp(&b.first) {
-            Ordering::Equal => self.compare_rows(cols, a.position, b.position),
+        let numbers = if falling {
+            b.first.cmp(&a.first)
+        } else {
+            a.first.cmp(&b.first)
+        };
+        match numbers {
+            Ordering::Equal => self.compare_rows(order, a.position, b.position),
             other => other,
         }
     }
 
-    // The number of a row in the first of these columns, 0 where that is a text or there is none.
-    fn first_number(&self, cols: &[usize], i: usize) -> i64
-        requires columns { AreColumns (length self.now.types) cols.now }
+    // The number of a row in the first column of the order, 0 where that is a text or there is none.
+    fn first_number(&self, order: &[OrderEntry], i: usize) -> i64
+        requires columns { AreColumns (length self.now.types) (order_columns order.now) }
         requires row { i < length self.now.rows }
-        ensures { result ≡ first_number cols.now (row self.now i) }
+        ensures { result ≡ first_number order.now (row self.now i) }
     {
-        match cols {
+        match order {
             [] => 0,
-            [column, ..] => match self.cell(i, *column) {
+            [entry, ..] => match self.cell(i, entry.column) {
                 Cell::Int(number) => number,
                 Cell::Text(_) => 0,
             },
@@ -115,47 +138,56 @@ impl Table {
     }
 
     // The place of a row.
-    fn place(&self, cols: &[usize], i: usize) -> SortEntry
-        requires columns { AreColumns (length self.now.types) cols.now }
+    fn place(&self, order: &[OrderEntry], i: usize) -> SortPlace
+        requires columns { AreColumns (length self.now.types) (order_columns order.now) }
         requires row { i < length self.now.rows }
-        ensures { result ≡ place_of cols.now self.now.rows i }
+        ensures { result ≡ place_of order.now self.now.rows i }
     {
-        SortEntry {
-            first: self.first_number(cols, i),
+        SortPlace {
+            first: self.first_number(order, i),
             position: i,
         }
     }
 
     // The places of all rows, in their order.
-    fn places(&self, alloc: Global, cols: &[usize]) -> Result<Vec<SortEntry>, AllocError>
-        requires { AreColumns (length self.now.types) cols.now }
-        ensures { IfOk result (λ v. v.items ≡ each_below (length self.now.rows) (place_of cols.now self.now.rows)) }
+    fn places(&self, alloc: Global, order: &[OrderEntry]) -> Result<Vec<SortPlace>, AllocError>
+        requires { AreColumns (length self.now.types) (order_columns order.now) }
+        ensures { IfOk result (λ v. v.items ≡ each_below (length self.now.rows) (place_of order.now self.now.rows)) }
     {
         let mut places = Vec::with_capacity(alloc, self.len())?;
         for i in 0..self.len() {
-            places.push(self.place(cols, i))?;
+            places.push(self.place(order, i))?;
         }
         Ok(places)
     }
 
-    // The places of all rows, in the order of the stable sort.
-    fn sorted_places(&self, alloc: Global, cols: &[usize]) -> Result<Vec<SortEntry>, AllocError>
-        requires { AreColumns (length self.now.types) cols.now }
-        ensures { IfOk result (λ v. v.items ≡ sort_by (place_rank cols.now self.now.rows) (each_below (length self.now.rows) (place_of cols.now self.now.rows))) }
+    // The places of all rows, as the stable sort puts them.
+    fn sorted_places(
+        &self,
+        alloc: Global,
+        order: &[OrderEntry],
+    ) -> Result<Vec<SortPlace>, AllocError>
+        requires { AreColumns (length self.now.types) (order_columns order.now) }
+        ensures { IfOk result (λ v. v.items ≡ sort_by (compare_places (first_falls order.now) order.now self.now.rows) (each_below (length self.now.rows) (place_of order.now self.now.rows))) }
     {
-        let mut places = self.places(alloc, cols)?;
-        places.sort_by(|a, b| self.compare_places(cols, a, b))?;
+        let mut places = self.places(alloc, order)?;
+        let falling = starts_falling(order);
+        places.sort_by(|a, b| self.compare_places(falling, order, a, b))?;
         Ok(places)
     }
 
-    /// The positions of all rows in the order of the stable sort: rows that agree on the columns keep their order.
-    pub fn sorted_positions(&self, alloc: Global, cols: &[usize]) -> Result<Vec<usize>, AllocError>
-        requires { AreColumns (length self.now.types) cols.now }
-        ensures order { IfOk result (λ v. v.items ≡ order_on cols.now self.now.rows) }
-        ensures sorted { IfOk result (λ v. map (row self.now) v.items ≡ sort_on cols.now self.now.rows) }
+    /// The positions of all rows as the stable sort puts them: rows that are equal in this order stay as they stood.
+    pub fn sorted_positions(
+        &self,
+        alloc: Global,
+        order: &[OrderEntry],
+    ) -> Result<Vec<usize>, AllocError>
+        requires { AreColumns (length self.now.types) (order_columns order.now) }
+        ensures order { IfOk result (λ v. v.items ≡ order_on order.now self.now.rows) }
+        ensures sorted { IfOk result (λ v. map (row self.now) v.items ≡ sort_on order.now self.now.rows) }
         ensures there { IfOk result (λ v. ArePositions (length self.now.rows) v.items) }
     {
-        let places = self.sorted_places(alloc, cols)?;
+        let places = self.sorted_places(alloc, order)?;
         let mut positions = Vec::with_capacity(alloc, self.count)?;
         for place in &places {
             positions.push(place.position)?;

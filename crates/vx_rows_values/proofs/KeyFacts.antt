@@ -9,12 +9,12 @@ use Rattle.std.proofs.lemmas.List.Sums.{fails_before_first}
 use Rattle.std.proofs.Math.Seq.{get_or-append_seam}
 use Rattle.std.proofs.lemmas.List.{get_or_append_left, length_push}
 use Rattle.vx_rows_values.specs.Values.{Row, pick}
-use Rattle.vx_rows_values.specs.Order.{compare_on, agree, sorted}
+use Rattle.vx_rows_values.specs.Order.{rising, compare_on, agree, sorted}
 use Rattle.vx_rows_values.specs.Bags.{count}
 use Rattle.vx_rows_values.specs.Keys.{HasKey, is_key, clash_or, clash_from, first_clash, KeyLaw}
-use Rattle.vx_rows_values.proofs.Compare.{agree-both, row_eq-refl, row_cmp_total}
+use Rattle.vx_rows_values.proofs.Compare.{agree-both, row_eq-refl, compare_on_total, rising-agree}
 use Rattle.vx_rows_values.proofs.Booleans.{and-left, and-right, and-both}
-use Rattle.vx_rows_values.proofs.Order.{sorted_neighbours}
+use Rattle.vx_rows_values.proofs.SortedFacts.{sorted_neighbours}
 use Rattle.vx_rows_values.proofs.ClashFacts.{meet, agree-sym, Apart, clash-none}
 
 flag-yes : (b : Bool) → b ≡ true → ◌≡◌ {A = ℕ} (cond b 1 0) 1
@@ -126,33 +126,33 @@ no-clash cols seen (row ∷ rest) e i j h l m =
 
 -- each row is greater than the one before it
 abbrev pub Rises : List ℕ → List Row → ℕ → Type 0
-Rises cols rows n = (k : ℕ) → suc k < n → is_lt (compare_on cols (get_or rows k []) (get_or rows (suc k) [])) ≡ true
+Rises cols rows n = (k : ℕ) → suc k < n → is_lt (compare_on (rising cols) (get_or rows k []) (get_or rows (suc k) [])) ≡ true
 
 less-is : (o : Ordering) → is_lt o ≡ true → o ≡ Less
 less-is Less h = refl
 less-is Equal h = absurd (true≢false (sym h))
 less-is Greater h = absurd (true≢false (sym h))
 
-above : (cols : List ℕ) (rows : List Row) (n i j : ℕ) → Rises cols rows n → i < j → j < n → compare_on cols (get_or rows i []) (get_or rows j []) ≡ Less
+above : (cols : List ℕ) (rows : List Row) (n i j : ℕ) → Rises cols rows n → i < j → j < n → compare_on (rising cols) (get_or rows i []) (get_or rows j []) ≡ Less
 above cols rows n i zero r h l = absurd (omega arith)
 above cols rows n i (suc j) r h l =
     let next = less-is _ (r j l) in
     elim (cases_lt i j) [
-      | inl m ↦ row_cmp_total.trans (pick cols (get_or rows i [])) (pick cols (get_or rows j [])) (pick cols (get_or rows (suc j) [])) (above cols rows n i j r m (omega arith)) next
-      | inr g ↦ let e : i ≡ j = omega arith in ap (λ k. compare_on cols (get_or rows k []) (get_or rows (suc j) [])) e ∙ next
+      | inl m ↦ (compare_on_total (rising cols)).trans (get_or rows i []) (get_or rows j []) (get_or rows (suc j) []) (above cols rows n i j r m (omega arith)) next
+      | inr g ↦ let e : i ≡ j = omega arith in ap (λ k. compare_on (rising cols) (get_or rows k []) (get_or rows (suc j) [])) e ∙ next
     ]
 
 pub rises-apart : (cols : List ℕ) (rows : List Row) → Rises cols rows (length rows) → first_clash cols rows ≡ None
 rises-apart cols rows r =
     clash-none cols [] rows (λ i j h l.
-    agree-sym cols (get_or rows j []) (get_or rows i []) ∙ ap is_eq (above cols rows (length rows) i j r h l))
+    agree-sym cols (get_or rows j []) (get_or rows i []) ∙ (sym (rising-agree cols (get_or rows i []) (get_or rows j [])) ∙ ap is_eq (above cols rows (length rows) i j r h l)))
 
 -- rows that are sorted and do not clash rise
-pub sorted-rises : (cols : List ℕ) (rows : List Row) → sorted cols rows ≡ true → first_clash cols rows ≡ None → Rises cols rows (length rows)
+pub sorted-rises : (cols : List ℕ) (rows : List Row) → sorted (rising cols) rows ≡ true → first_clash cols rows ≡ None → Rises cols rows (length rows)
 sorted-rises cols rows s e k h =
     let a = get_or rows k [] in
     let b = get_or rows (suc k) [] in
-    less (compare_on cols b a) (compare_on cols a b) (row_cmp_total.antisymm (pick cols a) (pick cols b)) (sorted_neighbours cols rows s k h) (no-clash cols [] rows e k (suc k) (omega arith) zero-le h)
+    less (compare_on (rising cols) b a) (compare_on (rising cols) a b) ((compare_on_total (rising cols)).antisymm a b) (sorted_neighbours (rising cols) rows s k h) (rising-agree cols b a ∙ no-clash cols [] rows e k (suc k) (omega arith) zero-le h)
   where
     less : (o p : Ordering) → p ≡ ordering_reverse o → is_lt o ≡ false → is_eq o ≡ false → is_lt p ≡ true
     less Less p e f g = absurd (true≢false f)

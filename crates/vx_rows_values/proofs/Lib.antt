@@ -1,5 +1,6 @@
 pub mod Booleans
 pub mod Compare
-pub mod Order
+pub mod DirectionFacts
+pub mod SortedFacts
 pub mod ClashFacts
 pub mod KeyFacts

@@ -5,12 +5,14 @@
 mod key_seed;
 mod keys;
 pub mod limits;
+mod order;
 mod range;
 mod test;
 mod value;
 
 pub use key_seed::KeySeed;
 pub use keys::keys_are_tested;
+pub use order::{OrderEntry, in_directions, order_columns, rising};
 pub use range::{NamedRange, copied_ranges};
 pub use test::Test;
 pub use value::{Cell, ColType, Value, compare_cells, copied_values};

@@ -24,7 +24,7 @@ one-operator : (T : Type 0) (n : ℕ) (op : Unary) (xs : List Row)
 one-operator T n (select cs) xs = refl
 one-operator T n (project cols) xs = refl
 one-operator T n (distinct cols) xs = refl
-one-operator T n (sort of_parts cols) xs = refl
+one-operator T n (sort of_parts order) xs = refl
 one-operator T n (limit m) xs = refl
 one-operator T n (group phase by aggregates) xs = one-group T n by aggregates xs (nat_lt 4611686018427387904 (length xs)) refl
 

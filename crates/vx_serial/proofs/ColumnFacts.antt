@@ -1,6 +1,7 @@
 -- Every node of a typed plan fits the types of its inputs.
 use Rattle.std.proofs.Common.{◌≡◌, nat_lt, Bool, true, ◌&&◌, List, length, ltb-true}
 use Rattle.vx_rows_values.specs.declared.value.ColType.{ColType}
+use Rattle.vx_rows_values.specs.Order.{order_columns}
 use Rattle.vx_catalog_relations.specs.Catalog.{relation_at}
 use Rattle.vx_rows_values.proofs.Booleans.{and-left, and-right}
 use Rattle.vx_plan_nodes.specs.Plan.{Plan, scan, unary, binary, exchange}
@@ -28,4 +29,4 @@ typed-fits s (binary n c op p q) h =
     )
 typed-fits s (exchange n c k m p) h =
     let ts : List ColType = types_of (relation_at s.catalog) p in
-    typed-fits s p (and-left (typed s p) (is_kind s ts k && (are_columns (length ts) m && (may_merge k m && is_output s ts c))) h)
+    typed-fits s p (and-left (typed s p) (is_kind s ts k && (are_columns (length ts) (order_columns m) && (may_merge k m && is_output s ts c))) h)

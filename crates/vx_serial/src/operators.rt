@@ -100,7 +100,7 @@ pub fn unary_rows(
             let columns = kept_columns(alloc, kept.as_slice())?;
             Ok(distinct(alloc, seed, rows, columns.as_slice())?)
         }
-        Unary::Sort(_, columns) => Ok(sorted_chunks(alloc, rows, columns.as_slice())?),
+        Unary::Sort(_, order) => Ok(sorted_chunks(alloc, rows, order.as_slice())?),
         Unary::Group(_, by, aggregates) => {
             let by = by.as_slice();
             groups_of(alloc, seed, number, rows, by, aggregates.as_slice())
@@ -177,7 +177,7 @@ pub fn binary_rows(
     match binary {
         Binary::Union => united(left, right),
         Binary::HashJoin(on) => joined(alloc, seed, left, &right, on.as_slice()),
-        Binary::MergeJoin(on) => joined(alloc, seed, left, &right, on.as_slice()),
+        Binary::MergeJoin(on, _) => joined(alloc, seed, left, &right, on.as_slice()),
         Binary::SemiJoin(on, conditions) => {
             let conditions = conditions.as_slice();
             semi_joined(alloc, seed, true, &left, right, on.as_slice(), conditions)

@@ -3,16 +3,17 @@ use Rattle.std.proofs.Common.{◌≡◌, ℕ, zero, suc, ◌+◌, ◌%◌, ◌/�
 use Rattle.std.specs.Prelude.{pos, replicate}
 use Rattle.std.specs.List.{AllByRecursion, list_all, range_with_len}
 use Rattle.std.specs.Str.{is_utf8, IsAscii}
-use Rattle.std.specs.Ordering.{is_eq, is_lt}
+use Rattle.std.specs.Ordering.{is_eq, is_lt, ordering_then}
+use Rattle.std.specs.declared.cmp.Ordering.TheVariants.{Equal}
 use Rattle.std.proofs.lemmas.Str.{IsUtf8-from_ascii, is_utf8-from_IsUtf8}
 use Rattle.std.proofs.lemmas.Bool.{le-leb}
 use Rattle.std.proofs.lemmas.Bool.Decides.{nat_tests}
 use Rattle.std.proofs.lemmas.List.FromFn.{length-map-range_with_len, get_or-map-range_with_len}
-use Rattle.vx_rows_values.specs.Values.{num, text, Row, row_cmp}
+use Rattle.vx_rows_values.specs.Values.{num, text, Row, val_cmp, row_cmp}
 use Rattle.vx_rows_values.specs.Types.{is_held, Fits}
 use Rattle.vx_rows_values.proofs.Booleans.{and-both}
-use Rattle.vx_rows_values.specs.Order.{compare_on, agree}
-use Rattle.vx_rows_values.proofs.Order.{NoFall, sorted_from}
+use Rattle.vx_rows_values.specs.Order.{rising, compare_on, agree}
+use Rattle.vx_rows_values.proofs.SortedFacts.{NoFall, sorted_from}
 use Rattle.vx_rows_values.proofs.ClashFacts.{Apart}
 use Rattle.vx_rows_values.proofs.KeyFacts.{to-key, apart-key}
 use Rattle.vx_catalog_relations.specs.Relation.{Meets}
@@ -33,7 +34,7 @@ row-at n i h = get_or-map-range_with_len (row_of n) 0 n i i [] h (omega arith)
 differ : (x y : ℕ) → (x ≡ y → ⊥) → is_eq (row_cmp (num (pos x) ∷ []) (num (pos y) ∷ [])) ≡ false
 differ x y h = grind (arith, nat_tests)
 
-not-less : (x y : ℕ) → y < x → is_lt (row_cmp (num (pos x) ∷ []) (num (pos y) ∷ [])) ≡ false
+not-less : (x y : ℕ) → y < x → is_lt (ordering_then (val_cmp (num (pos x)) (num (pos y))) Equal) ≡ false
 not-less x y h = grind (arith, nat_tests)
 
 agree-at : (cols : List ℕ) (n i j : ℕ) → i < n → j < n → agree cols (row_of n j) (row_of n i) ≡ false → agree cols (get_or (wisconsin n) j []) (get_or (wisconsin n) i []) ≡ false
@@ -52,12 +53,12 @@ second-apart n i j l m =
     let s = size n in
     agree-at (1 ∷ []) n i j (omega arith) (omega arith) (differ j i (λ e. omega arith))
 
-no-fall : (n : ℕ) → NoFall (1 ∷ []) (wisconsin n) (length (wisconsin n))
+no-fall : (n : ℕ) → NoFall (rising (1 ∷ [])) (wisconsin n) (length (wisconsin n))
 unfolding row_of
 no-fall n k l =
     let s = size n in
-    ap (λ (r : Row). is_lt (compare_on (1 ∷ []) r (get_or (wisconsin n) k []))) (row-at n (suc k) (omega arith))
-    ∙ (ap (λ (r : Row). is_lt (compare_on (1 ∷ []) (row_of n (suc k)) r)) (row-at n k (omega arith)) ∙ not-less (suc k) k (omega arith))
+    ap (λ (r : Row). is_lt (compare_on (rising (1 ∷ [])) r (get_or (wisconsin n) k []))) (row-at n (suc k) (omega arith))
+    ∙ (ap (λ (r : Row). is_lt (compare_on (rising (1 ∷ [])) (row_of n (suc k)) r)) (row-at n k (omega arith)) ∙ not-less (suc k) k (omega arith))
 
 -- ---- the values
 
@@ -135,5 +136,5 @@ pub rows-meet : (name : List ℕ) (n : ℕ) → n ≤ max_generated_rows → Mee
 rows-meet name n h = record {
   fit = rows-fit name n 0 n (omega arith) h;
   keys = (to-key (0 ∷ []) (wisconsin n) (apart-key (0 ∷ []) (wisconsin n) (first-apart n)), (to-key (1 ∷ []) (wisconsin n) (apart-key (1 ∷ []) (wisconsin n) (second-apart n)), tt));
-  order = sorted_from (1 ∷ []) (wisconsin n) (no-fall n);
+  order = sorted_from (rising (1 ∷ [])) (wisconsin n) (no-fall n);
 }

@@ -10,7 +10,7 @@ use Rattle.vx_plan_json.specs.PlanView.{document_of}
 use Rattle.vx_check_rules.specs.Rules.{is_total_order}
 use Rattle.vx_check_rules.specs.RuleView.{refusal_of}
 use Rattle.vx_check_options.specs.Options.{parts_at, places_at}
-use Rattle.vx_check_options.specs.Placed.{first_columns, first_part}
+use Rattle.vx_check_options.specs.Placed.{first_entries, first_part}
 use Rattle.vx_check_options.specs.Claimed.{IsClaimed, reversed_claims}
 use Rattle.vx_check_annotate.specs.Claimed.{claims_of, forms_in, named_forms, with_forms}
 use Rattle.vx_check_annotate.specs.Unclaimed.{unclaimed}

@@ -1,5 +1,5 @@
 use Rattle.vx_plan_facts.specs.FactsView.{width_of}
-use Rattle.vx_check_rules.proofs.OrderSteps.{column-at}
+use Rattle.vx_check_shown.proofs.KeyColumns.{column-at}
 use Rattle.vx_check_failures.proofs.named.named.Goals as goal
 
 pub first_of-requires : goal.first_of-requires

@@ -1,5 +1,6 @@
-use Rattle.std.proofs.Common.{◌∙◌, ℕ, List, [], ◌++◌, map, ap, sym, refl, append_assoc}
+use Rattle.std.proofs.Common.{◌∙◌, List, [], ◌++◌, map, ap, sym, refl, append_assoc}
 use Rattle.std.proofs.lemmas.List.{append-nil}
+use Rattle.vx_rows_values.specs.declared.order.OrderEntry.{OrderEntry}
 use Rattle.vx_catalog_relations.specs.Catalog.{relation_at}
 use Rattle.vx_plan_nodes.specs.Plan.{Plan, claim}
 use Rattle.vx_plan_nodes.specs.Outline.{part_of, claim_of, plan_of}
@@ -12,7 +13,7 @@ returns-in-Scan n c =
     let catalog = relation_at c.args.catalog.now in
     let p : Plan = plan_of c.args.node.now in
     let q = part_of c.args.place.part in
-    let order : List ℕ = c.args.place.order.items in
+    let order : List OrderEntry = c.args.place.order.items in
     last-put c.put_claim.result q order (FoundAt catalog p [] []) (IsClaimed catalog p q order) _ _ _ (map claim_of c.args.claims.now.items) []
     (λ keys found. scan-claimed catalog p _ _ _ _ _ (ap plan_of c.in-Scan.is) q order keys found) (λ keys. refl) (λ keys. refl) (sym (append-nil _)) c.put_claim.ensures
 
@@ -22,7 +23,7 @@ returns-in_ok-left-in-Unary n c =
     let p : Plan = plan_of c.args.node.now in
     let below : Plan = plan_of c.in-Unary.input.value in
     let q = part_of c.args.place.part in
-    let order : List ℕ = c.args.place.order.items in
+    let order : List OrderEntry = c.args.place.order.items in
     let part_is = rw c.deref.ensures at c.in_ok-below-in-Unary.ensures.part in
     let order_is = rw c.deref.ensures at c.in_ok-below-in-Unary.ensures.order in
     let more = rw c.deref-in-Unary.ensures at c.in_ok-left-in-Unary.ensures in
@@ -39,7 +40,7 @@ returns-in_ok-left-in-Binary n c =
     let left : Plan = plan_of c.in-Binary.left.value in
     let right : Plan = plan_of c.in-Binary.right.value in
     let q = part_of c.args.place.part in
-    let order : List ℕ = c.args.place.order.items in
+    let order : List OrderEntry = c.args.place.order.items in
     let parts_are = rw (c.deref-in-Binary.ensures, c.deref-in-Binary-2.ensures) at c.in_ok-first-in-Binary.ensures.parts in
     let left_order_is = rw c.deref-in-Binary.ensures at c.in_ok-first-in-Binary.ensures.left in
     let right_order_is = rw c.deref-in-Binary-2.ensures at c.in_ok-first-in-Binary.ensures.right in
@@ -64,7 +65,7 @@ returns-in_ok-left-in-Exchange n c =
     let p : Plan = plan_of c.args.node.now in
     let below : Plan = plan_of c.in-Exchange.input.value in
     let q = part_of c.args.place.part in
-    let order : List ℕ = c.args.place.order.items in
+    let order : List OrderEntry = c.args.place.order.items in
     let part_is = rw c.deref-in-Exchange.ensures at c.in_ok-below-in-Exchange.ensures.part in
     let order_is = rw c.deref-in-Exchange.ensures at c.in_ok-below-in-Exchange.ensures.order in
     let more = rw c.deref-in-Exchange-2.ensures at c.in_ok-left-in-Exchange.ensures in

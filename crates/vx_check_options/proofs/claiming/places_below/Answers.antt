@@ -1,10 +1,11 @@
-use Rattle.std.proofs.Common.{◌∙◌, ℕ, Vec, Global, map, ap}
+use Rattle.std.proofs.Common.{◌∙◌, Vec, Global, map, ap}
+use Rattle.vx_rows_values.specs.declared.order.OrderEntry.{OrderEntry}
 use Rattle.vx_catalog_relations.specs.Catalog.{relation_at}
 use Rattle.vx_plan_nodes.specs.Describe.{whole_rows}
 use Rattle.vx_plan_nodes.specs.Outline.{part_of, binary_of, plan_of}
-use Rattle.vx_check_rules.specs.Seen.{columns_seen}
+use Rattle.vx_check_rules.specs.Seen.{order_seen}
 use Rattle.vx_check_options.specs.Options.{places_at}
-use Rattle.vx_check_options.specs.Placed.{order_along, left_order}
+use Rattle.vx_check_options.specs.Placed.{order_along, order_to_left}
 use Rattle.vx_check_options.proofs.ClaimLists.{both-parts}
 use Rattle.vx_check_options.proofs.claiming.places_below.Goals as goal
 
@@ -17,11 +18,11 @@ pub returns-clause-left : goal.returns-clause-left
 returns-clause-left c =
     let places = places_at (relation_at c.args.catalog.now) (plan_of c.args.left.now) in
     c.in_ok-first.ensures.order
-    ∙ ap (order_along whole_rows (columns_seen c.wanted_left-order.result)) (ap (map (λ (v : Vec ℕ Global). v.items)) c.as_slice-choices.ensures.value ∙ c.in_ok-lefts.ensures.choices)
-    ∙ c.wanted_left-order.ensures places ∙ ap (λ o. left_order (binary_of c.args.operator.now) o places) c.as_slice-3.ensures.value
+    ∙ ap (order_along whole_rows (order_seen c.wanted_left-order.result)) (ap (map (λ (v : Vec OrderEntry Global). v.items)) c.as_slice-choices.ensures.value ∙ c.in_ok-lefts.ensures.choices)
+    ∙ c.wanted_left-order.ensures places ∙ ap (λ o. order_to_left (binary_of c.args.operator.now) o places) c.as_slice-3.ensures.value
 
 pub returns-clause-right : goal.returns-clause-right
 returns-clause-right c =
     c.in_ok-second.ensures.order
-    ∙ ap (order_along whole_rows (columns_seen c.wanted_right-order.result)) (ap (map (λ (v : Vec ℕ Global). v.items)) c.as_slice-choices-2.ensures.value ∙ c.in_ok-rights.ensures.choices)
+    ∙ ap (order_along whole_rows (order_seen c.wanted_right-order.result)) (ap (map (λ (v : Vec OrderEntry Global). v.items)) c.as_slice-choices-2.ensures.value ∙ c.in_ok-rights.ensures.choices)
     ∙ c.wanted_right-order.ensures (places_at (relation_at c.args.catalog.now) (plan_of c.args.right.now))

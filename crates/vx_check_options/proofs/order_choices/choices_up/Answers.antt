@@ -1,5 +1,6 @@
-use Rattle.std.proofs.Common.{◌∙◌, ◌++◌, ℕ, List, Vec, Global, map, sym, refl, arith}
+use Rattle.std.proofs.Common.{◌∙◌, ◌++◌, List, Vec, Global, map, sym, refl, arith}
 use Rattle.std.proofs.lemmas.List.{append-nil, at_drop_all}
+use Rattle.vx_rows_values.specs.declared.order.OrderEntry.{OrderEntry}
 use Rattle.vx_plan_nodes.specs.DescribeView.{copying_of}
 use Rattle.vx_check_options.specs.Options.{places_up}
 use Rattle.vx_check_options.proofs.OptionFacts.{some-length, none-length}
@@ -24,7 +25,7 @@ loop-place-init c = rw c.new-found.ensures.items refl
 
 pub returns : goal.returns
 returns c =
-    let items = map (λ (v : Vec ℕ Global). v.items) in
-    let before : List (List ℕ) = items c.loop-place.found.items in
-    let all : List (Vec ℕ Global) → List (List ℕ) = λ us. before ++ places_up (copying_of c.args.copying) (items us) in
+    let items = map (λ (v : Vec OrderEntry Global). v.items) in
+    let before : List (List OrderEntry) = items c.loop-place.found.items in
+    let all : List (Vec OrderEntry Global) → List (List OrderEntry) = λ us. before ++ places_up (copying_of c.args.copying) (items us) in
     sym (c.loop-place.invariant ∙ at_drop_all all c.args.choices.now c.loop-place.place-index (omega (arith, c.loop-place-test.false)) ∙ append-nil before)

@@ -11,7 +11,7 @@ index_mut-requires c =
 
 pub returns : goal.returns
 returns c =
-    let columns = c.in_ok-columns.columns in
-    let some = some-length columns.items _ _ (omega (arith, columns.ok.0)) c.is_empty.ensures c.if-is_empty.false in
-    rising-put (map part_of c.args.parts.now) c.args.choices.now c.in_ok-found.found.items c.place-item.result columns c.in-len1-up.len_at_least c.place-item.is (rw c.as_slice.ensures.value at c.in_ok-columns.ensures) some
+    let entries = c.in_ok-entries.entries in
+    let some = some-length entries.items _ _ (omega (arith, entries.ok.0)) c.is_empty.ensures c.if-is_empty.false in
+    rising-put (map part_of c.args.parts.now) c.args.choices.now c.in_ok-found.found.items c.place-item.result entries c.in-len1-up.len_at_least c.place-item.is (rw c.as_slice.ensures.value at c.in_ok-entries.ensures) some
     c.in_ok-found.ensures

@@ -1,4 +1,6 @@
-use Rattle.std.proofs.Common.{◌≡◌, ◌∙◌, ℕ, List, [], true, ap, sym, subst}
+use Rattle.std.proofs.Common.{◌≡◌, ◌∙◌, List, [], true, ap, sym, subst}
+use Rattle.vx_rows_values.specs.declared.order.OrderEntry.{OrderEntry}
+use Rattle.vx_rows_values.specs.Order.{order_columns}
 use Rattle.vx_catalog_relations.specs.Catalog.{all_below}
 use Rattle.vx_plan_nodes.specs.DescribeView.{copying_of}
 use Rattle.vx_plan_nodes.specs.Outline.{plan_of}
@@ -26,7 +28,7 @@ front_copies-requires-clause-copies c =
     let order = c.args.order.now in
     let made = c.short-below.ensures.short catalog (same-orders catalog k p h.known order c.requires.2) in
     let list : c.as_slice.result.now ≡ short det order = c.as_slice.ensures.value ∙ made in
-    let P : List ℕ → Type 0 = λ xs. all_below (width catalog p) xs ≡ true in (
+    let P : List OrderEntry → Type 0 = λ xs. all_below (width catalog p) (order_columns xs) ≡ true in (
       catalog,
       record { known = c.short-below.ensures.kept catalog h.known p h.known; reaches = h.reaches },
       subst P (sym list) (short-below (width catalog p) det [] order c.requires.2),
@@ -40,7 +42,7 @@ returns-clause-carried c = λ catalog h below.
     let order = c.args.order.now in
     let made = c.short-below.ensures.short catalog (same-orders catalog k p h.known order below) in
     let list : c.as_slice.result.now ≡ short det order = c.as_slice.ensures.value ∙ made in
-    let P : List ℕ → Type 0 = λ xs. all_below (width catalog p) xs ≡ true in
+    let P : List OrderEntry → Type 0 = λ xs. all_below (width catalog p) (order_columns xs) ≡ true in
     c.front_copies.ensures catalog (record { known = c.short-below.ensures.kept catalog h.known p h.known; reaches = h.reaches })
     (subst P (sym list) (short-below (width catalog p) det [] order below))
     ∙ ap (front_copies c.args.outputs (copying_of c.args.copying) (equal_at catalog p)) list

@@ -6,10 +6,10 @@ use Rattle.vx_check_rules.specs.KnownNode.{AreOrdersOf, StaysKnown}
 use Rattle.vx_check_rules.proofs.OrderSteps.{Few, Keeping}
 use Rattle.vx_check_rules.proofs.carried_orders.short.Given as goal
 
-abbrev pub invariant-loop-column : goal.invariant-loop-column
-invariant-loop-column l = record {
+abbrev pub invariant-loop-entry : goal.invariant-loop-entry
+invariant-loop-entry l = record {
   few : Few l.short.items (set_of_columns l.passed);
   kept : StaysKnown l.fn.known l.known (plan_of l.node);
   keeping : (catalog : ℕ → Relation) → AreOrdersOf catalog l.fn.known (plan_of l.node) l.order l.order
-      → Keeping catalog (plan_of l.node) l.order l.short.items l.column-index (set_of_columns l.passed) (set_of_columns l.found);
+      → Keeping catalog (plan_of l.node) l.order l.short.items l.entry-index (set_of_columns l.passed) (set_of_columns l.found);
 }

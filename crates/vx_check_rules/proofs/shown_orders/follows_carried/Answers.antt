@@ -1,4 +1,6 @@
 use Rattle.std.proofs.Common.{◌≡◌, ◌∙◌, ℕ, List, true, ap, sym, subst}
+use Rattle.vx_rows_values.specs.declared.order.OrderEntry.{OrderEntry}
+use Rattle.vx_rows_values.specs.Order.{order_columns}
 use Rattle.vx_catalog_relations.specs.Catalog.{all_below}
 use Rattle.vx_plan_nodes.specs.DescribeView.{copying_of}
 use Rattle.vx_plan_nodes.specs.Outline.{plan_of}
@@ -21,7 +23,7 @@ carried_order-given-requires c =
     let wide : c.width-outputs.result ≡ width catalog p = c.width-outputs.ensures ∙ (c.facts_of.ensures catalog h.known).wide in
     let P : ℕ → Type 0 = λ w. AreCopiesOf catalog c.args.known.now (plan_of c.args.input.now) w (copying_of c.args.copying) in
     let q = plan_of c.args.input.now in
-    let Q : List ℕ → Type 0 = λ xs. all_below (width catalog q) xs ≡ true in
+    let Q : List OrderEntry → Type 0 = λ xs. all_below (width catalog q) (order_columns xs) ≡ true in
     (catalog, subst P (sym wide) h.copies, subst Q (sym c.claimed_order.ensures) (order-below catalog c.args.known.now q h.copies.known))
 
 pub follows_from-requires : goal.follows_from-requires
@@ -34,7 +36,7 @@ follows_from-requires c =
     let below = short (determined catalog q) (claim q).order in
     let wide : c.width-outputs.result ≡ width catalog p = c.width-outputs.ensures ∙ (c.facts_of.ensures catalog h.known).wide in
     let P : ℕ → Type 0 = λ w. AreCopiesOf catalog c.args.known.now q w copying in
-    let Q : List ℕ → Type 0 = λ xs. all_below (width catalog q) xs ≡ true in
+    let Q : List OrderEntry → Type 0 = λ xs. all_below (width catalog q) (order_columns xs) ≡ true in
     let made =
     c.carried_order-given.ensures.carried catalog (subst P (sym wide) h.copies) (subst Q (sym c.claimed_order.ensures) (order-below catalog c.args.known.now q h.copies.known))
     ∙ ap (λ xs. front_copies c.width-outputs.result copying (equal_at catalog q) (short (determined catalog q) xs)) c.claimed_order.ensures in
@@ -49,7 +51,7 @@ returns-clause-follows c = λ catalog h.
     let below = short (determined catalog q) (claim q).order in
     let wide : c.width-outputs.result ≡ width catalog p = c.width-outputs.ensures ∙ (c.facts_of.ensures catalog h.known).wide in
     let P : ℕ → Type 0 = λ w. AreCopiesOf catalog c.args.known.now q w copying in
-    let Q : List ℕ → Type 0 = λ xs. all_below (width catalog q) xs ≡ true in
+    let Q : List OrderEntry → Type 0 = λ xs. all_below (width catalog q) (order_columns xs) ≡ true in
     let made =
     c.carried_order-given.ensures.carried catalog (subst P (sym wide) h.copies) (subst Q (sym c.claimed_order.ensures) (order-below catalog c.args.known.now q h.copies.known))
     ∙ ap (λ xs. front_copies c.width-outputs.result copying (equal_at catalog q) (short (determined catalog q) xs)) c.claimed_order.ensures in

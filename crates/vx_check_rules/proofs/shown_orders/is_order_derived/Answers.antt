@@ -1,4 +1,5 @@
 use Rattle.std.proofs.Common.{◌≡◌, ◌∙◌, ◌||◌, ◌&&◌, ℕ, Bool, List, ap, sym}
+use Rattle.vx_rows_values.specs.declared.order.OrderEntry.{OrderEntry}
 use Rattle.vx_catalog_relations.specs.Relation.{Relation}
 use Rattle.vx_catalog_relations.specs.Catalog.{relation_at}
 use Rattle.vx_plan_nodes.specs.DescribeView.{copying_of, order_after_of}
@@ -32,7 +33,7 @@ returns-in-Scan-clause-derived c =
     let b = c.in-Scan in
     let rel : ℕ → Relation = relation_at c.args.catalog.now in
     let x : Plan = plan_of c.args.node.now in
-    let order : List ℕ = (claim x).order in
+    let order : List OrderEntry = (claim x).order in
     let is : x ≡ scan b.field-0.number (claim_of b.field-0.claim) b.scan.relation b.scan.shared (size_of b.scan.size) = ap plan_of b.is in
     let orders = scan-orders c.args.catalog.now c.args.known.now x c.requires b.field-0.number (claim_of b.field-0.claim) b.scan.relation b.scan.shared (size_of b.scan.size) is
     c.get-relation.result.now c.get-relation.ensures.fine c.get-relation.ensures.value in
@@ -55,7 +56,7 @@ returns-in-Unary-clause-derived c =
     let p : Plan = plan_of b.input.value in
     let op : Unary = unary_of b.operator in
     let y : Plan = unary b.field-0.number (claim_of b.field-0.claim) op p in
-    let order : List ℕ = (claim x).order in
+    let order : List OrderEntry = (claim x).order in
     let is : x ≡ y = ap plan_of b.is in
     let copying : Copying = copying_of c.described.result.copying in
     let after : OrderAfter = order_after_of c.described.result.order in
@@ -90,7 +91,7 @@ returns-in-Binary-clause-derived c =
     let b = c.in-Binary in
     let rel : ℕ → Relation = relation_at c.args.catalog.now in
     let x : Plan = plan_of c.args.node.now in
-    let order : List ℕ = (claim x).order in
+    let order : List OrderEntry = (claim x).order in
     let p : Plan = plan_of b.left.value in
     let op : Binary = binary_of b.operator in
     let y : Plan = binary b.field-0.number (claim_of b.field-0.claim) op p (plan_of b.field-3.value) in
@@ -112,9 +113,9 @@ returns-then-follows_from-clause-derived c =
     let b = c.in-Exchange in
     let rel : ℕ → Relation = relation_at c.args.catalog.now in
     let x : Plan = plan_of c.args.node.now in
-    let order : List ℕ = (claim x).order in
+    let order : List OrderEntry = (claim x).order in
     let p : Plan = plan_of b.input.value in
-    let m : List ℕ = b.exchange.merge.items in
+    let m : List OrderEntry = b.exchange.merge.items in
     let going : Bool = is_one (size p) || goes_on_derived rel (kind_of b.exchange.kind) p in
     let y : Plan = exchange b.field-0.number (claim_of b.field-0.claim) (kind_of b.exchange.kind) m p in
     let is : x ≡ y = ap plan_of b.is in
@@ -138,9 +139,9 @@ returns-else-follows_from-clause-derived c =
     let b = c.in-Exchange in
     let rel : ℕ → Relation = relation_at c.args.catalog.now in
     let x : Plan = plan_of c.args.node.now in
-    let order : List ℕ = (claim x).order in
+    let order : List OrderEntry = (claim x).order in
     let p : Plan = plan_of b.input.value in
-    let m : List ℕ = b.exchange.merge.items in
+    let m : List OrderEntry = b.exchange.merge.items in
     let going : Bool = is_one (size p) || goes_on_derived rel (kind_of b.exchange.kind) p in
     let y : Plan = exchange b.field-0.number (claim_of b.field-0.claim) (kind_of b.exchange.kind) m p in
     let is : x ≡ y = ap plan_of b.is in

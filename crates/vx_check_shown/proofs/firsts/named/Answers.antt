@@ -3,10 +3,9 @@ use Rattle.vx_plan_nodes.specs.Outline.{plan_of}
 use Rattle.vx_plan_nodes.specs.Types.{width}
 use Rattle.vx_plan_facts.specs.Equal.{equal_at}
 use Rattle.vx_check_rules.specs.Rules.{contains}
-use Rattle.vx_check_rules.proofs.OrderSteps.{column-at}
 use Rattle.vx_check_options.proofs.OptionFacts.{contains-as}
 use Rattle.vx_check_shown.specs.Standing.{first_equal}
-use Rattle.vx_check_shown.proofs.KeyColumns.{named-starts, named-next, named-all, column-put, column-kept}
+use Rattle.vx_check_shown.proofs.KeyColumns.{column-at, named-starts, named-next, named-all, column-put, column-kept}
 use Rattle.vx_check_shown.proofs.firsts.named.Goals as goal
 use Rattle.vx_check_shown.proofs.firsts.named.Goals.{then-not-contains+in_ok-push, else-not-contains}
 

@@ -1,6 +1,7 @@
 use Rattle.std.proofs.Common.{◌≡◌, map, slice_index, take}
 use Rattle.vx_plan_facts.specs.FactsView.{facts_of}
+use Rattle.vx_check_rules.specs.Rules.{entry_at}
 use Rattle.vx_check_shown.proofs.orders.firsts_of.Given as goal
 
-abbrev pub invariant-loop-column : goal.invariant-loop-column
-invariant-loop-column l = l.firsts.items ≡ map (slice_index (facts_of l.facts).firsts) (take l.column-index l.columns)
+abbrev pub invariant-loop-entry : goal.invariant-loop-entry
+invariant-loop-entry l = l.firsts.items ≡ map (λ e. entry_at (slice_index (facts_of l.facts).firsts e.column) e) (take l.entry-index l.order)

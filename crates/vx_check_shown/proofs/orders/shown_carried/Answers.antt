@@ -1,5 +1,6 @@
 use Rattle.std.proofs.Common.{◌≡◌, ◌∙◌, ℕ, List, ap, sym, subst}
 use Rattle.std.specs.Prelude.{IfOk}
+use Rattle.vx_rows_values.specs.declared.order.OrderEntry.{OrderEntry}
 use Rattle.vx_plan_nodes.specs.DescribeView.{copying_of}
 use Rattle.vx_plan_nodes.specs.Outline.{plan_of}
 use Rattle.vx_plan_nodes.specs.Types.{width}
@@ -37,5 +38,5 @@ returns-clause-shown c = λ catalog h of_input.
     let made = c.carried_order-given.ensures.carried catalog (subst P (sym wide) h.copies) of_input in
     let list = c.as_slice.ensures.value ∙ made ∙ ap (λ w. front_copies w copying (equal_at catalog q) below) wide in
     let orders = copies-orders catalog c.carried_order-given.new.known p copying (equal_at catalog q) below (c.carried_order-given.ensures.kept catalog h.copies.known p h.known) c.as_slice.result.now list in
-    let Q : List ℕ → Type 0 = λ xs. IfOk c.shortened.result (λ v. v.items ≡ xs) in
+    let Q : List OrderEntry → Type 0 = λ xs. IfOk c.shortened.result (λ v. v.items ≡ xs) in
     subst Q (ap (shortened catalog p) list) (c.shortened.ensures.shortened catalog orders)

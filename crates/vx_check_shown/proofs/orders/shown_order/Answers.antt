@@ -1,5 +1,6 @@
 use Rattle.std.proofs.Common.{◌≡◌, ◌∙◌, ◌||◌, ℕ, Bool, List, cond, ap, sym, subst}
 use Rattle.std.specs.Prelude.{IfOk}
+use Rattle.vx_rows_values.specs.declared.order.OrderEntry.{OrderEntry}
 use Rattle.vx_catalog_relations.specs.Relation.{Relation}
 use Rattle.vx_catalog_relations.specs.Catalog.{relation_at}
 use Rattle.vx_plan_nodes.specs.DescribeView.{copying_of, order_after_of}
@@ -33,7 +34,7 @@ returns-in-Unary-clause-shown c =
     let op : Unary = unary_of b.operator in
     let y : Plan = unary b.field-0.number (claim_of b.field-0.claim) op p in
     let q : Part = part_of c.args.part.now in
-    let below : List ℕ = c.args.below.now in
+    let below : List OrderEntry = c.args.below.now in
     let is : x ≡ y = ap plan_of b.is in
     let copying : Copying = copying_of c.described.result.copying in
     let after : OrderAfter = order_after_of c.described.result.order in
@@ -46,7 +47,7 @@ returns-in-Unary-clause-shown c =
     ∙ ap (λ m. shortened rel y (order_by (width rel y) (described op).copying m (equal_at rel p) (determined rel p) below)) a
     ∙ ap (shortened rel y) (sym (unary-order-by (width rel y) op (equal_at rel p) (determined rel p) below))
     ∙ sym (ap (λ z. shown_order rel z q below) is) in
-    let P : List ℕ → Type 0 = λ xs. IfOk c.shown_over.result (λ v. v.items ≡ xs) in
+    let P : List OrderEntry → Type 0 = λ xs. IfOk c.shown_over.result (λ v. v.items ≡ xs) in
     subst P same told
 
 pub returns-in-Unary-clause-kept : goal.returns-in-Unary-clause-kept
@@ -71,12 +72,12 @@ returns-in-Binary-clause-shown c =
     let op : Binary = binary_of b.operator in
     let y : Plan = binary b.field-0.number (claim_of b.field-0.claim) op (plan_of b.field-2.value) (plan_of b.field-3.value) in
     let q : Part = part_of c.args.part.now in
-    let below : List ℕ = c.args.below.now in
+    let below : List OrderEntry = c.args.below.now in
     let is : x ≡ y = ap plan_of b.is in
     let orders = orders-over-both c.args.catalog.now c.args.known.now x c.requires.known b.field-0.number (claim_of b.field-0.claim) op
     (plan_of b.field-2.value) (plan_of b.field-3.value) is q below c.requires.input in
     let told = (rw c.order_over.ensures at c.shortened-in-Binary.ensures.shortened) rel orders in
-    let P : List ℕ → Type 0 = λ xs. IfOk c.shortened-in-Binary.result (λ v. v.items ≡ xs) in
+    let P : List OrderEntry → Type 0 = λ xs. IfOk c.shortened-in-Binary.result (λ v. v.items ≡ xs) in
     subst P (ap (λ z. shortened rel z (binary_order op below)) is ∙ sym (ap (λ z. shown_order rel z q below) is)) told
 
 pub shortened-requires-in-Exchange : goal.shortened-requires-in-Exchange
@@ -86,7 +87,7 @@ shortened-requires-in-Exchange c =
     let x : Plan = plan_of c.args.node.now in
     let p : Plan = plan_of b.input.value in
     let q : Part = part_of c.args.part.now in
-    let below : List ℕ = c.args.below.now in
+    let below : List OrderEntry = c.args.below.now in
     let given = given-passed c.args.catalog.now c.args.known.now x c.requires.known b.field-0.number (claim_of b.field-0.claim) (kind_of b.exchange.kind) b.exchange.merge.items p
     (ap plan_of b.is) q below c.requires.input in
     let passed = (rw c.deref-in-Exchange.ensures at c.order_passed-given.ensures.passed) rel given in
@@ -103,8 +104,8 @@ returns-in-Exchange-clause-shown c =
     let x : Plan = plan_of c.args.node.now in
     let p : Plan = plan_of b.input.value in
     let q : Part = part_of c.args.part.now in
-    let below : List ℕ = c.args.below.now in
-    let merge : List ℕ = b.exchange.merge.items in
+    let below : List OrderEntry = c.args.below.now in
+    let merge : List OrderEntry = b.exchange.merge.items in
     let is : x ≡ exchange b.field-0.number (claim_of b.field-0.claim) (kind_of b.exchange.kind) merge p = ap plan_of b.is in
     let given = given-passed c.args.catalog.now c.args.known.now x c.requires.known b.field-0.number (claim_of b.field-0.claim) (kind_of b.exchange.kind) merge p is q below c.requires.input in
     let passed = (rw c.deref-in-Exchange.ensures at c.order_passed-given.ensures.passed) rel given in
@@ -113,5 +114,5 @@ returns-in-Exchange-clause-shown c =
     let orders = orders-passed c.args.catalog.now c.args.known.now x c.requires.known b.field-0.number (claim_of b.field-0.claim) (kind_of b.exchange.kind) merge p is q below c.requires.input
     going c.order_passed-given.new.known kept in
     let told = (rw passed at c.shortened-in-Exchange.ensures.shortened) rel orders in
-    let P : List ℕ → Type 0 = λ xs. IfOk c.shortened-in-Exchange.result (λ v. v.items ≡ xs) in
+    let P : List OrderEntry → Type 0 = λ xs. IfOk c.shortened-in-Exchange.result (λ v. v.items ≡ xs) in
     subst P (sym (ap (λ z. shown_order rel z q below) is ∙ ap (λ z. shortened rel z (cond going below merge)) (sym is))) told

@@ -9,8 +9,8 @@ pub returns-clause-order : goal.returns-clause-order
 returns-clause-order c =
     let e = c.place_of-place.ensures in
     let value = c.as_slice.ensures.value in
-    subst (IsOrder c.args.columns.now c.args.heads.now) (sym c.in-Ok.ensures.items)
-    (added-order c.args.columns.now c.args.heads.now c.args.order.now.items c.args.p c.place_of-place.result c.requires.order c.requires.row (rw value at e.bound) (rw value at e.before) (rw value at e.behind))
+    subst (IsOrder c.args.merge.now c.args.heads.now) (sym c.in-Ok.ensures.items)
+    (added-order c.args.merge.now c.args.heads.now c.args.order.now.items c.args.p c.place_of-place.result c.requires.order c.requires.row (rw value at e.bound) (rw value at e.before) (rw value at e.behind))
 
 pub returns-clause-kept : goal.returns-clause-kept
 returns-clause-kept c q h = subst (λ (ks : List ℕ). Contains ks q) (sym c.in-Ok.ensures.items) (has-kept c.args.order.now.items c.place_of-place.result c.args.p q h)

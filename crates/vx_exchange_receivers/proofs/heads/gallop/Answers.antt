@@ -18,7 +18,7 @@ doubles-preserved c =
     record {
       more = omega (arith, more);
       within = omega (arith, here, many, test, more, within);
-      least = λ k a b. run-up c.args.columns.now hs p c.args.q ((low + (low - at)) - 1) c.requires.rises near (c.goes_before.ensures.before c.if-not-goes_before.false).le k (omega (arith, b));
+      least = λ k a b. run-up c.args.merge.now hs p c.args.q ((low + (low - at)) - 1) c.requires.rises near (c.goes_before.ensures.before c.if-not-goes_before.false).le k (omega (arith, b));
     }
 
 pub returns-clause-order : goal.returns-clause-order

@@ -7,7 +7,7 @@ abbrev pub invariant-doubles : goal.invariant-doubles
 invariant-doubles l = record {
   more : position_at l.heads l.p < l.low;
   within : l.low ≤ length (held_at l.heads l.p);
-  least : (k : ℕ) → position_at l.heads l.p ≤ k → k < l.low → is_le (compare_on l.columns (get_or (held_at l.heads l.p) k []) (next_at l.heads l.q)) ≡ true;
+  least : (k : ℕ) → position_at l.heads l.p ≤ k → k < l.low → is_le (compare_on l.merge (get_or (held_at l.heads l.p) k []) (next_at l.heads l.q)) ≡ true;
 }
 
 abbrev pub decreases-doubles : goal.decreases-doubles

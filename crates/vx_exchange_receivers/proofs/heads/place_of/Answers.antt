@@ -71,7 +71,7 @@ halves-preserved-then-goes_before c =
     record {
       order = omega (arith, test);
       bound = bound;
-      before = halves-up c.args.columns.now hs order c.args.p q mid c.requires.order.rises near (get_or_default order mid 0 q near) (read-before c.args.columns.now hs c.args.p q c.index-heads-q.result r (c.goes_before.ensures.before c.if-goes_before.true));
+      before = halves-up c.args.merge.now hs order c.args.p q mid c.requires.order.rises near (get_or_default order mid 0 q near) (read-before c.args.merge.now hs c.args.p q c.index-heads-q.result r (c.goes_before.ensures.before c.if-goes_before.true));
       behind = c.halves.invariant.behind;
     }
 
@@ -91,5 +91,5 @@ halves-preserved c =
       order = omega (arith, test);
       bound = omega (arith, near);
       before = c.halves.invariant.before;
-      behind = halves-down c.args.columns.now hs order c.args.p q mid c.requires.order.rises near (get_or_default order mid 0 q near) (read-behind c.args.columns.now hs c.args.p q c.index-heads-q.result r (c.goes_before.ensures.behind c.if-goes_before.false ne));
+      behind = halves-down c.args.merge.now hs order c.args.p q mid c.requires.order.rises near (get_or_default order mid 0 q near) (read-behind c.args.merge.now hs c.args.p q c.index-heads-q.result r (c.goes_before.ensures.behind c.if-goes_before.false ne));
     }

@@ -7,8 +7,8 @@ abbrev pub invariant-halves : goal.invariant-halves
 invariant-halves l = record {
   order : l.low ≤ l.high;
   bound : l.high ≤ length l.order;
-  before : AllWithin (λ q. Precedes l.columns l.heads q l.p) l.order 0 l.low;
-  behind : AllWithin (λ q. Precedes l.columns l.heads l.p q) l.order l.high (length l.order);
+  before : AllWithin (λ q. Precedes l.merge l.heads q l.p) l.order 0 l.low;
+  behind : AllWithin (λ q. Precedes l.merge l.heads l.p q) l.order l.high (length l.order);
 }
 
 abbrev pub decreases-halves : goal.decreases-halves

@@ -16,5 +16,5 @@ halves-preserved-then-goes_before c =
       more = omega (arith, more);
       order = omega (arith, test);
       within = within;
-      least = λ k a b. run-up c.args.columns.now hs p c.args.q mid c.requires.rises near (c.goes_before.ensures.before c.if-goes_before.true).le k (omega (arith, b));
+      least = λ k a b. run-up c.args.merge.now hs p c.args.q mid c.requires.rises near (c.goes_before.ensures.before c.if-goes_before.true).le k (omega (arith, b));
     }

@@ -8,7 +8,7 @@ invariant-halves l = record {
   more : position_at l.heads l.p < l.low;
   order : l.low ≤ l.high;
   within : l.high ≤ length (held_at l.heads l.p);
-  least : (k : ℕ) → position_at l.heads l.p ≤ k → k < l.low → is_le (compare_on l.columns (get_or (held_at l.heads l.p) k []) (next_at l.heads l.q)) ≡ true;
+  least : (k : ℕ) → position_at l.heads l.p ≤ k → k < l.low → is_le (compare_on l.merge (get_or (held_at l.heads l.p) k []) (next_at l.heads l.q)) ≡ true;
 }
 
 abbrev pub decreases-halves : goal.decreases-halves

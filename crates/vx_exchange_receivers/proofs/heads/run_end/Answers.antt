@@ -8,4 +8,4 @@ returns c =
     let some = c.requires.some in
     let e = c.run_before.ensures in
     let l : 1 < length c.args.order.now = grind (arith, many, some) in
-    run-rest c.args.columns.now c.args.heads.now c.args.order.now c.run_before.result c.requires.order l e.more e.within e.least
+    run-rest c.args.merge.now c.args.heads.now c.args.order.now c.run_before.result c.requires.order l e.more e.within e.least

@@ -1,5 +1,6 @@
 use Rattle.std.specs.Prelude.{IfOk}
 use Rattle.std.proofs.Common.{◌≡◌, ap, subst, sym, ◌∙◌, true, length}
+use Rattle.vx_rows_values.specs.Order.{order_columns}
 use Rattle.vx_rows.specs.View.{AreColumns}
 use Rattle.vx_plan_nodes.specs.Outline.{plan_of, claim_of, kind_of, size_of}
 use Rattle.vx_plan_nodes.specs.Plan.{size}
@@ -47,6 +48,6 @@ consumer_operator-requires-clause-columns c =
     let given : types ≡ types_of (relations j.plan.now) (plan_of c.args.node.now) = c.in_ok-types-in-Exchange.ensures.items ∙ c.output_types-in-Exchange.ensures (relations j.plan.now) c.requires.outputs in
     let h = c.in-Exchange.head in
     let x = c.in-Exchange.exchange in
-    subst (λ z. AreColumns (length z) x.merge.items) (sym (subst (λ z. types ≡ types_of (relations j.plan.now) (plan_of z)) c.in-Exchange.is given))
+    subst (λ z. AreColumns (length z) (order_columns x.merge.items)) (sym (subst (λ z. types ≡ types_of (relations j.plan.now) (plan_of z)) c.in-Exchange.is given))
     (exchange-columns (scope j.plan.now) h.number (claim_of h.claim) (kind_of x.kind) x.merge.items (plan_of c.in-Exchange.input.value)
     (subst (λ z. typed (scope j.plan.now) (plan_of z) ≡ true) c.in-Exchange.is c.requires.nodes_typed))

@@ -16,4 +16,6 @@ returns c = record {
   counted_nothing = refl;
   counted = refl;
   stable = refl;
+  falling = refl;
+  falling_then_rising = refl;
 }

@@ -1,20 +1,17 @@
 use Rattle.std.proofs.Common.{◌≡◌, suc, ◌-◌, ◌<◌, arith, ap, refl, ◌∙◌, sym, length, get_or, true, is_lt, []}
 use Rattle.vx_rows_values.specs.Order.{compare_on, sorted}
-use Rattle.vx_rows_values.proofs.Order.{not_sorted, sorted_from}
+use Rattle.vx_rows_values.proofs.SortedFacts.{not_sorted, sorted_from}
 use Rattle.vx_match_keys.proofs.rising.chunk_rises.Goals as goal
-
-pub returns-in-Some : goal.returns-in-Some
-returns-in-Some c = c.numbers_rise.ensures c.args.columns.now c.args.chunk.now.rows c.in-Some.ensures
 
 pub returns-then-is_lt : goal.returns-then-is_lt
 returns-then-is_lt c =
     let rows = c.args.chunk.now.rows in
-    let cols = c.args.columns.now in
+    let order = c.args.order.now in
     let i = c.loop-i.i in
     let e : suc (i - 1) ≡ i = omega arith in
     let near : suc (i - 1) < length rows = omega (arith, c.len-i-end.ensures, c.loop-i-test.true) in
-    let h : is_lt (compare_on cols (get_or rows i []) (get_or rows (i - 1) [])) ≡ true = ap is_lt (sym c.compare_in.ensures) ∙ (sym c.is_lt.ensures ∙ c.if-is_lt.true) in
-    sym (not_sorted cols rows (i - 1) near (ap (λ k. is_lt (compare_on cols (get_or rows k []) (get_or rows (i - 1) []))) e ∙ h) (sorted cols rows) refl)
+    let h : is_lt (compare_on order (get_or rows i []) (get_or rows (i - 1) [])) ≡ true = ap is_lt (sym c.compare_in.ensures) ∙ (sym c.is_lt.ensures ∙ c.if-is_lt.true) in
+    sym (not_sorted order rows (i - 1) near (ap (λ k. is_lt (compare_on order (get_or rows k []) (get_or rows (i - 1) []))) e ∙ h) (sorted order rows) refl)
 
 pub returns : goal.returns
-returns c = sym (sorted_from c.args.columns.now c.args.chunk.now.rows (λ k l. c.loop-i.invariant k (omega (arith, c.len-i-end.ensures, c.loop-i-test.false))))
+returns c = sym (sorted_from c.args.order.now c.args.chunk.now.rows (λ k l. c.loop-i.invariant k (omega (arith, c.len-i-end.ensures, c.loop-i-test.false))))

@@ -4,5 +4,5 @@ use Rattle.vx_rows_values.specs.Order.{compare_on}
 use Rattle.vx_match_keys.proofs.rising.compare_in.Given as goal
 
 -- what is left decides
-abbrev pub invariant-loop-c : goal.invariant-loop-c
-invariant-loop-c l = compare_on l.columns (row l.chunk l.i) (row l.chunk l.j) ≡ compare_on (drop l.c-index l.columns) (row l.chunk l.i) (row l.chunk l.j)
+abbrev pub invariant-loop-entry : goal.invariant-loop-entry
+invariant-loop-entry l = compare_on l.order (row l.chunk l.i) (row l.chunk l.j) ≡ compare_on (drop l.entry-index l.order) (row l.chunk l.i) (row l.chunk l.j)

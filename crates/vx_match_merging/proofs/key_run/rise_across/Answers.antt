@@ -8,4 +8,4 @@ returns-else-from-len c = λ front back.
     let some = c.if-from-len.false in
     let long = c.len.ensures in
     let near : c.args.from < length rows = omega (arith, some, long) in
-    rise-across c.args.columns.now rows c.args.from c.rises_at.result near back (c.rises_at.ensures front)
+    rise-across c.args.order.now rows c.args.from c.rises_at.result near back (c.rises_at.ensures front)

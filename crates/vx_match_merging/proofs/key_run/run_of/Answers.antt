@@ -1,9 +1,9 @@
 use Rattle.std.proofs.Common.{arith, ◌≡◌, ◌∙◌, ◌+◌, ◌<◌, ◌≤◌, ◌++◌, ◌∷◌, [], true, false, cond, ap, sym, subst, take, drop, length, append_assoc}
 use Rattle.std.specs.Ordering.{is_gt, is_lt}
 use Rattle.std.proofs.lemmas.List.{take_more, take-append-drop}
-use Rattle.vx_rows_values.specs.Values.{row_cmp, pick}
 use Rattle.vx_rows_values.specs.Order.{sorted}
 use Rattle.vx_rows.specs.View.{row}
+use Rattle.vx_match_merging.specs.Keys.{directions, key_of, key_cmp}
 use Rattle.vx_match_merging.specs.Merged.{HasMerged, state_at, last_key}
 use Rattle.vx_match_merging.proofs.RiseFacts.{rise-front, last-push}
 use Rattle.vx_match_merging.proofs.MergeFacts.{right-next}
@@ -13,8 +13,8 @@ use Rattle.vx_match_merging.proofs.key_run.run_of.Goals.{then-is_gt, else-is_gt}
 pub loop-end-preserved : goal.loop-end-preserved
 loop-end-preserved c =
     let inv = c.loop-end.invariant in
-    let lefts = c.args.left_columns.now in
-    let rights = c.args.right_columns.now in
+    let lefts = c.args.left_order.now in
+    let rights = c.args.right_order.now in
     let ws = c.args.right.now.rows in
     let l = row c.args.left.now c.args.i in
     let at = c.loop-end.end in
@@ -33,9 +33,9 @@ loop-end-preserved c =
     record {
       order = low;
       taken = λ ls passed rise merged.
-          let key : last_key lefts (ls ++ l ∷ []) ≡ pick lefts l = last-push lefts ls l in
-          let order : o ≡ row_cmp (last_key lefts (ls ++ l ∷ [])) (pick rights (row c.args.right.now at)) =
-          c.compare_rows-order.ensures ∙ ap (λ k. row_cmp k (pick rights (row c.args.right.now at))) (sym key) in
+          let key : last_key lefts (ls ++ l ∷ []) ≡ key_of lefts l = last-push lefts ls l in
+          let order : o ≡ key_cmp (directions lefts) (last_key lefts (ls ++ l ∷ [])) (key_of rights (row c.args.right.now at)) =
+          c.compare_rows-order.ensures ∙ ap (λ k. key_cmp (directions lefts) k (key_of rights (row c.args.right.now at))) (sym key) in
           let more : take (at + 1) ws ≡ take at ws ++ row c.args.right.now at ∷ [] = take_more ws at [] near in
           let whole : (passed ++ take at ws) ++ row c.args.right.now at ∷ [] ≡ passed ++ take (at + 1) ws =
           append_assoc passed (take at ws) (row c.args.right.now at ∷ []) ∙ ap (λ xs. passed ++ xs) (sym more) in

@@ -1,5 +1,5 @@
 use Rattle.std.proofs.Common.{◌∙◌, ◌&&◌, [], sym, subst, flat_map}
-use Rattle.vx_rows_values.specs.Order.{sorted}
+use Rattle.vx_rows_values.specs.Order.{order_columns, sorted}
 use Rattle.vx_rows_values.proofs.Booleans.{and-both}
 use Rattle.vx_match_merging.specs.declared.merging.MergeFault.{MergeFault}
 use Rattle.vx_match_keys.specs.Matched.{matched}
@@ -13,8 +13,8 @@ pub returns-in_err-take_left-clause-err : goal.returns-in_err-take_left-clause-e
 returns-in_err-take_left-clause-err c =
     let ls = c.args.left.now.rows in
     let rs = c.args.right.now.rows in
-    let lefts = c.args.left_columns.now in
-    let rights = c.args.right_columns.now in
+    let lefts = c.args.left_order.now in
+    let rights = c.args.right_order.now in
     let e = c.in_err-take_left.field-0.0 in
     let by = c.in_ok-merge.ensures.lefts ∙ c.in_ok-lefts.ensures.items in
     let all = c.in_ok-slice.ensures.rows ∙ whole-range ls c.len.result c.len.ensures in
@@ -26,8 +26,8 @@ pub returns-in_err-take_right-clause-err : goal.returns-in_err-take_right-clause
 returns-in_err-take_right-clause-err c =
     let ls = c.args.left.now.rows in
     let rs = c.args.right.now.rows in
-    let lefts = c.args.left_columns.now in
-    let rights = c.args.right_columns.now in
+    let lefts = c.args.left_order.now in
+    let rights = c.args.right_order.now in
     let e = c.in_err-take_right.field-0.0 in
     let xs = c.in_ok-slice.field-0.rows in
     let one = c.in_ok-take_left.ensures.joined c.in_ok-merge.ensures.left_ended [] [] [] c.in_ok-merge.ensures.nothing in
@@ -40,8 +40,8 @@ pub returns-in_err-joined-clause-err : goal.returns-in_err-joined-clause-err
 returns-in_err-joined-clause-err c =
     let ls = c.args.left.now.rows in
     let rs = c.args.right.now.rows in
-    let lefts = c.args.left_columns.now in
-    let rights = c.args.right_columns.now in
+    let lefts = c.args.left_order.now in
+    let rights = c.args.right_order.now in
     let e = c.in_err-joined.field-0.0 in
     let xs = c.in_ok-slice.field-0.rows in
     let zs = c.in_ok-slice-2.field-0.rows in
@@ -71,7 +71,7 @@ returns-in-Left-clause-rows c = λ on on-lefts on-rights.
     let all-right = c.in_ok-slice-2.ensures.rows ∙ whole-range rs c.len-2.result c.len-2.ensures in
     let need = need-left c.join_some.new.self (sym c.needs.ensures ∙ c.in-Left.is) in
     joined-all c.join_some.new.self xs zs c.in_ok-joined.joined.rows four need.0
-    ∙ ((λ i. flat_map (matched (lefts i) (rights i) (all-right i)) (all-left i)) ∙ (λ i. flat_map (matched (on-lefts i) (on-rights i) rs) ls))
+    ∙ ((λ i. flat_map (matched (order_columns (lefts i)) (order_columns (rights i)) (all-right i)) (all-left i)) ∙ (λ i. flat_map (matched (on-lefts i) (on-rights i) rs) ls))
 
 pub returns-in-Left-clause-rise : goal.returns-in-Left-clause-rise
 returns-in-Left-clause-rise c =
@@ -91,5 +91,5 @@ returns-in-Left-clause-rise c =
     let need = need-left c.join_some.new.self (sym c.needs.ensures ∙ c.in-Left.is) in
     let left = left-rises c.join_some.new.self xs zs c.in_ok-joined.joined.rows four need.0 need.1 in
     let right = right-rises c.join_some.new.self xs zs c.in_ok-joined.joined.rows four in
-    and-both (sorted c.args.left_columns.now ls) (sorted c.args.right_columns.now rs)
+    and-both (sorted c.args.left_order.now ls) (sorted c.args.right_order.now rs)
     (sym (λ i. sorted (lefts i) (all-left i)) ∙ left) (sym (λ i. sorted (rights i) (all-right i)) ∙ right)

@@ -10,7 +10,7 @@ merge_pairs-requires-clause-named c =
     rw made (both-named c.args.left.now.firsts.items c.args.right.now.firsts.items c.args.left.now.named c.args.right.now.named)
 
 pub returns : goal.returns
-returns c merging d e f g lefts rights =
+returns c method d e f g lefts rights =
     let left = facts_of c.args.left.now in
     let right = facts_of c.args.right.now in
     let made = rw (c.as_slice-lefts.ensures.value, c.as_slice-rights.ensures.value) at c.in_ok-firsts.ensures in

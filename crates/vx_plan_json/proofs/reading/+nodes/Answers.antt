@@ -1,4 +1,4 @@
-use Rattle.std.proofs.Common.{◌≡◌, Some, string_bytes, arith, map}
+use Rattle.std.proofs.Common.{◌≡◌, Some, string_bytes, arith}
 use Rattle.std.proofs.lemmas.Result.{err_from_is_err_and}
 use Rattle.serde_json.specs.View.{view}
 use Rattle.vx_plan_json.specs.Document.{claim_form, scan_form, unary_form, binary_form, kind_form}
@@ -47,13 +47,13 @@ read_node-returns-in_ok-second-in-Binary t c =
 
 pub read_node-returns-in_err-node-in-Exchange : goal.read_node-returns-in_err-node-in-Exchange
 read_node-returns-in_err-node-in-Exchange t c =
-    let own : own_under c.args.derives (view c.args.value.now) ≡ Some (own_exchange (claim_form c.in-Exchange.claim) (kind_form c.in-Exchange.kind) (map string_bytes c.in-Exchange.merge.items) (view c.in-Exchange.input.now)) = rw c.in-Exchange.is at c.in-Ok.ensures in
+    let own : own_under c.args.derives (view c.args.value.now) ≡ Some (own_exchange (claim_form c.in-Exchange.claim) (kind_form c.in-Exchange.kind) c.in-Exchange.merge.items (view c.in-Exchange.input.now)) = rw c.in-Exchange.is at c.in-Ok.ensures in
     let step = node_step c.args.derives c.args.levels c.args.seen c.args.path.now (view c.args.value.now) _ (omega arith) (omega arith) own in
     let p = err_from_is_err_and c.from_residual-in_err-node-in-Exchange.result c.from_residual-in_err-node-in-Exchange.ensures.1 in
     rw (p.1, p.2, step) (fails_then _ _ _ c.in_err-node-in-Exchange.ensures)
 
 pub read_node-returns-in_ok-node-in-Exchange : goal.read_node-returns-in_ok-node-in-Exchange
 read_node-returns-in_ok-node-in-Exchange t c =
-    let own : own_under c.args.derives (view c.args.value.now) ≡ Some (own_exchange (claim_form c.in-Exchange.claim) (kind_form c.in-Exchange.kind) (map string_bytes c.in-Exchange.merge.items) (view c.in-Exchange.input.now)) = rw c.in-Exchange.is at c.in-Ok.ensures in
+    let own : own_under c.args.derives (view c.args.value.now) ≡ Some (own_exchange (claim_form c.in-Exchange.claim) (kind_form c.in-Exchange.kind) c.in-Exchange.merge.items (view c.in-Exchange.input.now)) = rw c.in-Exchange.is at c.in-Ok.ensures in
     let step = node_step c.args.derives c.args.levels c.args.seen c.args.path.now (view c.args.value.now) _ (omega arith) (omega arith) own in
     rw (step, c.in_ok-node-in-Exchange.ensures)

@@ -4,5 +4,5 @@ use Rattle.vx_rows_values.specs.Order.{compare_on}
 use Rattle.vx_rows.proofs.sorting.compare_on.Given as goal
 
 -- what is left decides
-abbrev pub invariant-loop-c : goal.invariant-loop-c
-invariant-loop-c l = compare_on l.cols (row l.a l.i) (row l.b l.j) ≡ compare_on (drop l.c-index l.cols) (row l.a l.i) (row l.b l.j)
+abbrev pub invariant-loop-entry : goal.invariant-loop-entry
+invariant-loop-entry l = compare_on l.order (row l.a l.i) (row l.b l.j) ≡ compare_on (drop l.entry-index l.order) (row l.a l.i) (row l.b l.j)

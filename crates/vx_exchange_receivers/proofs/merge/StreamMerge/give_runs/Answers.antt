@@ -7,7 +7,7 @@ use Rattle.vx_exchange_receivers.proofs.merge.StreamMerge.give_runs.Goals as goa
 
 pub runs-init : goal.runs-init
 runs-init c = record {
-  shape = record { columns = refl; types = refl; many = refl };
+  shape = record { merge = refl; types = refl; many = refl };
   types = c.in_ok-found.ensures.types ∙ (c.deref.ensures.value ∙ ap (λ (y : MergeView). y.types) c.self.view_is);
   ends = λ p. refl;
   left = let none = ap length c.in_ok-found.ensures.rows in omega (arith, none);
@@ -22,7 +22,7 @@ runs-preserved c =
     let k = c.in_ok-give_run.ensures in
     let longer = k.more in
     record {
-      shape = record { columns = e.shape.columns ∙ i.shape.columns; types = e.shape.types ∙ i.shape.types; many = e.shape.many ∙ i.shape.many };
+      shape = record { merge = e.shape.merge ∙ i.shape.merge; types = e.shape.types ∙ i.shape.types; many = e.shape.many ∙ i.shape.many };
       types = e.types ∙ i.types;
       ends = λ p. e.ends p ∙ i.ends p;
       left = let a = k.left in let b = i.left in omega (arith, a, b);

@@ -1,5 +1,5 @@
 use Rattle.std.proofs.Common.{arith, sym, subst, ap, ◌∙◌, length}
-use Rattle.vx_rows_values.specs.Order.{sorted}
+use Rattle.vx_rows_values.specs.Order.{order_columns, sorted}
 use Rattle.vx_rows.specs.View.{AreColumns}
 use Rattle.vx_exchange_receivers.proofs.HeadsLeft.{ends-set}
 use Rattle.vx_exchange_receivers.proofs.MergeCalls.{call-types, call-columns, out, call-put-row, call-put-order, call-put-alike, call-put-fits, call-put-rises, call-put-falls}
@@ -13,7 +13,7 @@ rises-requires c =
     let x = c.index.result.now in
     let g = c.in_ok-next.next in
     let e = c.in_ok-next.ensures in
-    subst (λ cs. AreColumns (length g.rows.types) cs) (sym c.deref.ensures.value) (call-columns _ _ c.self.view_is c.self.invariant c.args.from c.requires.missing x g c.index.ensures e.types)
+    subst (λ order. AreColumns (length g.rows.types) (order_columns order)) (sym c.deref.ensures.value) (call-columns _ _ c.self.view_is c.self.invariant c.args.from c.requires.missing x g c.index.ensures e.types)
 
 pub add_to_order-requires-clause-alike : goal.add_to_order-requires-clause-alike
 add_to_order-requires-clause-alike c =
@@ -51,7 +51,7 @@ invariant_of-self-2 c =
     let g = c.in_ok-next.next in
     let e = c.in_ok-next.ensures in
     let a = c.add_to_order.ensures in
-    call-put-fits _ _ c.self.view_is c.self.invariant c.args.from c.requires.missing x g c.index.ensures c.args.rows.rows e.rows e.at e.types e.ended (ap (λ cs. sorted cs g.rows.rows) (sym c.deref.ensures.value) ∙ (sym c.rises.ensures ∙ c.if-not-rises.false)) c.add_to_order.new.order.items (rw (c.deref-3.ensures.value, c.deref-2.ensures.value) at a.order) (rw c.reserve.ensures.items at a.kept) a.added
+    call-put-fits _ _ c.self.view_is c.self.invariant c.args.from c.requires.missing x g c.index.ensures c.args.rows.rows e.rows e.at e.types e.ended (ap (λ order. sorted order g.rows.rows) (sym c.deref.ensures.value) ∙ (sym c.rises.ensures ∙ c.if-not-rises.false)) c.add_to_order.new.order.items (rw (c.deref-3.ensures.value, c.deref-2.ensures.value) at a.order) (rw c.reserve.ensures.items at a.kept) a.added
     c.first_lacking-self-inside.result (rw c.deref-4.ensures.value at c.first_lacking-self-inside.ensures)
 
 pub returns-then-not-rises-clause-falls : goal.returns-then-not-rises-clause-falls
@@ -59,14 +59,14 @@ returns-then-not-rises-clause-falls c t closed came given h =
     let x = c.index.result.now in
     let g = c.in_ok-next.next in
     let e = c.in_ok-next.ensures in
-    call-put-falls _ _ c.self.view_is c.self.invariant c.args.from c.requires.missing x g c.index.ensures c.args.rows.rows e.rows e.at e.types e.ended (ap (λ cs. sorted cs g.rows.rows) (sym c.deref.ensures.value) ∙ (sym c.rises.ensures ∙ c.if-not-rises.true)) closed came given h
+    call-put-falls _ _ c.self.view_is c.self.invariant c.args.from c.requires.missing x g c.index.ensures c.args.rows.rows e.rows e.at e.types e.ended (ap (λ order. sorted order g.rows.rows) (sym c.deref.ensures.value) ∙ (sym c.rises.ensures ∙ c.if-not-rises.true)) closed came given h
 
 pub returns-clause-rises : goal.returns-clause-rises
 returns-clause-rises c t closed came given h =
     let x = c.index.result.now in
     let g = c.in_ok-next.next in
     let e = c.in_ok-next.ensures in
-    call-put-rises _ _ c.self.view_is c.self.invariant c.args.from c.requires.missing x g c.index.ensures c.args.rows.rows e.rows e.at e.types e.ended (ap (λ cs. sorted cs g.rows.rows) (sym c.deref.ensures.value) ∙ (sym c.rises.ensures ∙ c.if-not-rises.false)) closed came given h
+    call-put-rises _ _ c.self.view_is c.self.invariant c.args.from c.requires.missing x g c.index.ensures c.args.rows.rows e.rows e.at e.types e.ended (ap (λ order. sorted order g.rows.rows) (sym c.deref.ensures.value) ∙ (sym c.rises.ensures ∙ c.if-not-rises.false)) closed came given h
 
 pub returns-clause-ends : goal.returns-clause-ends
 returns-clause-ends c = rw (← c.self.view_is) (ends-set c.self.inside.heads.items c.args.from c.index.result.now c.in_ok-next.next c.index.ensures c.in_ok-next.ensures.ended)

@@ -9,7 +9,7 @@ returns-in-Ok-true-clause-stands c =
     let s = c.args.self.now in
     let e = c.put.ensures in
     rw c.requires.running (λ l packet f b h.
-    merging-rows s.port s.kernel l c.args.from packet f (h.runs refl).ours (h.runs refl).are_open h.same _ e.shape.many e.shape.columns e.ends c.args.rows.rows b
+    merging-rows s.port s.kernel l c.args.from packet f (h.runs refl).ours (h.runs refl).are_open h.same _ e.shape.many e.shape.merge e.ends c.args.rows.rows b
     (c.in-Ok-true.ensures.rises (search rules) (has_closed l) (came_rows l) l.gave.rows (h.runs refl).merged))
 
 pub returns-in-Ok-false-clause-stands : goal.returns-in-Ok-false-clause-stands
@@ -17,7 +17,7 @@ returns-in-Ok-false-clause-stands c =
     let s = c.args.self.now in
     let e = c.put.ensures in
     let k = c.fail_by.ensures in
-    rw (k.over, k.result, k.port, k.kernel, e.shape.many, e.shape.columns, c.requires.running) (λ l packet f b h.
+    rw (k.over, k.result, k.port, k.kernel, e.shape.many, e.shape.merge, c.requires.running) (λ l packet f b h.
     merging-fails _ _ _ _ refl (merging-falls s.port s.kernel l c.args.from packet f (h.runs refl).ours (h.runs refl).are_open h.same c.requires.few c.args.rows.rows b h.abides.before
     (c.in-Ok-false.ensures.falls (search rules) (has_closed l) (came_rows l) l.gave.rows (h.runs refl).merged)))
 
@@ -26,7 +26,7 @@ returns-in-Err-clause-stands c =
     let s = c.args.self.now in
     let e = c.put.ensures in
     let k = c.fail_by-in-Err.ensures in
-    rw (k.over, k.result, k.port, k.kernel, e.shape.many, e.shape.columns, c.requires.running) (λ l packet f b h.
+    rw (k.over, k.result, k.port, k.kernel, e.shape.many, e.shape.merge, c.requires.running) (λ l packet f b h.
     merging-fails _ _ _ _ refl (merging-refused s.port s.kernel l c.args.from packet f (h.runs refl).ours (h.runs refl).are_open h.same h.abides.before))
 
 pub returns-in-Ok-true-clause-pays : goal.returns-in-Ok-true-clause-pays

@@ -22,7 +22,7 @@ returns-in-Input-End-clause-stands c l h =
     let P : Got → Type 0 = λ q. MergeJoinStands c.go_on.new.self (after l want.Left q c.go_on.result) in
     subst P (sym is)
     (c.go_on.ensures.stands (with_left_over l Ended)
-    (left-ends s.node s.on.items s.kernel j l s.over c.requires.running h e.shape e.left_ended e.right_ended (e.joined l.left.rows l.right.rows l.gave.rows (h.runs c.requires.running).joined)))
+    (left-ends s.node s.falls.items s.on.items s.kernel j l s.over c.requires.running h e.shape e.left_ended e.right_ended (e.joined l.left.rows l.right.rows l.gave.rows (h.runs c.requires.running).joined)))
 
 pub returns-in-Input-Gave-clause-pays : goal.returns-in-Input-Gave-clause-pays
 returns-in-Input-Gave-clause-pays c =

@@ -15,7 +15,7 @@ returns-in-Ok-clause-stands c l h =
     let e = c.in-Ok.ensures in
     let r = need-left s.kernel c.requires.need in
     c.go_on.ensures.stands (with_left l xs)
-    (left-came s.node s.on.items s.kernel c.take_left.new.self l s.over c.requires.running h xs e.shape e.left_ended e.right_ended
+    (left-came s.node s.falls.items s.on.items s.kernel c.take_left.new.self l s.over c.requires.running h xs e.shape e.left_ended e.right_ended
     (e.joined r.1 l.left.rows l.right.rows l.gave.rows (h.runs c.requires.running).joined))
 
 pub returns-in-Ok-clause-pays : goal.returns-in-Ok-clause-pays

@@ -14,7 +14,7 @@ returns-in-Ok-clause-stands c l h =
     let xs = c.args.batch.rows in
     let e = c.in-Ok.ensures in
     c.go_on.ensures.stands (with_right l xs)
-    (right-came s.node s.on.items s.kernel c.take_right.new.self l s.over c.requires.running h xs e.shape e.left_ended e.right_ended
+    (right-came s.node s.falls.items s.on.items s.kernel c.take_right.new.self l s.over c.requires.running h xs e.shape e.left_ended e.right_ended
     (e.joined (need-right s.kernel c.requires.need) l.left.rows l.right.rows l.gave.rows (h.runs c.requires.running).joined))
 
 pub returns-in-Ok-clause-pays : goal.returns-in-Ok-clause-pays
@@ -32,5 +32,5 @@ pub returns-in-Err-clause-stands : goal.returns-in-Err-clause-stands
 returns-in-Err-clause-stands c l h =
     let s = c.args.self.now in
     rw c.own_fault-fault.ensures
-    (right-batch-fails s.node s.on.items s.kernel c.take_right.new.self l s.over c.requires.running h c.in-Err.e c.args.batch.rows
+    (right-batch-fails s.node s.falls.items s.on.items s.kernel c.take_right.new.self l s.over c.requires.running h c.in-Err.e c.args.batch.rows
     (c.in-Err.ensures.err l.left.rows l.right.rows l.gave.rows (h.runs c.requires.running).joined))

@@ -21,12 +21,12 @@ pub returns-clause-joined : goal.returns-clause-joined
 returns-clause-joined c = λ earlier passed ys h run.
     let some = c.if-next-count.false in
     let long = c.len-count.ensures in
-    let o = c.compare_rows-order.result in
+    let o = c.compare_rows-step.result in
     let start = c.self.inside.start in
     let end = c.self.inside.end in
     let moved : (to : ℕ) → to ≡ cond (is_lt o) end start → _ = λ to at.
     call-advanced _ _ c.self.view_is earlier passed ys h c.requires (omega (arith, some, long)) c.deref.result.now c.deref-2.result.now c.deref.ensures.value c.deref-2.ensures.value
-    o c.compare_rows-order.ensures c.self.invariant.5 run to at in
+    o c.compare_rows-step.ensures c.self.invariant.5 run to at in
     elim c.if-is_lt.branch [
       | then-is_lt w ↦ rw w.self-inside-is (moved end (ap (λ b. cond b end start) (sym w.if-is_lt.true ∙ c.is_lt.ensures)))
       | else-is_lt w ↦ rw w.self-inside-is (moved start (ap (λ b. cond b end start) (sym w.if-is_lt.false ∙ c.is_lt.ensures)))

@@ -1,5 +1,6 @@
 use Rattle.std.proofs.Common.{ℕ, ◌+◌, ◌-◌, List, length, arith, sym, subst}
 use Rattle.std.specs.Prelude.{Option}
+use Rattle.vx_rows_values.specs.Order.{rising}
 use Rattle.vx_rows.specs.View.{ArePositions}
 use Rattle.vx_rows.proofs.PlaceFacts.{order-there}
 use Rattle.vx_rows.proofs.PairFacts.{Least, least-walk, least-end, least-is}
@@ -8,12 +9,12 @@ use Rattle.vx_rows.proofs.table.Table.least_clash.Goals as goal
 pub with_pair-best-requires-clause-first : goal.with_pair-best-requires-clause-first
 with_pair-best-requires-clause-first c =
     let rows = c.args.self.now.rows in
-    subst (λ (ps : List ℕ). ArePositions (length rows) ps) (sym c.requires.order) (order-there c.args.cols.now rows) (c.loop-k.k - 1) 0 (omega arith)
+    subst (λ (ps : List ℕ). ArePositions (length rows) ps) (sym c.requires.order) (order-there (rising c.args.cols.now) rows) (c.loop-k.k - 1) 0 (omega arith)
 
 pub with_pair-best-requires-clause-second : goal.with_pair-best-requires-clause-second
 with_pair-best-requires-clause-second c =
     let rows = c.args.self.now.rows in
-    subst (λ (ps : List ℕ). ArePositions (length rows) ps) (sym c.requires.order) (order-there c.args.cols.now rows) c.loop-k.k 0 (omega arith)
+    subst (λ (ps : List ℕ). ArePositions (length rows) ps) (sym c.requires.order) (order-there (rising c.args.cols.now) rows) c.loop-k.k 0 (omega arith)
 
 pub loop-k-preserved : goal.loop-k-preserved
 loop-k-preserved c =

@@ -1,5 +1,5 @@
 use Rattle.std.proofs.Common.{◌≡◌, suc, ◌-◌, arith, ap, ◌∙◌, sym, get_or, true, [], true≢false, is_lt}
-use Rattle.vx_rows_values.specs.Order.{compare_on}
+use Rattle.vx_rows_values.specs.Order.{rising, compare_on}
 use Rattle.vx_rows_values.proofs.KeyFacts.{rises-apart, sorted-rises}
 use Rattle.vx_rows.proofs.table.Table.rises.Goals as goal
 
@@ -13,5 +13,5 @@ returns-then-not-is_lt-clause-rising c = λ s e.
     let i = c.loop-i.i in
     let back : suc (i - 1) ≡ i = omega arith in
     let up = sorted-rises cols rows s e (i - 1) (omega (arith, c.len-i-end.ensures, c.loop-i-test.true)) in
-    let here : is_lt (compare_on cols (get_or rows (i - 1) []) (get_or rows i [])) ≡ true = ap (λ n. is_lt (compare_on cols (get_or rows (i - 1) []) (get_or rows n []))) (sym back) ∙ up in
-    absurd (true≢false (sym here ∙ (ap is_lt (sym c.compare_on.ensures) ∙ (sym c.is_lt.ensures ∙ c.if-not-is_lt.true))))
+    let here : is_lt (compare_on (rising cols) (get_or rows (i - 1) []) (get_or rows i [])) ≡ true = ap (λ n. is_lt (compare_on (rising cols) (get_or rows (i - 1) []) (get_or rows n []))) (sym back) ∙ up in
+    absurd (true≢false (sym here ∙ (ap is_lt (sym c.compare_columns.ensures) ∙ (sym c.is_lt.ensures ∙ c.if-not-is_lt.true))))
