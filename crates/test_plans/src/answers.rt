@@ -8,8 +8,9 @@ use std::alloc::{AllocError, Global};
 use vx_catalog_relations::Catalog;
 use vx_check::explain;
 use vx_check_annotate::annotate;
+use vx_check_directions::planned;
 use vx_check_rules::{CheckFault, CheckedPlan, Refused, check};
-use vx_plan::{erase, resolve};
+use vx_plan::erase;
 use vx_plan_json::{Plan, PlanFault, to_json};
 use vx_plan_nodes::TypedPlan;
 
@@ -67,7 +68,7 @@ fn alike(alloc: Global, bytes: &[u8], others: &[u8]) -> Answer {
 
 fn typed(alloc: Global, catalog: &Catalog, bytes: &[u8]) -> Result<TypedPlan, PlanFault> {
     let plan = Plan::read(alloc, bytes)?;
-    resolve(alloc, &plan, catalog)
+    planned(alloc, &plan, catalog)
 }
 
 fn resolved(alloc: Global, catalog: &Catalog, bytes: &[u8]) -> Answer {

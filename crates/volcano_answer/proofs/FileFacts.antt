@@ -7,7 +7,7 @@ use Rattle.vx_plan_json.specs.Document.{Document}
 use Rattle.vx_plan_json.specs.Fault as plan
 use Rattle.vx_plan_json.specs.Reading.{document_of_text}
 use Rattle.vx_plan_json.proofs.NodeFacts.{fails_then}
-use Rattle.vx_plan.specs.Resolve.{resolved}
+use Rattle.vx_check_directions.specs.Planned.{planned}
 use Rattle.volcano_arguments.specs.Asked.{Paths}
 use Rattle.volcano_refusals.specs.declared.refusal.Refusal.{Refusal}
 use Rattle.vx_catalog_bytes.specs.Stored.{Stored, silent, absent, present, stored_by, IfBytes, OpensAs}
@@ -70,7 +70,7 @@ not_read_refused files reliable input failed paths e (no_plan_bytes relations de
 not_read_refused files reliable input failed paths e (no_plan relations fault is declares h) =
     for_contents (for_plan relations fault is declares
     (known_weaker (known_at files (input_after input paths.catalog) paths.plan) (λ bytes. plan.Fails fault (document_of_text bytes)) (λ bytes. plan.Fails fault (plan_from relations (document_of_text bytes)))
-    (λ bytes k. fails_then fault (document_of_text bytes) (λ d. resolved d relations) k) h))
+    (λ bytes k. fails_then fault (document_of_text bytes) (λ d. planned d relations) k) h))
 
 -- a file that failed while it was read
 pub unreadable_broken : (reliable failed : Bool) (known : Option (List ℕ)) (file : Stored) → (reliable ≡ true → failed ≡ false) → ExplainsAll max_text_bytes known failed fault.Broken → IsUnreadable file reliable

@@ -12,6 +12,8 @@ use Rattle.vx_plan_json.proofs.NodeFacts.{fails_then}
 use Rattle.vx_plan_nodes.specs.Names.{Names, TypedPlanView}
 use Rattle.vx_plan_nodes.specs.Outline.{Outline}
 use Rattle.vx_plan.specs.Resolve.{typed_in, test_sizes, test_ranges, resolved}
+use Rattle.vx_check_directions.specs.Directed.{with_directions}
+use Rattle.vx_check_directions.specs.Planned.{planned}
 use Rattle.volcano_refusals.specs.declared.refusal.Refusal.TheVariants as refusal
 use Rattle.volcano_answer.specs.Planning.{Reading, plan_from, IsPlanned, IsPlanRefusal, for_plan}
 
@@ -35,28 +37,36 @@ resolved_is_over d catalog =
     (λ u. then_holds (IsOver catalog) (λ v. typed_in s false 0 d.root >>= last) (test_ranges d.ranges)
     (λ v. then_holds (IsOver catalog) last (typed_in s false 0 d.root) (λ t. refl)))
 
+-- so does one whose joins by merging are directed
+directed_is_over : (catalog : List Relation) (r : Result TypedPlanView Refusal) → Holds (IsOver catalog) r → Holds (IsOver catalog) (with_directions r)
+directed_is_over catalog (Ok p) h = h
+directed_is_over catalog (Err e) h = tt
+
+planned_is_over : (d : Document) (catalog : List Relation) → Holds (IsOver catalog) (planned d catalog)
+planned_is_over d catalog = directed_is_over catalog (resolved d catalog) (resolved_is_over d catalog)
+
 -- the plan of what was read, where what is known of it holds of it
 pub is_planned : (declared : Reading (Result (List Relation) catalog.Refusal)) (document : Reading (Result Document plan.Refusal)) (relations : List Relation) (d : Document)
     (read : Result Document plan.Refusal) (p : TypedPlanView) → declared (λ r. r ≡ Ok relations) → ((P : Result Document plan.Refusal → Type 0) → P read → document P)
-    → read ≡ Ok d → resolved d relations ≡ Ok p → IsPlanned declared document p
-is_planned declared document relations d read p is known reads planned =
-    let over = holds_at (IsOver relations) (resolved d relations) p (resolved_is_over d relations) planned in
+    → read ≡ Ok d → planned d relations ≡ Ok p → IsPlanned declared document p
+is_planned declared document relations d read p is known reads says =
+    let over = holds_at (IsOver relations) (planned d relations) p (planned_is_over d relations) says in
     let D : List Relation → Type 0 = λ rs. declared (λ r. r ≡ Ok rs) in
     let Q : List Relation → Type 0 = λ rs. document (λ r. plan_from rs r ≡ Ok p) in
     let P : Result Document plan.Refusal → Type 0 = λ r. plan_from relations r ≡ Ok p in
-    record { declares = subst D (sym over) is; planned = subst Q (sym over) (known P (subst P (sym reads) planned)) }
+    record { declares = subst D (sym over) is; planned = subst Q (sym over) (known P (subst P (sym reads) says)) }
 
 -- the plan was not read
 pub reading_fails : (declared : Reading (Result (List Relation) catalog.Refusal)) (document : Reading (Result Document plan.Refusal)) (relations : List Relation)
     (read : Result Document plan.Refusal) (fault : PlanFault) → declared (λ r. r ≡ Ok relations) → ((P : Result Document plan.Refusal → Type 0) → P read → document P)
     → plan.Fails fault read → IsPlanRefusal declared document (refusal.Plan fault)
 reading_fails declared document relations read fault is known fails =
-    for_plan relations fault refl is (known (λ r. plan.Fails fault (plan_from relations r)) (fails_then fault read (λ d. resolved d relations) fails))
+    for_plan relations fault refl is (known (λ r. plan.Fails fault (plan_from relations r)) (fails_then fault read (λ d. planned d relations) fails))
 
 -- the plan that was read does not resolve
 pub planning_fails : (declared : Reading (Result (List Relation) catalog.Refusal)) (document : Reading (Result Document plan.Refusal)) (relations : List Relation) (d : Document)
     (read : Result Document plan.Refusal) (fault : PlanFault) → declared (λ r. r ≡ Ok relations) → ((P : Result Document plan.Refusal → Type 0) → P read → document P)
-    → read ≡ Ok d → plan.Fails fault (resolved d relations) → IsPlanRefusal declared document (refusal.Plan fault)
+    → read ≡ Ok d → plan.Fails fault (planned d relations) → IsPlanRefusal declared document (refusal.Plan fault)
 planning_fails declared document relations d read fault is known reads fails =
     let P : Result Document plan.Refusal → Type 0 = λ r. plan.Fails fault (plan_from relations r) in
     for_plan relations fault refl is (known P (subst P (sym reads) fails))

@@ -23,7 +23,7 @@ use Rattle.volcano_answer.specs.Answer.{IsAnswer, RefusedWith}
 use Rattle.volcano_answer.specs.Arguments.{IsSetting, IsNoSetting}
 use Rattle.vx_catalog_relations.specs.Relation.{Relation}
 use Rattle.vx_plan_json.specs.Document.{Document}
-use Rattle.vx_plan.specs.Resolve.{resolved}
+use Rattle.vx_check_directions.specs.Planned.{planned}
 use Rattle.volcano_drawing.specs.Drawing.{IsDrawn}
 use Rattle.volcano_drawing.specs.Fault.{HasNoTotals}
 use Rattle.volcano_stats.specs.Words.{op_words}
@@ -150,7 +150,7 @@ AnswersAll files input paths text = (p : TypedPlanView) × IsFilesPlan files inp
 -- the lines of the nodes of the plan of these paths that fail, a cause before those that come of it
 abbrev pub FailsAtAll : (List ℕ → Stored) → Option (List ℕ) → Paths → List ℕ → Type 0
 FailsAtAll files input paths lines =
-    (relations : List Relation) × (d : Document) × (p : TypedPlanView) × AreRead files input paths relations d × (resolved d relations ≡ Ok p) × AreFailures relations d p lines
+    (relations : List Relation) × (d : Document) × (p : TypedPlanView) × AreRead files input paths relations d × (planned d relations ≡ Ok p) × AreFailures relations d p lines
 
 -- the text begins with the code that a word is or names, and a space
 abbrev pub IsEntry : List ℕ → List ℕ → Type 0

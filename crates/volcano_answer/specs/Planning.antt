@@ -3,7 +3,7 @@ use Rattle.std.specs.Prelude.{◌≡◌, ℕ, List, Result, Ok}
 use Rattle.vx_catalog_relations.specs.Relation.{Relation}
 use Rattle.vx_catalog_relations.specs.Naming as catalog
 use Rattle.vx_catalog_relations.specs.declared.fault.CatalogFault.{CatalogFault}
-use Rattle.vx_plan.specs.Resolve.{resolved}
+use Rattle.vx_check_directions.specs.Planned.{planned}
 use Rattle.vx_plan_json.specs.Document.{Document}
 use Rattle.vx_plan_json.specs.Fault.{◌>>=◌}
 use Rattle.vx_plan_json.specs.Fault as plan
@@ -15,7 +15,7 @@ use Rattle.volcano_refusals.specs.declared.refusal.Refusal.TheVariants as refusa
 
 -- the plan of what was read, over a catalog
 abbrev pub plan_from : List Relation → Result Document plan.Refusal → Result TypedPlanView plan.Refusal
-plan_from relations read = read >>= λ d. resolved d relations
+plan_from relations read = read >>= λ d. planned d relations
 
 -- what was read, by the facts that hold of it
 abbrev pub Reading : Type 0 → Type 1

@@ -19,8 +19,8 @@ use volcano_bundle::{Bundle, bundle_in, value_of_text};
 use volcano_refusals::Refusal;
 use volcano_stats::{StatsForm, Timer, WorkPhase};
 use vx_catalog_relations::Catalog;
+use vx_check_directions::planned;
 use vx_exec_runs::Runs;
-use vx_plan::resolve;
 use vx_plan_json::Plan;
 use vx_plan_nodes::TypedPlan;
 
@@ -31,7 +31,7 @@ fn plan_from_bundle(alloc: Global, bundle: &Bundle<'_>) -> Result<TypedPlan, Ref
 {
     let catalog = Catalog::of_value(alloc, bundle.catalog())?;
     let plan = Plan::of_value(alloc, bundle.plan())?;
-    Ok(resolve(alloc, &plan, &catalog)?)
+    Ok(planned(alloc, &plan, &catalog)?)
 }
 
 // What answers a bundle. The phases that came before are in the timer.

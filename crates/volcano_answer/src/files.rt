@@ -6,7 +6,7 @@ ghost use Rattle.vx_plan_nodes.specs.TypedView.{resolved_of};
 ghost use Rattle.volcano_arguments.specs.Asked.{paths_are};
 ghost use Rattle.vx_catalog_bytes.specs.Stored.{IfBytes};
 ghost use Rattle.vx_plan_json.specs.PlanView.{document_of};
-ghost use Rattle.vx_plan.specs.Resolve.{resolved};
+ghost use Rattle.vx_check_directions.specs.Planned.{planned};
 ghost use Rattle.volcano_answer.specs.Files.{is_input, left_of, known_at, IsFileRefusal, IsInputRefusal, IsReadRefusal, AreRead, AreNotRead, IsFilesPlan, IsFilesRefusal};
 
 use std::alloc::Global;
@@ -14,7 +14,7 @@ use volcano_arguments::Sources;
 use volcano_refusals::Refusal;
 use vx_catalog_bytes::{ByteIn, ReadFault, Store, read_all};
 use vx_catalog_relations::Catalog;
-use vx_plan::resolve;
+use vx_check_directions::planned;
 use vx_plan_json::Plan;
 use vx_plan_nodes::TypedPlan;
 use vx_rows_values::limits::MAX_TEXT_BYTES;
@@ -108,12 +108,12 @@ pub fn all_from_files<F: Store, I: ByteIn>(
     sources: Sources<'_>,
 ) -> Result<(Catalog, Plan, TypedPlan), Refusal>
     ensures read { IfOk result (λ r. AreRead (F.holds files.now) (I.remaining input.old) (paths_are sources.entry) r.0 (document_of r.1)) }
-    ensures resolved { IfOk result (λ r. resolved (document_of r.1) r.0 ≡ Ok (resolved_of r.2)) }
+    ensures directed { IfOk result (λ r. planned (document_of r.1) r.0 ≡ Ok (resolved_of r.2)) }
     ensures planned { IfOk result (λ r. IsFilesPlan (F.holds files.now) (I.remaining input.old) (paths_are sources.entry) (resolved_of r.2)) }
     ensures refused { IfErr result (IsFilesRefusal (F.holds files.now) (F.is_reliable files.now) (I.remaining input.old) (I.has_failed input.new) (paths_are sources.entry)) }
 {
     let (catalog, plan) = document_from_files(alloc, files, input, sources)?;
-    let typed = resolve(alloc, &plan, &catalog)?;
+    let typed = planned(alloc, &plan, &catalog)?;
     Ok((catalog, plan, typed))
 }
 

@@ -17,8 +17,8 @@ use volcano_refusals::Refusal;
 use volcano_tables::Scanning;
 use vx_catalog_bytes::{ByteIn, Store};
 use vx_catalog_relations::Catalog;
+use vx_check_directions::planned;
 use vx_check_rules::CheckedPlan;
-use vx_plan::resolve;
 use vx_plan_json::Plan;
 
 /// A plan that the checker accepts, and the path that it was read from.
@@ -88,7 +88,7 @@ fn plan_under<F: Store, I: ByteIn>(
 {
     let text = bytes_at(alloc, files, input, was_read, path)?;
     let plan = Plan::read(alloc, text.as_slice())?;
-    accepted(alloc, resolve(alloc, &plan, catalog)?)
+    accepted(alloc, planned(alloc, &plan, catalog)?)
 }
 
 // Whether standard input was read, once the bytes under a path were.

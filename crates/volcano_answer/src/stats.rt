@@ -34,10 +34,10 @@ use volcano_stats::{
 use volcano_tables::{Folder, Tables, load_tables_in_threads};
 use vx_catalog::Database;
 use vx_catalog_bytes::{ByteIn, Store};
+use vx_check_directions::planned;
 use vx_check_rules::CheckedPlan;
 use vx_exec_runs::Runs;
 use vx_exec_setup::{RunCounts, Setting, WorkerCounts};
-use vx_plan::resolve;
 use vx_plan_nodes::TypedPlan;
 
 /// The text of runs, and their statistics up to the time that its write takes, which are empty where none are asked for.
@@ -82,7 +82,7 @@ fn timed_plan<C: Clock, F: Store, I: ByteIn>(
 {
     let (catalog, plan) = document_from_files(alloc, files, input, sources)?;
     timer.end(clock, WorkPhase::Read)?;
-    let typed = resolve(alloc, &plan, &catalog)?;
+    let typed = planned(alloc, &plan, &catalog)?;
     timer.end(clock, WorkPhase::Plan)?;
     Ok(typed)
 }

@@ -9,7 +9,7 @@ use Rattle.vx_plan_json.specs.Fault.{◌>>=◌}
 use Rattle.vx_plan_json.specs.Fault as plan
 use Rattle.vx_plan_json.specs.Reading.{document_of_text}
 use Rattle.vx_plan_json.specs.declared.fault.PlanFault.{PlanFault}
-use Rattle.vx_plan.specs.Resolve.{resolved}
+use Rattle.vx_check_directions.specs.Planned.{planned}
 use Rattle.vx_plan_nodes.specs.Names.{TypedPlanView}
 use Rattle.vx_plan_nodes.specs.Outline.{plan_in}
 use Rattle.vx_check_rules.specs.Refusal.{Rule}
@@ -21,7 +21,7 @@ use Rattle.volcano_refusals.specs.declared.refusal.Refusal.TheVariants as refusa
 
 -- the plan that a text is, over a catalog
 abbrev pub plan_text : List Relation → List ℕ → Result TypedPlanView plan.Refusal
-plan_text relations text = document_of_text text >>= λ d. resolved d relations
+plan_text relations text = document_of_text text >>= λ d. planned d relations
 
 -- the first node whose note is not shown by the rule table that the plan asks for, and the rule that says so
 abbrev pub refusal_in : TypedPlanView → Option (ℕ × Rule)

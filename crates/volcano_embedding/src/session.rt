@@ -20,8 +20,9 @@ use volcano_tables::load_tables;
 use vx_catalog::format_rows;
 use vx_catalog_relations::Catalog;
 use vx_check::explain;
+use vx_check_directions::planned;
 use vx_check_rules::{CheckFault, CheckedPlan, check};
-use vx_plan::{erase, resolve};
+use vx_plan::erase;
 use vx_plan_json::{Plan, PlanFault};
 use vx_plan_nodes::{TypedPlan, name_texts};
 use vx_rows_values::KeySeed;
@@ -102,7 +103,7 @@ impl Session {
         ensures refused { IfErr result (NoPlan self.now.catalog text.now) }
     {
         let plan = Plan::read(alloc, text)?;
-        Ok(resolve(alloc, &plan, self.catalog())?)
+        Ok(planned(alloc, &plan, self.catalog())?)
     }
 
     // The plan that a JSON text is over the catalog, once the checker has accepted it.

@@ -7,20 +7,20 @@ use crate::source_text::SourceText;
 use std::alloc::{AllocError, Global};
 use volcano_diagnostics::{Diagnostic, Label, Note};
 use vx_catalog_relations::Catalog;
+use vx_check_directions::planned;
 use vx_check_failures::{Failure, failures};
 use vx_check_rules::Rule;
 use vx_check_sentences::{Explanation, explanation};
-use vx_plan::resolve;
 use vx_plan_json::{Plan, PlanFault};
 use vx_plan_nodes::TypedPlan;
 
-/// A plan over a catalog, if it fits.
+/// A plan over a catalog as it is judged, if it fits.
 pub fn fitted(
     alloc: Global,
     plan: &Plan,
     catalog: &Catalog,
 ) -> Result<Option<TypedPlan>, PlaceFault> {
-    match resolve(alloc, plan, catalog) {
+    match planned(alloc, plan, catalog) {
         Ok(plan) => Ok(Some(plan)),
         Err(PlanFault::NoMemory) => Err(PlaceFault::NoMemory),
         Err(_) => Ok(None),

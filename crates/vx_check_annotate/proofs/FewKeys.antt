@@ -23,7 +23,10 @@ use Rattle.vx_check_options.specs.Claimed.{IsClaimed}
 use Rattle.vx_check_annotate.specs.Unclaimed.{no_claim, without_claims, unclaimed}
 use Rattle.vx_check_annotate.specs.Claimed.{claims_of, first_form, later_forms, tree_with, kept_form, first_named, later_claims, named_forms}
 use Rattle.vx_check_annotate.specs.Hinted.{IsHinted}
+use Rattle.vx_check_annotate.specs.Possible.{possible, possible_choice}
 use Rattle.vx_check_annotate.proofs.TreeFacts.{form_without}
+use Rattle.vx_check_annotate.proofs.PossibleFacts.{possible-turned}
+use Rattle.vx_check_annotate.proofs.Turning.{claims-alike}
 
 -- ---- so many keys
 
@@ -178,6 +181,9 @@ hinted-few catalog d p cat formed keys (inr h) =
 
 -- the claims that are found for a document
 pub found-few : (catalog : List Relation) (d : Document) (p : TypedPlanView) (q : Part) (order : List OrderEntry) (x : Plan) → IsCatalog catalog → is_tree_form d.root ≡ true → are_keys_few d.derives d.root ≡ true → IsHinted catalog d p
-    → IsClaimed (relation_at catalog) (plan_in p.root) q order x → list_all (has_few_keys d.derives) (named_forms p.names (claims_of x) p.root) ≡ true
+    → IsClaimed (relation_at catalog) (possible (relation_at catalog) (plan_in p.root)) q order x → list_all (has_few_keys d.derives) (named_forms p.names (claims_of x) p.root) ≡ true
 found-few catalog d p q order x cat formed keys h is =
-    forms-few d.derives p.names (claims_of x) p.root (claimed-few d.derives (relation_at catalog) (plan_in p.root) q order x is (hinted-few catalog d p cat formed keys h))
+    let C : ℕ → Relation = relation_at catalog in
+    let P : Plan = plan_in p.root in
+    let same : claims_of (possible C P) ≡ claims_of P = ap claims_of (possible-turned C P) ∙ claims-alike (possible_choice C) P in
+    forms-few d.derives p.names (claims_of x) p.root (claimed-few d.derives C (possible C P) q order x is (ap (have_few d.derives) same ∙ hinted-few catalog d p cat formed keys h))

@@ -2,10 +2,9 @@
 use Rattle.std.proofs.Common.{◌≡◌, ℕ, Bool, true, false, not, ◌&&◌, ◌||◌, ◌⊎◌, List, [], ◌∷◌, None, Ok, inl, inr, refl, sym, ap, ◌∙◌, subst}
 use Rattle.std.specs.List.{list_any}
 use Rattle.std.proofs.lemmas.List.{append-nil}
-use Rattle.vx_rows_values.specs.declared.order.OrderEntry.{OrderEntry}
 use Rattle.vx_catalog_relations.specs.Relation.{Relation}
 use Rattle.vx_catalog_relations.specs.Catalog.{relation_at, IsCatalog}
-use Rattle.vx_plan_nodes.specs.Plan.{Part, Plan, scan, unary, binary, exchange, number, size, is_one}
+use Rattle.vx_plan_nodes.specs.Plan.{Part, any, Plan, scan, unary, binary, exchange, number, size, is_one}
 use Rattle.vx_plan_nodes.specs.Typed.{Scope, typed}
 use Rattle.vx_plan_nodes.specs.Outline.{plan_in}
 use Rattle.vx_plan_nodes.specs.Names.{scope_of, TypedPlanView}
@@ -17,7 +16,7 @@ use Rattle.vx_plan.proofs.PlanExact.{plans_resolved_exactly}
 use Rattle.vx_check_rules.specs.Rules.{is_total_order}
 use Rattle.vx_check_rules.specs.Refusal.{root_not_one, total_not_shown, root_tests, or_else, refused_at, first_refused, refusal}
 use Rattle.vx_check_options.specs.Options.{same_part, parts_at, places_at, first_unfit}
-use Rattle.vx_check_options.specs.Placed.{first_entries, first_part, bare}
+use Rattle.vx_check_options.specs.Placed.{first_entries, first_part, keyless, bare}
 use Rattle.vx_check_options.specs.Laws.{is_option, IsStrongest, AtEach}
 use Rattle.vx_check_options.specs.Claimed.{IsClaimed, IsReady, HasAllKeys, unfit_in}
 use Rattle.vx_check_options.proofs.Telling.{gives-self}
@@ -26,6 +25,13 @@ use Rattle.vx_check_options.proofs.PlacedKeeps.{places-filled}
 use Rattle.vx_check_options.proofs.ClaimedIsTyped.{claimed-is-typed}
 use Rattle.vx_check_options.proofs.ClaimedIsFit.{claimed-is-fit}
 use Rattle.vx_check_options.proofs.ClaimedIsStrongest.{claimed-is-strongest}
+use Rattle.vx_check_directions.specs.Turned.{pairs_of, in_falls, Choice, IsFull, turned, rising_pairs, all_rising}
+use Rattle.vx_check_directions.specs.Directed.{directed}
+use Rattle.vx_check_directions.proofs.Alike.{size-alike}
+use Rattle.vx_check_directions.proofs.Tests.{total-alike}
+use Rattle.vx_check_directions.proofs.Accepting.{directed-again}
+use Rattle.vx_check_directions.proofs.TurnedPlans.{length-map, typed-turned}
+use Rattle.vx_check_annotate.specs.Possible.{possible, possible_choice}
 use Rattle.vx_check_annotate.specs.Unclaimed.{unclaimed}
 use Rattle.vx_check_annotate.specs.Claimed.{claims_of, with_claims, forms_of, with_forms, named_forms}
 use Rattle.vx_check_annotate.specs.Verdict.{refuses_by_claims, refused_by_claims}
@@ -35,6 +41,9 @@ use Rattle.vx_check_annotate.proofs.TreeFacts.{form_without}
 use Rattle.vx_check_annotate.proofs.NamedFacts.{named-are}
 use Rattle.vx_check_annotate.proofs.ClaimsResolve.{claimed, claims-resolve, written-resolves}
 use Rattle.vx_check_annotate.proofs.FoundRefused.{resolved-bare, accepted-fits}
+use Rattle.vx_check_annotate.proofs.FoundDirected.{found-directed}
+use Rattle.vx_check_annotate.proofs.PossibleFacts.{typed-falls, possible-turned, possible-full}
+use Rattle.vx_check_annotate.proofs.Turning.{rising-again, strongest-alike, keys-alike, each-alike, claims-alike, bare-rising, named-rises}
 
 -- ---- the first part and the first entries
 
@@ -77,8 +86,8 @@ size-bare (binary n c op p q) = size-bare p
 size-bare (exchange n c k m p) = refl
 
 -- so plans of the same nodes have one size
-pub size-alike : (p q : Plan) → bare p ≡ bare q → size p ≡ size q
-size-alike p q e = sym (size-bare p) ∙ (ap size e ∙ size-bare q)
+pub size-alike-bare : (p q : Plan) → bare p ≡ bare q → size p ≡ size q
+size-alike-bare p q e = sym (size-bare p) ∙ (ap size e ∙ size-bare q)
 
 -- the root's tests pass on one worker, where total is said of a total order alone
 pub root-passes : (catalog : ℕ → Relation) (total : Bool) (x : Plan) → first_refused catalog x ≡ None → is_one (size x) ≡ true → total ≡ is_total_order catalog x → refusal catalog total x ≡ None
@@ -91,56 +100,141 @@ root-passes catalog total x fit alone is =
     either true = refl
     either false = refl
 
+-- ---- the plan in the only directions that could be accepted
+
+-- of the plan that is kept
+abbrev pub left : List Relation → TypedPlanView → Plan
+left catalog p = possible (relation_at catalog) (plan_in p.root)
+
+-- its claims are placed under its first part and its first entries, and keys found
+abbrev pub IsFound : List Relation → TypedPlanView → Plan → Type 0
+IsFound catalog p x =
+    IsClaimed (relation_at catalog) (left catalog p) (first_part (parts_at (relation_at catalog) (left catalog p))) (first_entries (places_at (relation_at catalog) (left catalog p))) x
+
+-- what is known of it, over the catalog: it is typed, and with all directions rising it is the plan that is kept
+pub record IsLeft (catalog : List Relation) (p : TypedPlanView) : Type 0 where
+  pub over : p.names.catalog ≡ catalog
+  pub made : typed (scope_of p.names) (left catalog p) ≡ true
+  pub rises : all_rising (left catalog p) ≡ plan_in p.root
+  pub stays : all_rising (plan_in p.root) ≡ plan_in p.root
+  pub size : size (left catalog p) ≡ size (plan_in p.root)
+
+pub named-left : (p : TypedPlanView) → IsNamed p → IsLeft p.names.catalog p
+named-left p n =
+    let C : ℕ → Relation = relation_at p.names.catalog in
+    let P : Plan = plan_in p.root in
+    let h : Choice = possible_choice C in
+    let turned_is : possible C P ≡ turned h P = possible-turned C P in
+    let stays = named-rises p.names.catalog p.root n.columns (typed-falls (scope_of p.names) P n.typed.nodes) in
+    record {
+      over = refl;
+      made = ap (typed (scope_of p.names)) turned_is ∙ typed-turned (scope_of p.names) h (possible-full C) P n.typed.nodes;
+      rises = ap all_rising turned_is ∙ (rising-again h P ∙ stays);
+      stays = stays;
+      size = ap size turned_is ∙ size-alike h P;
+    }
+
+pub is-left : (catalog : List Relation) (p : TypedPlanView) → p.names.catalog ≡ catalog → IsNamed p → IsLeft catalog p
+is-left catalog p same n = let F : List Relation → Type 0 = λ c. IsLeft c p in subst F same (named-left p n)
+
+-- a plan without claims has none in other directions
+bare-turned : (h : Choice) (p : Plan) → bare p ≡ p → bare (turned h p) ≡ turned h p
+bare-turned h (scan n c r m z) e = e
+bare-turned h (unary n c op p) e =
+    let own : keyless any [] ≡ c = cc in
+    let below : bare p ≡ p = cc in
+    λ i. unary n (own i) op (bare-turned h p below i)
+bare-turned h (binary n c op p q) e =
+    let own : keyless any [] ≡ c = cc in
+    let one : bare p ≡ p = cc in
+    let two : bare q ≡ q = cc in
+    λ i. binary n (own i) (in_falls (h (pairs_of op) p q) op) (bare-turned h p one i) (bare-turned h q two i)
+bare-turned h (exchange n c k m p) e =
+    let own : keyless any [] ≡ c = cc in
+    let below : bare p ≡ p = cc in
+    λ i. exchange n (own i) k m (bare-turned h p below i)
+
+left-bare : (catalog : ℕ → Relation) (p : Plan) → bare p ≡ p → bare (possible catalog p) ≡ possible catalog p
+left-bare catalog p e = ap bare (possible-turned catalog p) ∙ (bare-turned (possible_choice catalog) p e ∙ sym (possible-turned catalog p))
+
 -- ---- the document
 
 -- what is known of the document with the claims that are found: it resolves to the typed plan with them, is refused where they are, and where no node is unfit, they tell the
 -- most
 pub record IsSaid (catalog : List Relation) (e : Document) (p : TypedPlanView) (x : Plan) (total : Bool) : Type 0 where
-  pub resolves : resolved e catalog ≡ Ok (claimed x total p)
-  pub plan : plan_in (with_claims x p.root) ≡ x
-  pub same : bare x ≡ bare (plan_in p.root)
-  pub fits : first_refused (relation_at catalog) x ≡ unfit_in (relation_at catalog) (plan_in p.root) x
+  pub resolves : resolved e catalog ≡ Ok (claimed (all_rising x) total p)
+  pub plan : plan_in (with_claims (all_rising x) p.root) ≡ all_rising x
+  pub size : size x ≡ size (plan_in p.root)
+  pub fits : first_refused (relation_at catalog) x ≡ unfit_in (relation_at catalog) (left catalog p) x
   pub refused : refused_by_claims catalog e ≡ refusal (relation_at catalog) total x
-  pub strongest : first_unfit (relation_at catalog) (plan_in p.root) ≡ None → TellsTheMost catalog e
+  pub strongest : first_unfit (relation_at catalog) (left catalog p) ≡ None → TellsTheMost catalog e
 
 -- the plan that is kept has no claims, or no unfit node
 hinted-fits : (catalog : List Relation) (d : Document) (p : TypedPlanView) → IsCatalog catalog → is_tree_form d.root ≡ true → IsHinted catalog d p
-    → (bare (plan_in p.root) ≡ plan_in p.root) ⊎ (first_unfit (relation_at catalog) (plan_in p.root) ≡ None)
-hinted-fits catalog d p cat formed (inl a) = inr (accepted-fits catalog d p cat formed a.0 a.1).0
-hinted-fits catalog d p cat formed (inr u) = inl (resolved-bare catalog d p cat formed u.1)
+    → (bare (left catalog p) ≡ left catalog p) ⊎ (first_unfit (relation_at catalog) (left catalog p) ≡ None)
+hinted-fits catalog d p cat formed (inl a) = inr (accepted-fits catalog d p cat formed a.0 a.1).unfit
+hinted-fits catalog d p cat formed (inr u) = inl (left-bare (relation_at catalog) (plan_in p.root) (resolved-bare catalog d p cat formed u.1))
+
+-- the claims that are found, in rising directions, name what there is, and what is found does not depend on directions
+pub record FoundTyped (catalog : List Relation) (p : TypedPlanView) (x : Plan) : Type 0 where
+  pub ready : IsReady (scope_of p.names) (left catalog p) (first_part (parts_at (relation_at p.names.catalog) (left catalog p))) (first_entries (places_at (relation_at p.names.catalog) (left catalog p)))
+  pub here : IsClaimed (relation_at p.names.catalog) (left catalog p) (first_part (parts_at (relation_at p.names.catalog) (left catalog p))) (first_entries (places_at (relation_at p.names.catalog) (left catalog p))) x
+  pub same : bare x ≡ bare (left catalog p)
+  pub rising_same : bare (all_rising x) ≡ bare (plan_in p.root)
+  pub made : typed (scope_of p.names) (all_rising x) ≡ true
+
+pub found-typed : (catalog : List Relation) (p : TypedPlanView) (x : Plan) → IsCatalog catalog → p.names.catalog ≡ catalog → IsNamed p → IsFound catalog p x → FoundTyped catalog p x
+found-typed catalog p x cat same named found =
+    let s : Scope = scope_of p.names in
+    let L : Plan = left catalog p in
+    let known = is-left catalog p same named in
+    let F : List Relation → Type 0 = λ l. IsClaimed (relation_at l) L (first_part (parts_at (relation_at l) L)) (first_entries (places_at (relation_at l) L)) x in
+    let here = subst F (sym same) found in
+    let ready = is-ready s L (subst IsCatalog (sym same) cat) known.made in
+    let ok = claimed-is-typed s L (first_part (parts_at (relation_at s.catalog) L)) (first_entries (places_at (relation_at s.catalog) L)) x ready here in
+    record {
+      ready = ready;
+      here = here;
+      same = ok.1;
+      rising_same = bare-rising x ∙ (ap all_rising ok.1 ∙ (sym (bare-rising L) ∙ ap bare known.rises));
+      made = typed-turned s rising_pairs rising-full x ok.0;
+    }
+  where
+    rising-full : IsFull rising_pairs
+    rising-full on p q = length-map (λ x. false) on
 
 -- of the document with the claims that are placed under the first part and the first entries, and their keys
 pub found-said : (catalog : List Relation) (d e : Document) (p : TypedPlanView) (x : Plan) (total : Bool) (forms : List ClaimForm) → IsCatalog catalog → is_tree_form d.root ≡ true → is_head_form d.sizes d.ranges ≡ true
-    → IsHinted catalog d p
-    → IsClaimed (relation_at catalog) (plan_in p.root) (first_part (parts_at (relation_at catalog) (plan_in p.root))) (first_entries (places_at (relation_at catalog) (plan_in p.root))) x
-    → forms ≡ named_forms p.names (claims_of x) p.root → total ≡ is_total_order (relation_at catalog) x → e ≡ with_forms forms total d → IsSaid catalog e p x total
+    → IsHinted catalog d p → IsFound catalog p x → forms ≡ named_forms p.names (claims_of x) p.root → total ≡ is_total_order (relation_at catalog) x → e ≡ with_forms forms total d → IsSaid catalog e p x total
 found-said catalog d e p x total forms cat formed head hinted found named is says =
     let known = hinted-named catalog d p cat formed hinted in
     let same : p.names.catalog ≡ catalog = known.0 in
     let s : Scope = scope_of p.names in
     let C : ℕ → Relation = relation_at catalog in
-    let P : Plan = plan_in p.root in
-    let q : Part = first_part (parts_at (relation_at s.catalog) P) in
-    let order : List OrderEntry = first_entries (places_at (relation_at s.catalog) P) in
-    let F : List Relation → Type 0 = λ l. IsClaimed (relation_at l) P (first_part (parts_at (relation_at l) P)) (first_entries (places_at (relation_at l) P)) x in
-    let G : List Relation → Type 0 = λ l. (bare P ≡ P) ⊎ (first_unfit (relation_at l) P ≡ None) in
-    let H : List Relation → Type 0 = λ l. first_refused (relation_at l) x ≡ unfit_in (relation_at l) P x in
-    let here : IsClaimed (relation_at s.catalog) P q order x = subst F (sym same) found in
-    let ready = is-ready s P (subst IsCatalog (sym same) cat) known.1.typed.nodes in
-    let ok = claimed-is-typed s P q order x ready here in
-    let r = hinted-resolves catalog d e p x total forms cat formed head hinted ok.1 ok.0 named says in
+    let L : Plan = left catalog p in
+    let X : Plan = all_rising x in
+    let f = found-typed catalog p x cat same known.1 found in
+    let G : List Relation → Type 0 = λ l. (bare L ≡ L) ⊎ (first_unfit (relation_at l) L ≡ None) in
+    let H : List Relation → Type 0 = λ l. first_refused (relation_at l) x ≡ unfit_in (relation_at l) L x in
+    let forms_are : forms ≡ named_forms p.names (claims_of X) p.root = named ∙ ap (λ cs. named_forms p.names cs p.root) (sym (claims-alike rising_pairs x)) in
+    let r = hinted-resolves catalog d e p X total forms cat formed head hinted f.rising_same f.made forms_are says in
+    let asked : refusal C total (directed false C X) ≡ refusal C total x =
+    ap (refusal C total) (directed-again false C rising_pairs x) ∙ found-directed C total (plan_in p.root) _ _ x found in
     record {
       resolves = r.0;
       plan = r.1;
-      same = ok.1;
-      fits = subst H same (claimed-is-fit s P q order x ready (subst G (sym same) (hinted-fits catalog d p cat formed hinted)) here);
-      refused = ap refuses_by_claims r.0 ∙ (ap (λ l. refusal (relation_at l) total (plan_in (with_claims x p.root))) same ∙ ap (refusal C total) r.1);
+      size = size-alike-bare x L f.same ∙ (is-left catalog p same known.1).size;
+      fits = subst H same (claimed-is-fit s L _ _ x f.ready (subst G (sym same) (hinted-fits catalog d p cat formed hinted)) f.here);
+      refused = ap refuses_by_claims r.0 ∙ (ap (λ l. refusal (relation_at l) total (directed false (relation_at l) (plan_in (with_claims X p.root)))) same
+          ∙ (ap (λ y. refusal C total (directed false C y)) r.1 ∙ asked));
       strongest = λ unfit.
-          let most = claimed-is-strongest s P q order x ready (ap (λ l. first_unfit (relation_at l) P) same ∙ unfit) here in (
-            claimed x total p,
+          let most = claimed-is-strongest s L _ _ x f.ready (ap (λ l. first_unfit (relation_at l) L) same ∙ unfit) f.here in
+          let parts : AtEach (IsStrongest C) x = subst (λ l. AtEach (IsStrongest (relation_at l)) x) same most.0 in
+          let keys : AtEach (HasAllKeys C) x = subst (λ l. AtEach (HasAllKeys (relation_at l)) x) same most.1 in (
+            claimed X total p,
             r.0,
-            subst (λ y. AtEach (IsStrongest C) y) (sym r.1) (subst (λ l. AtEach (IsStrongest (relation_at l)) x) same most.0),
-            subst (λ y. AtEach (HasAllKeys C) y) (sym r.1) (subst (λ l. AtEach (HasAllKeys (relation_at l)) x) same most.1),
-            is ∙ ap (is_total_order C) (sym r.1),
+            subst (λ y. AtEach (IsStrongest C) y) (sym r.1) (each-alike (IsStrongest C) rising_pairs (strongest-alike C rising_pairs) x parts),
+            subst (λ y. AtEach (HasAllKeys C) y) (sym r.1) (each-alike (HasAllKeys C) rising_pairs (keys-alike C rising_pairs) x keys),
+            is ∙ (sym (total-alike C rising_pairs x) ∙ ap (is_total_order C) (sym r.1)),
           );
     }

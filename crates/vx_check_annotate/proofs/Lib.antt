@@ -20,3 +20,9 @@ pub mod OwnClaims
 pub mod Reasons
 pub mod SwappedOrders
 pub mod FirstRows
+pub mod OneWay
+pub mod PossibleFacts
+pub mod Turning
+pub mod FoundDirected
+pub mod TurnedOutlines
+pub mod FoundHere

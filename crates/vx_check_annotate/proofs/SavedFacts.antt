@@ -12,7 +12,10 @@ use Rattle.vx_check_rules.specs.Refusal.{Rule, first_failure, or_else, refused_a
 use Rattle.vx_check_options.specs.Options.{no_input, parts_at, is_within_here, is_within, fit_tests, first_unfit}
 use Rattle.vx_check_options.specs.Laws.{Keeps}
 use Rattle.vx_check_options.proofs.OnlyOptions.{only-options}
+use Rattle.vx_check_directions.proofs.Alike.{nodes-alike, numbered-alike}
 use Rattle.vx_check_annotate.specs.Saved.{is_saved}
+use Rattle.vx_check_annotate.specs.Possible.{possible, possible_choice}
+use Rattle.vx_check_annotate.proofs.PossibleFacts.{typed-falls, fit-stays, possible-turned}
 
 -- ---- numbers of nodes
 
@@ -117,11 +120,14 @@ not-true : (b : Bool) → (b ≡ true → true ≡ false) → b ≡ false
 not-true true f = f refl
 not-true false f = refl
 
--- the plan of an unfit node is not allowed
-not-allowed : (s : Scope) (p q : Plan) (x : ℕ × Rule) → Keeps p q → is_within (relation_at s.catalog) p ≡ true → typed s q ≡ true → first_unfit (relation_at s.catalog) p ≡ Some x
-    → allowed (relation_at s.catalog) q ≡ false
-not-allowed s p q x keeps within t unfit =
-    not-true (allowed (relation_at s.catalog) q) (λ ok. let none : None ≡ Some x = sym (only-options s p q keeps (inl within) t ok).0 ∙ unfit in cc)
+-- the plan of a node that is unfit in the directions that are left it is not allowed
+not-allowed : (s : Scope) (p q : Plan) (x : ℕ × Rule) → Keeps p q → is_within (relation_at s.catalog) p ≡ true → typed s p ≡ true → typed s q ≡ true
+    → first_unfit (relation_at s.catalog) (possible (relation_at s.catalog) p) ≡ Some x → allowed (relation_at s.catalog) q ≡ false
+not-allowed s p q x keeps within tp t unfit =
+    let C : ℕ → Relation = relation_at s.catalog in
+    not-true (allowed C q) (λ ok.
+    let fit = (only-options s p q keeps (inl within) t ok).0 in
+    let none : None ≡ Some x = sym fit ∙ (ap (first_unfit C) (sym (fit-stays C p (typed-falls s p tp) fit)) ∙ unfit) in cc)
 
 -- at the node, or below it
 cond-false : (t a b : Bool) → a ≡ false → (t ≡ false → b ≡ false) → cond t a b ≡ false
@@ -143,44 +149,56 @@ found-below : (n k : ℕ) (r : Rule) (o : Option (ℕ × Rule)) (f : Option Rule
 found-below n k r o f other e =
     ⊎_elim (λ a. a) (λ a. absurd (true≢false (sym (found-here n k r f a.1) ∙ other))) (which o (option_map (λ r. (n, r)) f) (k, r) e)
 
-pub never-saved : (s : Scope) (i k : ℕ) (r : Rule) (p q : Plan) → Keeps p q → is_within (relation_at s.catalog) p ≡ true → typed s q ≡ true → is_numbered i p ≡ true
-    → first_unfit (relation_at s.catalog) p ≡ Some (k, r) → is_saved (relation_at s.catalog) k q ≡ false
-never-saved s i k r (scan n c z m g) q e w t h unfit =
+-- a node that is unfit in the directions that are left it is one of the plan
+found-in : (catalog : ℕ → Relation) (i k : ℕ) (r : Rule) (p : Plan) → is_numbered i p ≡ true → first_unfit catalog (possible catalog p) ≡ Some (k, r) → is_between i k (nodes p) ≡ true
+found-in catalog i k r p h e =
+    let same = possible-turned catalog p in
+    let count : nodes (possible catalog p) ≡ nodes p = ap nodes same ∙ nodes-alike (possible_choice catalog) p in
+    ap (is_between i k) (sym count)
+    ∙ found-between catalog i k r (possible catalog p) (ap (is_numbered i) same ∙ (numbered-alike (possible_choice catalog) i p ∙ h)) e
+
+pub never-saved : (s : Scope) (i k : ℕ) (r : Rule) (p q : Plan) → Keeps p q → is_within (relation_at s.catalog) p ≡ true → typed s p ≡ true → typed s q ≡ true → is_numbered i p ≡ true
+    → first_unfit (relation_at s.catalog) (possible (relation_at s.catalog) p) ≡ Some (k, r) → is_saved (relation_at s.catalog) k q ≡ false
+never-saved s i k r (scan n c z m g) q e w tp t h unfit =
     let catalog : ℕ → Relation = relation_at s.catalog in
-    let bad = not-allowed s (scan n c z m g) q (k, r) e w t unfit in
+    let bad = not-allowed s (scan n c z m g) q (k, r) e w tp t unfit in
     ap (is_saved catalog k) e.1 ∙ and-none (n == k) (allowed catalog (scan n e.0 z m g)) (ap (allowed catalog) (sym e.1) ∙ bad)
-never-saved s i k r (unary n c op p) q e w t h unfit =
+never-saved s i k r (unary n c op p) q e w tp t h unfit =
     let catalog : ℕ → Relation = relation_at s.catalog in
-    let bad = not-allowed s (unary n c op p) q (k, r) e w t unfit in
+    let bad = not-allowed s (unary n c op p) q (k, r) e w tp t unfit in
     ap (is_saved catalog k) e.2 ∙ cond-false (n == k) (allowed catalog (unary n e.0 op e.1)) (is_saved catalog k e.1) (ap (allowed catalog) (sym e.2) ∙ bad)
     (λ other. never-saved s (suc i) k r p e.1 e.4 (and-left (is_within catalog p) (is_within_here catalog (unary n c op p) (parts_at catalog p) no_input) w)
-    (and-left (typed s e.1) _ (ap (typed s) (sym e.2) ∙ t)) (and-right (n == i) (is_numbered (suc i) p) h)
-    (found-below n k r (first_unfit catalog p) (first_failure (fit_tests catalog (unary n c op p))) other unfit))
-never-saved s i k r (binary n c op p p2) q e w t h unfit =
+    (and-left (typed s p) _ tp) (and-left (typed s e.1) _ (ap (typed s) (sym e.2) ∙ t)) (and-right (n == i) (is_numbered (suc i) p) h)
+    (found-below n k r (first_unfit catalog (possible catalog p)) (first_failure (fit_tests catalog (possible catalog (unary n c op p)))) other unfit))
+never-saved s i k r (binary n c op p p2) q e w tp t h unfit =
     let catalog : ℕ → Relation = relation_at s.catalog in
-    let bad = not-allowed s (binary n c op p p2) q (k, r) e w t unfit in
+    let bad = not-allowed s (binary n c op p p2) q (k, r) e w tp t unfit in
     let here : Bool = is_within_here catalog (binary n c op p p2) (parts_at catalog p) (parts_at catalog p2) in
     let within = and-right (is_within catalog p) (is_within catalog p2 && here) w in
     let made : typed s (binary n e.0 op e.1 e.2) ≡ true = ap (typed s) (sym e.3) ∙ t in
     let left_typed : typed s e.1 ≡ true = and-left (typed s e.1) _ made in
     let right_typed : typed s e.2 ≡ true = and-left (typed s e.2) _ (and-right (typed s e.1) _ made) in
+    let left_plain : typed s p ≡ true = and-left (typed s p) _ tp in
+    let right_plain : typed s p2 ≡ true = and-left (typed s p2) _ (and-right (typed s p) _ tp) in
     let both = and-right (n == i) (is_numbered (suc i) p && is_numbered (suc i + nodes p) p2) h in
     let one = and-left (is_numbered (suc i) p) (is_numbered (suc i + nodes p) p2) both in
     let two = and-right (is_numbered (suc i) p) (is_numbered (suc i + nodes p) p2) both in
-    let failed = first_failure (fit_tests catalog (binary n c op p p2)) in
+    let failed = first_failure (fit_tests catalog (possible catalog (binary n c op p p2))) in
+    let lefts : Option (ℕ × Rule) = first_unfit catalog (possible catalog p) in
+    let rights : Option (ℕ × Rule) = first_unfit catalog (possible catalog p2) in
     ap (is_saved catalog k) e.3 ∙ cond-false (n == k) (allowed catalog (binary n e.0 op e.1 e.2)) (is_saved catalog k e.1 || is_saved catalog k e.2) (ap (allowed catalog) (sym e.3) ∙ bad)
     (λ other. ⊎_elim
     (λ a. or-none (is_saved catalog k e.1) (is_saved catalog k e.2)
-    (never-saved s (suc i) k r p e.1 e.5 (and-left (is_within catalog p) (is_within catalog p2 && here) w) left_typed one a)
-    (not-true (is_saved catalog k e.2) (λ l. apart (suc i) k (nodes p) (nodes p2) (found-between catalog (suc i) k r p one a) (saved-between catalog (suc i + nodes p) k p2 e.2 e.6 two l))))
-    (λ a. let found = found-below n k r (first_unfit catalog p2) failed other a.1 in or-none (is_saved catalog k e.1) (is_saved catalog k e.2)
-    (not-true (is_saved catalog k e.1) (λ l. apart (suc i) k (nodes p) (nodes p2) (saved-between catalog (suc i) k p e.1 e.5 one l) (found-between catalog (suc i + nodes p) k r p2 two found)))
-    (never-saved s (suc i + nodes p) k r p2 e.2 e.6 (and-left (is_within catalog p2) here within) right_typed two found))
-    (which (first_unfit catalog p) (or_else (first_unfit catalog p2) (refused_at n (fit_tests catalog (binary n c op p p2)))) (k, r) unfit))
-never-saved s i k r (exchange n c kind m p) q e w t h unfit =
+    (never-saved s (suc i) k r p e.1 e.5 (and-left (is_within catalog p) (is_within catalog p2 && here) w) left_plain left_typed one a)
+    (not-true (is_saved catalog k e.2) (λ l. apart (suc i) k (nodes p) (nodes p2) (found-in catalog (suc i) k r p one a) (saved-between catalog (suc i + nodes p) k p2 e.2 e.6 two l))))
+    (λ a. let found = found-below n k r rights failed other a.1 in or-none (is_saved catalog k e.1) (is_saved catalog k e.2)
+    (not-true (is_saved catalog k e.1) (λ l. apart (suc i) k (nodes p) (nodes p2) (saved-between catalog (suc i) k p e.1 e.5 one l) (found-in catalog (suc i + nodes p) k r p2 two found)))
+    (never-saved s (suc i + nodes p) k r p2 e.2 e.6 (and-left (is_within catalog p2) here within) right_plain right_typed two found))
+    (which lefts (or_else rights (refused_at n (fit_tests catalog (possible catalog (binary n c op p p2))))) (k, r) unfit))
+never-saved s i k r (exchange n c kind m p) q e w tp t h unfit =
     let catalog : ℕ → Relation = relation_at s.catalog in
-    let bad = not-allowed s (exchange n c kind m p) q (k, r) e w t unfit in
+    let bad = not-allowed s (exchange n c kind m p) q (k, r) e w tp t unfit in
     ap (is_saved catalog k) e.2 ∙ cond-false (n == k) (allowed catalog (exchange n e.0 kind m e.1)) (is_saved catalog k e.1) (ap (allowed catalog) (sym e.2) ∙ bad)
     (λ other. never-saved s (suc i) k r p e.1 e.4 (and-left (is_within catalog p) (is_within_here catalog (exchange n c kind m p) no_input no_input) w)
-    (and-left (typed s e.1) _ (ap (typed s) (sym e.2) ∙ t)) (and-right (n == i) (is_numbered (suc i) p) h)
-    (found-below n k r (first_unfit catalog p) (first_failure (fit_tests catalog (exchange n c kind m p))) other unfit))
+    (and-left (typed s p) _ tp) (and-left (typed s e.1) _ (ap (typed s) (sym e.2) ∙ t)) (and-right (n == i) (is_numbered (suc i) p) h)
+    (found-below n k r (first_unfit catalog (possible catalog p)) (first_failure (fit_tests catalog (possible catalog (exchange n c kind m p)))) other unfit))

@@ -9,3 +9,4 @@ pub mod Hinted
 pub mod Deriving
 pub mod Asking
 pub mod Accepted
+pub mod Possible

@@ -9,6 +9,7 @@ use Rattle.vx_plan_json.specs.Document.{Document}
 use Rattle.vx_plan_json.specs.Formed.{is_tree_form}
 use Rattle.vx_plan.specs.Resolve.{resolved}
 use Rattle.vx_check_rules.specs.Rules.{allowed}
+use Rattle.vx_check_directions.specs.Directed.{directed}
 use Rattle.vx_check_options.specs.Options.{is_within}
 use Rattle.vx_check_options.specs.Laws.{AtEach}
 use Rattle.vx_check_annotate.specs.Accepted.{HasRoom}
@@ -34,7 +35,7 @@ HasRoomAtEach catalog e = (p : TypedPlanView) × (resolved e catalog ≡ Ok p) �
 abbrev pub IsNeverAccepted : List Relation → Document → Type 0
 IsNeverAccepted catalog d = (e : Document) → is_tree_form e.root ≡ true → unclaimed e ≡ unclaimed d → is_accepted_by_claims catalog e ≡ false
 
--- and a test fails at this node or below it
+-- and a test fails at this node or below it, in the directions that the claims ask of joins by merging
 abbrev pub IsNeverSaved : List Relation → Document → ℕ → Type 0
 IsNeverSaved catalog d k = (e : Document) → is_tree_form e.root ≡ true → unclaimed e ≡ unclaimed d → (r : TypedPlanView) → resolved e catalog ≡ Ok r
-    → is_saved (relation_at catalog) k (plan_in r.root) ≡ false
+    → is_saved (relation_at catalog) k (directed false (relation_at catalog) (plan_in r.root)) ≡ false

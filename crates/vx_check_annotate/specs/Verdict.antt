@@ -1,4 +1,5 @@
--- What the checker says of a document over a catalog: by the rule table that the document asks for, and by that of claims alone.
+-- What the checker says of a document over a catalog: by the rule table that the document asks for, and by that of claims alone. Joins by merging compare in the directions
+-- that the claimed orders of their inputs ask for.
 use Rattle.std.specs.Prelude.{ℕ, List, Bool, false, Option, None, is_none, Result, Ok, Err}
 use Rattle.vx_catalog_relations.specs.Relation.{Relation}
 use Rattle.vx_catalog_relations.specs.Catalog.{relation_at}
@@ -9,10 +10,11 @@ use Rattle.vx_plan_json.specs.Document.{Document}
 use Rattle.vx_plan.specs.Resolve.{resolved}
 use Rattle.vx_check_rules.specs.Refusal.{Rule, refusal}
 use Rattle.vx_check_rules.specs.Tables.{refusal_by}
+use Rattle.vx_check_directions.specs.Directed.{directed}
 
 -- the first refused node of a typed plan and what it does not show, if there is one, by the rule table that the plan asks for
 abbrev pub refusal_in : TypedPlanView → Option (ℕ × Rule)
-refusal_in p = refusal_by p.derives (relation_at p.names.catalog) p.total (plan_in p.root)
+refusal_in p = refusal_by p.derives (relation_at p.names.catalog) p.total (directed p.derives (relation_at p.names.catalog) (plan_in p.root))
 
 abbrev pub accepts : Result TypedPlanView Refusal → Bool
 accepts (Ok p) = is_none (refusal_in p)
@@ -33,7 +35,7 @@ refused catalog d = refuses (resolved d catalog)
 -- ---- by the table of claims alone
 
 abbrev pub refusal_by_claims : TypedPlanView → Option (ℕ × Rule)
-refusal_by_claims p = refusal (relation_at p.names.catalog) p.total (plan_in p.root)
+refusal_by_claims p = refusal (relation_at p.names.catalog) p.total (directed false (relation_at p.names.catalog) (plan_in p.root))
 
 abbrev pub accepts_by_claims : Result TypedPlanView Refusal → Bool
 accepts_by_claims (Ok p) = is_none (refusal_by_claims p)

@@ -16,6 +16,7 @@ use crate::fault::AnnotateFault;
 use crate::found_plan::{Judged, derived, judge};
 use crate::keeping::{accepted_plan, claims_as_much, restored};
 use crate::naming::Naming;
+use crate::possible::possible;
 use crate::rewriting::claimed_plan;
 use crate::verdict::{is_accepted, is_accepted_by_claims};
 use std::alloc::{AllocError, Global};
@@ -33,6 +34,7 @@ fn hinted(alloc: Global, catalog: &Catalog, plan: Plan) -> Result<(TypedPlan, Pl
     ensures same { IfOk result (λ r. unclaimed (document_of r.1) ≡ unclaimed (document_of plan)) }
     ensures fault { IfErr result (λ e. Fails e (resolved (unclaimed (document_of plan)) catalog.now)) }
 {
+    let _relations = catalog.len();
     if is_accepted_by_claims(alloc, catalog, &plan)? {
         let typed = accepted_plan(alloc, catalog, &plan)?;
         return Ok((typed, plan));
@@ -53,6 +55,7 @@ fn annotated_by_claims(alloc: Global, catalog: &Catalog, plan: Plan) -> Result<P
 {
     let _relations = catalog.len();
     let (typed, kept) = hinted(alloc, catalog, plan)?;
+    let typed = possible(alloc, typed)?;
     let (claims, is_total) = found_claims(alloc, typed.catalog(), typed.root())?;
     let naming = Naming {
         ranges: typed.ranges(),

@@ -19,6 +19,7 @@ use crate::rewriting::claimed_plan;
 use crate::staying::do_keys_stay;
 use std::alloc::{AllocError, Global};
 use vx_catalog_relations::Catalog;
+use vx_check_directions::direct;
 use vx_check_rules::{CheckFault, Rule, check};
 use vx_check_shown::{found_claims, keyed_claims};
 use vx_plan::resolve;
@@ -116,7 +117,7 @@ fn keyed_plan(alloc: Global, catalog: &Catalog, plan: Plan) -> Result<Resolved, 
 fn refusal(alloc: Global, typed: TypedPlan) -> Result<Option<(u32, Rule)>, AllocError>
     ensures { IfOk result (λ o. option_map refusal_of o ≡ refusal_in (resolved_of typed)) }
 {
-    match check(alloc, typed) {
+    match check(alloc, direct(alloc, typed)?) {
         Ok(_) => Ok(None),
         Err(CheckFault::Refused(refused)) => Ok(Some((refused.node, refused.rule))),
         Err(CheckFault::NoMemory(e)) => Err(e),

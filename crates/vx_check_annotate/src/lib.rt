@@ -9,6 +9,7 @@ mod found_plan;
 mod keeping;
 mod laws;
 mod naming;
+mod possible;
 mod rewriting;
 mod staying;
 mod verdict;

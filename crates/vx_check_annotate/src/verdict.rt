@@ -7,6 +7,7 @@ ghost use Rattle.vx_check_annotate.specs.Verdict.{refusal_in, is_accepted, is_ac
 
 use std::alloc::{AllocError, Global};
 use vx_catalog_relations::Catalog;
+use vx_check_directions::direct;
 use vx_check_rules::{CheckFault, check};
 use vx_plan::resolve;
 use vx_plan_json::{Plan, PlanFault};
@@ -15,7 +16,7 @@ use vx_plan_nodes::TypedPlan;
 fn is_allowed(alloc: Global, typed: TypedPlan) -> Result<bool, AllocError>
     ensures { IfOk result (λ b. b ≡ is_none (refusal_in (resolved_of typed))) }
 {
-    match check(alloc, typed) {
+    match check(alloc, direct(alloc, typed)?) {
         Ok(_) => Ok(true),
         Err(CheckFault::Refused(_)) => Ok(false),
         Err(CheckFault::NoMemory(e)) => Err(e),

@@ -17,7 +17,8 @@ pub use choices::{MAX_KEYS, add_key, put_choices};
 pub use claiming::found_claims;
 pub use copies::Lists;
 pub use keys::without;
-pub use options::first_unfit;
+pub use options::{Options, absent, first_unfit, options_at};
+pub use order_choices::has_entry;
 
 /// Where claims are accepted, each node can claim what they do.
 pub fn only_options()

@@ -401,7 +401,7 @@ impl MergeRows {
     }
 }
 
-// Where the run starts after a left row that is in this order to the one before it: a later one has a new run.
+// Where the run starts after a left row that compares so with the one before it: a greater one has a new run.
 fn run_start(order: Ordering, start: usize, end: usize) -> Result<usize, MergeFault>
     ensures ok { IfOk result (λ s. s ≡ cond (is_lt order) end start) }
     ensures rises { OnOk result (is_le order ≡ true) }

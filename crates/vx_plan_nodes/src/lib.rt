@@ -23,4 +23,4 @@ pub use typed::{
     Aggregate, Binary, Claim, Columns, Condition, Exchange, ExchangeKind, Head, Part, Phase,
     Projected, Route, ScanNode, Side, Size, SortPhase, TypedNode, Unary,
 };
-pub use typed_plan::TypedPlan;
+pub use typed_plan::{TypedParts, TypedPlan};

@@ -49,6 +49,17 @@ impl Drop for TypedPlan {
     }
 }
 
+/// The parts of a typed plan.
+#[derive(Drop)]
+pub struct TypedParts {
+    pub catalog: Catalog,
+    pub sizes: Vec<String>,
+    pub ranges: Vec<NamedRange>,
+    pub total: bool,
+    pub derives: bool,
+    pub root: TypedNode,
+}
+
 impl TypedPlan {
     ghost use Rattle.vx_plan_nodes.specs.TypedView.{names_in, scope, plan, resolved_of};
 
@@ -70,6 +81,34 @@ impl TypedPlan {
         ensures root { (resolved_of result).root ≡ outline_of root }
     {
         TypedPlan {
+            catalog,
+            sizes,
+            ranges,
+            total,
+            derives,
+            root,
+        }
+    }
+
+    /// Its parts, of which a plan can be made again once its nodes were changed.
+    pub fn into_parts(self) -> TypedParts
+        ensures names { record { catalog = result.catalog; ranges = map range_form result.ranges.items; sizes = map string_bytes result.sizes.items } ≡ names_in self }
+        ensures total { result.total ≡ (resolved_of self).total }
+        ensures derives { result.derives ≡ (resolved_of self).derives }
+        ensures root { outline_of result.root ≡ (resolved_of self).root }
+        ensures typed { IsTyped (scope self) (plan_of result.root) }
+        ensures outputs { HasOutputs (relation_at (scope self).catalog) (outline_of result.root) }
+        ensures few { nodes (plan_of result.root) ≤ max_nodes }
+    {
+        let TypedPlan {
+            catalog,
+            sizes,
+            ranges,
+            total,
+            derives,
+            root,
+        } = self;
+        TypedParts {
             catalog,
             sizes,
             ranges,

@@ -26,14 +26,14 @@ returns-in_err-plan-clause-refused c =
     let fails : plan.Fails c.in_err-plan.field-0.0 (document_in b.plan) = rw c.plan.ensures at c.in_err-plan.ensures in
     rw (p.1, p.2) (reading_fails (exactly (catalog_of b.catalog)) (exactly (document_in b.plan)) c.in_ok-catalog.catalog (document_in b.plan) c.in_err-plan.field-0.0 declares (λ P h. h) fails)
 
-pub returns-in_err-resolve-clause-refused : goal.returns-in_err-resolve-clause-refused
-returns-in_err-resolve-clause-refused c =
+pub returns-in_err-planned-clause-refused : goal.returns-in_err-planned-clause-refused
+returns-in_err-planned-clause-refused c =
     let b = bundle_form c.args.bundle.now in
     let d = document_of c.in_ok-plan.plan in
-    let p = err_from_is_err_and c.from_residual-in_err-resolve.result c.from_residual-in_err-resolve.ensures.1 in
+    let p = err_from_is_err_and c.from_residual-in_err-planned.result c.from_residual-in_err-planned.ensures.1 in
     let declares : catalog_of b.catalog ≡ Ok c.in_ok-catalog.catalog = rw c.catalog.ensures at c.in_ok-catalog.ensures in
     let reads : document_in b.plan ≡ Ok d = rw c.plan.ensures at c.in_ok-plan.ensures in
-    rw (p.1, p.2) (planning_fails (exactly (catalog_of b.catalog)) (exactly (document_in b.plan)) c.in_ok-catalog.catalog d (document_in b.plan) c.in_err-resolve.field-0.0 declares (λ P h. h) reads c.in_err-resolve.ensures)
+    rw (p.1, p.2) (planning_fails (exactly (catalog_of b.catalog)) (exactly (document_in b.plan)) c.in_ok-catalog.catalog d (document_in b.plan) c.in_err-planned.field-0.0 declares (λ P h. h) reads c.in_err-planned.ensures)
 
 pub returns-clause-planned : goal.returns-clause-planned
 returns-clause-planned c =
@@ -41,5 +41,5 @@ returns-clause-planned c =
     let d = document_of c.in_ok-plan.plan in
     let declares : catalog_of b.catalog ≡ Ok c.in_ok-catalog.catalog = rw c.catalog.ensures at c.in_ok-catalog.ensures in
     let reads : document_in b.plan ≡ Ok d = rw c.plan.ensures at c.in_ok-plan.ensures in
-    is_planned (exactly (catalog_of b.catalog)) (exactly (document_in b.plan)) c.in_ok-catalog.catalog d (document_in b.plan) (resolved_of c.in_ok-resolve.field-0) declares
-    (λ P h. h) reads c.in_ok-resolve.ensures
+    is_planned (exactly (catalog_of b.catalog)) (exactly (document_in b.plan)) c.in_ok-catalog.catalog d (document_in b.plan) (resolved_of c.in_ok-planned.field-0) declares
+    (λ P h. h) reads c.in_ok-planned.ensures

@@ -1,21 +1,17 @@
-use Rattle.std.proofs.Common.{◌≡◌, ◌∙◌, ap, sym, subst, true≢false, option_map, map}
+use Rattle.std.proofs.Common.{◌∙◌, ap, sym, subst, true≢false, option_map, map}
 use Rattle.std.specs.List.{list_all}
-use Rattle.vx_catalog_relations.specs.Catalog.{relation_at, IsCatalog}
+use Rattle.vx_catalog_relations.specs.Catalog.{IsCatalog}
 use Rattle.vx_plan_nodes.specs.TypedView.{resolved_of, scope}
-use Rattle.vx_plan_nodes.specs.Plan.{Plan}
 use Rattle.vx_plan_nodes.specs.Outline.{outline_of, plan_of, claim_of}
 use Rattle.vx_plan_json.specs.Document.{Document}
 use Rattle.vx_plan_json.specs.Formed.{has_few_keys}
 use Rattle.vx_plan_json.specs.PlanView.{document_of}
-use Rattle.vx_check_rules.specs.Rules.{is_total_order}
 use Rattle.vx_check_rules.specs.RuleView.{refusal_of}
-use Rattle.vx_check_options.specs.Options.{parts_at, places_at}
-use Rattle.vx_check_options.specs.Placed.{first_entries, first_part}
-use Rattle.vx_check_options.specs.Claimed.{IsClaimed, reversed_claims}
-use Rattle.vx_check_annotate.specs.Claimed.{claims_of, forms_in, named_forms, with_forms}
+use Rattle.vx_check_annotate.specs.Claimed.{claims_of, forms_in, named_forms}
 use Rattle.vx_check_annotate.specs.Unclaimed.{unclaimed}
-use Rattle.vx_check_annotate.specs.Verdict.{refused_by_claims}
 use Rattle.vx_check_annotate.proofs.FoundDocument.{hinted-named, found-said}
+use Rattle.vx_check_annotate.proofs.FoundHere.{found-here, forms-here}
+use Rattle.vx_check_directions.specs.Turned.{all_rising}
 use Rattle.vx_check_annotate.proofs.Answering.{refused-found, typed-names, answered, Answered}
 use Rattle.vx_check_annotate.proofs.ClaimedFacts.{with-same}
 use Rattle.vx_check_annotate.proofs.ClaimsResolve.{claimed}
@@ -26,7 +22,7 @@ use Rattle.vx_check_annotate.proofs.Reasons.{plain-reason}
 use Rattle.vx_check_annotate.proofs.annotating.annotated_by_claims.Goals as goal
 
 pub found_claims-requires-clause-keys : goal.found_claims-requires-clause-keys
-found_claims-requires-clause-keys c = rw c.catalog.ensures (typed-names (scope c.in_ok-typed.typed) (plan_of c.root.result.now) c.root.ensures.typed.nodes)
+found_claims-requires-clause-keys c = rw c.catalog.ensures (typed-names (scope c.in_ok-typed-2.typed) (plan_of c.root.result.now) c.root.ensures.typed.nodes)
 
 pub hinted-requires : goal.hinted-requires
 hinted-requires c = λ asks. absurd (true≢false (sym asks ∙ c.requires))
@@ -38,10 +34,13 @@ claimed_plan-found-requires c =
     let cat : IsCatalog c.args.catalog.now = c.len-relations.ensures.fine in
     let h = c.in_ok-typed.ensures.hinted in
     let over = (hinted-named c.args.catalog.now d p cat c.args.plan.formed h).0 in
-    let x = rw over at (rw c.catalog.ensures at (rw c.root.ensures.plan at c.in_ok-claims.ensures)) in
+    let v = resolved_of c.in_ok-typed-2.typed in
+    let x = found-here c.args.catalog.now p v c.catalog.result.now (plan_of c.root.result.now) (map claim_of c.in_ok-claims.claims.items) c.in_ok-claims.is_total over c.in_ok-typed-2.ensures c.catalog.ensures c.root.ensures.plan
+    c.in_ok-claims.ensures in
     let derives = ap (λ (e : Document). e.derives) c.in_ok-typed.ensures.same in
-    let forms = c.in_ok-named.ensures p.names (sym c.ranges-2.ensures)
-    ∙ (ap (λ l. named_forms p.names l (outline_of c.root-2.result.now)) (reversed c.in_ok-claims.claims.items x.0 x.2) ∙ ap (named_forms p.names (claims_of x.0)) c.root-2.ensures.root) in
+    let forms = c.in_ok-named.ensures v.names (sym c.ranges-2.ensures)
+    ∙ (ap (λ l. named_forms v.names l (outline_of c.root-2.result.now)) (reversed c.in_ok-claims.claims.items x.0 x.2)
+    ∙ (ap (named_forms v.names (claims_of x.0)) c.root-2.ensures.root ∙ forms-here p v (claims_of x.0) c.in_ok-typed-2.ensures)) in
     (λ i. list_all (has_few_keys (derives i)) (forms i)) ∙ found-few c.args.catalog.now d p _ _ x.0 cat c.args.plan.formed c.args.plan.few_keys h x.1
 
 pub judge-requires : goal.judge-requires
@@ -52,12 +51,15 @@ judge-requires c =
     let cat : IsCatalog c.args.catalog.now = c.len-relations.ensures.fine in
     let h = c.in_ok-typed.ensures.hinted in
     let over = (hinted-named c.args.catalog.now d p cat c.args.plan.formed h).0 in
-    let x = rw over at (rw c.catalog.ensures at (rw c.root.ensures.plan at c.in_ok-claims.ensures)) in
-    let forms = c.in_ok-named.ensures p.names (sym c.ranges-2.ensures)
-    ∙ (ap (λ l. named_forms p.names l (outline_of c.root-2.result.now)) (reversed c.in_ok-claims.claims.items x.0 x.2) ∙ ap (named_forms p.names (claims_of x.0)) c.root-2.ensures.root) in
+    let v = resolved_of c.in_ok-typed-2.typed in
+    let x = found-here c.args.catalog.now p v c.catalog.result.now (plan_of c.root.result.now) (map claim_of c.in_ok-claims.claims.items) c.in_ok-claims.is_total over c.in_ok-typed-2.ensures c.catalog.ensures c.root.ensures.plan
+    c.in_ok-claims.ensures in
+    let forms = c.in_ok-named.ensures v.names (sym c.ranges-2.ensures)
+    ∙ (ap (λ l. named_forms v.names l (outline_of c.root-2.result.now)) (reversed c.in_ok-claims.claims.items x.0 x.2)
+    ∙ (ap (named_forms v.names (claims_of x.0)) c.root-2.ensures.root ∙ forms-here p v (claims_of x.0) c.in_ok-typed-2.ensures)) in
     let placed = c.claimed_plan-found.ensures.placed ∙ with-same (forms_in c.in_ok-named.named.items) c.in_ok-claims.is_total (document_of c.in_ok-typed.kept) d c.in_ok-typed.ensures.same in
     let said = found-said c.args.catalog.now d e p x.0 c.in_ok-claims.is_total (forms_in c.in_ok-named.named.items) cat c.args.plan.formed c.args.plan.declared h x.1 forms x.3 placed in
-    (claimed x.0 c.in_ok-claims.is_total p, said.resolves)
+    (claimed (all_rising x.0) c.in_ok-claims.is_total p, said.resolves)
 
 pub returns-in-None-clause-same : goal.returns-in-None-clause-same
 returns-in-None-clause-same c = ap unclaimed c.in_ok-plan.ensures.plan ∙ (c.claimed_plan-found.ensures.same ∙ c.in_ok-typed.ensures.same)
@@ -70,9 +72,12 @@ returns-in-None-clause-accepted c =
     let cat : IsCatalog c.args.catalog.now = c.len-relations.ensures.fine in
     let h = c.in_ok-typed.ensures.hinted in
     let over = (hinted-named c.args.catalog.now d p cat c.args.plan.formed h).0 in
-    let x = rw over at (rw c.catalog.ensures at (rw c.root.ensures.plan at c.in_ok-claims.ensures)) in
-    let forms = c.in_ok-named.ensures p.names (sym c.ranges-2.ensures)
-    ∙ (ap (λ l. named_forms p.names l (outline_of c.root-2.result.now)) (reversed c.in_ok-claims.claims.items x.0 x.2) ∙ ap (named_forms p.names (claims_of x.0)) c.root-2.ensures.root) in
+    let v = resolved_of c.in_ok-typed-2.typed in
+    let x = found-here c.args.catalog.now p v c.catalog.result.now (plan_of c.root.result.now) (map claim_of c.in_ok-claims.claims.items) c.in_ok-claims.is_total over c.in_ok-typed-2.ensures c.catalog.ensures c.root.ensures.plan
+    c.in_ok-claims.ensures in
+    let forms = c.in_ok-named.ensures v.names (sym c.ranges-2.ensures)
+    ∙ (ap (λ l. named_forms v.names l (outline_of c.root-2.result.now)) (reversed c.in_ok-claims.claims.items x.0 x.2)
+    ∙ (ap (named_forms v.names (claims_of x.0)) c.root-2.ensures.root ∙ forms-here p v (claims_of x.0) c.in_ok-typed-2.ensures)) in
     let placed = c.claimed_plan-found.ensures.placed ∙ with-same (forms_in c.in_ok-named.named.items) c.in_ok-claims.is_total (document_of c.in_ok-typed.kept) d c.in_ok-typed.ensures.same in
     let plain = refused-plainly c.args.catalog.now e cat c.claimed_plan-found.result.formed (ap (λ (f : Document). f.derives) placed ∙ c.requires) in
     let told = sym plain ∙ sym c.in_ok-plan.ensures.refusal ∙ ap (option_map refusal_of) c.in-None.is in
@@ -87,9 +92,12 @@ returns-in-None-clause-telling c =
     let cat : IsCatalog c.args.catalog.now = c.len-relations.ensures.fine in
     let h = c.in_ok-typed.ensures.hinted in
     let over = (hinted-named c.args.catalog.now d p cat c.args.plan.formed h).0 in
-    let x = rw over at (rw c.catalog.ensures at (rw c.root.ensures.plan at c.in_ok-claims.ensures)) in
-    let forms = c.in_ok-named.ensures p.names (sym c.ranges-2.ensures)
-    ∙ (ap (λ l. named_forms p.names l (outline_of c.root-2.result.now)) (reversed c.in_ok-claims.claims.items x.0 x.2) ∙ ap (named_forms p.names (claims_of x.0)) c.root-2.ensures.root) in
+    let v = resolved_of c.in_ok-typed-2.typed in
+    let x = found-here c.args.catalog.now p v c.catalog.result.now (plan_of c.root.result.now) (map claim_of c.in_ok-claims.claims.items) c.in_ok-claims.is_total over c.in_ok-typed-2.ensures c.catalog.ensures c.root.ensures.plan
+    c.in_ok-claims.ensures in
+    let forms = c.in_ok-named.ensures v.names (sym c.ranges-2.ensures)
+    ∙ (ap (λ l. named_forms v.names l (outline_of c.root-2.result.now)) (reversed c.in_ok-claims.claims.items x.0 x.2)
+    ∙ (ap (named_forms v.names (claims_of x.0)) c.root-2.ensures.root ∙ forms-here p v (claims_of x.0) c.in_ok-typed-2.ensures)) in
     let placed = c.claimed_plan-found.ensures.placed ∙ with-same (forms_in c.in_ok-named.named.items) c.in_ok-claims.is_total (document_of c.in_ok-typed.kept) d c.in_ok-typed.ensures.same in
     let plain = refused-plainly c.args.catalog.now e cat c.claimed_plan-found.result.formed (ap (λ (f : Document). f.derives) placed ∙ c.requires) in
     let told = sym plain ∙ sym c.in_ok-plan.ensures.refusal ∙ ap (option_map refusal_of) c.in-None.is in
@@ -104,9 +112,12 @@ returns-in-None-clause-strongest c =
     let cat : IsCatalog c.args.catalog.now = c.len-relations.ensures.fine in
     let h = c.in_ok-typed.ensures.hinted in
     let over = (hinted-named c.args.catalog.now d p cat c.args.plan.formed h).0 in
-    let x = rw over at (rw c.catalog.ensures at (rw c.root.ensures.plan at c.in_ok-claims.ensures)) in
-    let forms = c.in_ok-named.ensures p.names (sym c.ranges-2.ensures)
-    ∙ (ap (λ l. named_forms p.names l (outline_of c.root-2.result.now)) (reversed c.in_ok-claims.claims.items x.0 x.2) ∙ ap (named_forms p.names (claims_of x.0)) c.root-2.ensures.root) in
+    let v = resolved_of c.in_ok-typed-2.typed in
+    let x = found-here c.args.catalog.now p v c.catalog.result.now (plan_of c.root.result.now) (map claim_of c.in_ok-claims.claims.items) c.in_ok-claims.is_total over c.in_ok-typed-2.ensures c.catalog.ensures c.root.ensures.plan
+    c.in_ok-claims.ensures in
+    let forms = c.in_ok-named.ensures v.names (sym c.ranges-2.ensures)
+    ∙ (ap (λ l. named_forms v.names l (outline_of c.root-2.result.now)) (reversed c.in_ok-claims.claims.items x.0 x.2)
+    ∙ (ap (named_forms v.names (claims_of x.0)) c.root-2.ensures.root ∙ forms-here p v (claims_of x.0) c.in_ok-typed-2.ensures)) in
     let placed = c.claimed_plan-found.ensures.placed ∙ with-same (forms_in c.in_ok-named.named.items) c.in_ok-claims.is_total (document_of c.in_ok-typed.kept) d c.in_ok-typed.ensures.same in
     let plain = refused-plainly c.args.catalog.now e cat c.claimed_plan-found.result.formed (ap (λ (f : Document). f.derives) placed ∙ c.requires) in
     let told = sym plain ∙ sym c.in_ok-plan.ensures.refusal ∙ ap (option_map refusal_of) c.in-None.is in
@@ -121,9 +132,12 @@ returns-clause-refused c =
     let cat : IsCatalog c.args.catalog.now = c.len-relations.ensures.fine in
     let h = c.in_ok-typed.ensures.hinted in
     let over = (hinted-named c.args.catalog.now d p cat c.args.plan.formed h).0 in
-    let x = rw over at (rw c.catalog.ensures at (rw c.root.ensures.plan at c.in_ok-claims.ensures)) in
-    let forms = c.in_ok-named.ensures p.names (sym c.ranges-2.ensures)
-    ∙ (ap (λ l. named_forms p.names l (outline_of c.root-2.result.now)) (reversed c.in_ok-claims.claims.items x.0 x.2) ∙ ap (named_forms p.names (claims_of x.0)) c.root-2.ensures.root) in
+    let v = resolved_of c.in_ok-typed-2.typed in
+    let x = found-here c.args.catalog.now p v c.catalog.result.now (plan_of c.root.result.now) (map claim_of c.in_ok-claims.claims.items) c.in_ok-claims.is_total over c.in_ok-typed-2.ensures c.catalog.ensures c.root.ensures.plan
+    c.in_ok-claims.ensures in
+    let forms = c.in_ok-named.ensures v.names (sym c.ranges-2.ensures)
+    ∙ (ap (λ l. named_forms v.names l (outline_of c.root-2.result.now)) (reversed c.in_ok-claims.claims.items x.0 x.2)
+    ∙ (ap (named_forms v.names (claims_of x.0)) c.root-2.ensures.root ∙ forms-here p v (claims_of x.0) c.in_ok-typed-2.ensures)) in
     let placed = c.claimed_plan-found.ensures.placed ∙ with-same (forms_in c.in_ok-named.named.items) c.in_ok-claims.is_total (document_of c.in_ok-typed.kept) d c.in_ok-typed.ensures.same in
     let plain = refused-plainly c.args.catalog.now e cat c.claimed_plan-found.result.formed (ap (λ (f : Document). f.derives) placed ∙ c.requires) in
     let told = sym plain ∙ sym c.in_ok-plan.ensures.refusal ∙ ap (option_map refusal_of) c.in-Some.is in

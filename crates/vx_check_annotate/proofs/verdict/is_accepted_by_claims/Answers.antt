@@ -5,7 +5,7 @@ use Rattle.vx_check_annotate.proofs.VerdictFacts.{claims-refuse, plainly}
 use Rattle.vx_check_annotate.proofs.verdict.is_accepted_by_claims.Goals as goal
 
 pub returns-then-derives : goal.returns-then-derives
-returns-then-derives c = sym (claims-refuse c.args.catalog.now (document_of c.args.plan.now) (c.requires (sym c.derives.ensures ∙ c.if-derives.true)))
+returns-then-derives c = sym (claims-refuse c.args.catalog.now (document_of c.args.plan.now) c.len-relations.ensures.fine c.args.plan.now.formed (c.requires (sym c.derives.ensures ∙ c.if-derives.true)))
 
 pub returns : goal.returns
 returns c =

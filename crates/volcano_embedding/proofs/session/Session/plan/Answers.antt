@@ -5,7 +5,7 @@ use Rattle.vx_plan_json.specs.Fault.{◌>>=◌}
 use Rattle.vx_plan_json.specs.Fault as plan
 use Rattle.vx_plan_json.specs.Reading.{document_of_text}
 use Rattle.vx_plan_json.proofs.NodeFacts.{fails_then}
-use Rattle.vx_plan.specs.Resolve.{resolved}
+use Rattle.vx_check_directions.specs.Planned.{planned}
 use Rattle.volcano_embedding.specs.Planning.{for_fault}
 use Rattle.volcano_embedding.proofs.session.Session.plan.Goals as goal
 
@@ -13,11 +13,11 @@ pub returns-in_err-plan-clause-refused : goal.returns-in_err-plan-clause-refused
 returns-in_err-plan-clause-refused c =
     let fault = c.in_err-plan.field-0.0 in
     let p = err_from_is_err_and c.from_residual.result c.from_residual.ensures.1 in
-    rw (p.1, p.2) (for_fault fault refl (fails_then fault (document_of_text c.args.text.now) (λ d. resolved d c.args.self.now.catalog) c.in_err-plan.ensures))
+    rw (p.1, p.2) (for_fault fault refl (fails_then fault (document_of_text c.args.text.now) (λ d. planned d c.args.self.now.catalog) c.in_err-plan.ensures))
 
-pub returns-in_err-resolve-clause-refused : goal.returns-in_err-resolve-clause-refused
-returns-in_err-resolve-clause-refused c =
-    let fault = c.in_err-resolve.field-0.0 in
-    let p = err_from_is_err_and c.from_residual-in_err-resolve.result c.from_residual-in_err-resolve.ensures.1 in
-    let P : Result Document plan.Refusal → Type 0 = λ r. plan.Fails fault (r >>= λ d. resolved d c.args.self.now.catalog) in
-    rw (p.1, p.2) (for_fault fault refl (subst P (sym c.in_ok-plan.ensures) (rw c.catalog.ensures at c.in_err-resolve.ensures)))
+pub returns-in_err-planned-clause-refused : goal.returns-in_err-planned-clause-refused
+returns-in_err-planned-clause-refused c =
+    let fault = c.in_err-planned.field-0.0 in
+    let p = err_from_is_err_and c.from_residual-in_err-planned.result c.from_residual-in_err-planned.ensures.1 in
+    let P : Result Document plan.Refusal → Type 0 = λ r. plan.Fails fault (r >>= λ d. planned d c.args.self.now.catalog) in
+    rw (p.1, p.2) (for_fault fault refl (subst P (sym c.in_ok-plan.ensures) (rw c.catalog.ensures at c.in_err-planned.ensures)))

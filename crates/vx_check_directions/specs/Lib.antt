@@ -1,0 +1,4 @@
+pub mod Turned
+pub mod Directed
+pub mod Planned
+pub mod Finding
