@@ -1,0 +1,5 @@
+pub mod TextFacts
+pub mod RowFacts
+pub mod TypeFacts
+pub mod MeaningFacts
+pub mod AnswerTypes
