@@ -29,7 +29,7 @@ _volcano() {
         explain) options='--catalog --plan --format --stats --errors --verbose-errors --help' ;;
         annotate) options='--catalog --plan --derive --errors --verbose-errors --help' ;;
         sql) options='--catalog --plan --dialect --errors --verbose-errors --help' ;;
-        why) options='--help' words='C1 C2 C3 C4 C5 C6 C7 C8 C9 C10 C11 C12 K1 K2 K3 K4 K5 K6 K7 K8 K9 K11 P1 P2 P3 P4 P5 P6 P7 P8 P9 P10 P11 P12 P13 V1 V2 V3 V4 V5 V6 X1 X2 X3 X4 X5 X6 X7 X8 X9 X10 X11 X12 X13 X14' word=${word^^} ;;
+        why) options='--help' words='C1 C2 C3 C4 C5 C6 C7 C8 C9 C10 C11 C12 K1 K2 K3 K4 K5 K6 K7 K8 K9 K11 P1 P2 P3 P4 P5 P6 P7 P8 P9 P10 P11 P12 P13 V1 V2 V3 V4 V5 V6 X1 X2 X3 X4 X5 X6 X7 X8 X9 X10 X11 X12 X13 X14 X15' word=${word^^} ;;
         gen) options='--rows --help' ;;
         bundle) options='--threads --stats --errors --verbose-errors --help' ;;
         help) words='run serial check explain annotate sql why gen bundle' ;;

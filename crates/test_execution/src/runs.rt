@@ -30,12 +30,13 @@ pub fn outcome(alloc: Global, ran: Result<RunOutcome, RunFault>) -> Result<Strin
     }
 }
 
-/// What a case comes to by serial evaluation, without its exchanges. An overflow has no number of a node, since the nodes of that plan are numbered
-/// otherwise.
+/// What a case comes to by serial evaluation, without its exchanges. An overflow and a function that is not there have no number of a node, since the nodes
+/// of that plan are numbered otherwise.
 pub fn serially(alloc: Global, case: &Case) -> Result<String, Fail> {
     match eval(alloc, &erase(alloc, case.plan.plan())?, &case.database) {
         Ok(rows) => Ok(text_of(alloc, &rows)?),
         Err(EvalFault::Overflow { node: _ }) => Ok(String::from_str(alloc, "X7 Overflow")?),
+        Err(EvalFault::BadFunction { node: _ }) => Ok(String::from_str(alloc, "X15 BadFunction")?),
         Err(fault) => Ok(format!(in alloc; "{fault}")?),
     }
 }

@@ -8,8 +8,9 @@ use vx_exchange::ByteRouter;
 
 // Schedules of three workers that scan and the one at the root, number 0. Where worker 2 draws every morsel before another makes a step, the rows come in the order
 // of the relation, and the root waits for what worker 3 sends; of a merge, the other workers send that they have no rows. In the first case of a large sum worker 2 sends both rows, and
-// worker 3 has not yet sent that it has none. In the last line, by some schedules one worker has a part of the sum that is too large, and by others none has.
-const CHOSEN: &str = "one worker takes all | SELECTED | T | D | 1 | 1 'b' 7;3 'c' 7;
+// worker 3 has not yet sent that it has none. Where the answer is one of two, by some schedules one worker has a part of the sum that is too large, and by others none has.
+// In the last plans each of two workers has a function that overflows, in nodes 2 and 6.
+const CHOSEN: &str = r#"one worker takes all | SELECTED | T | D | 1 | 1 'b' 7;3 'c' 7;
 by steps 1000 2 1 3 0 | 1 | many=3 | 1 1 4 | rows in order
 the last worker comes first | SELECTED | T | D | 1 | 1 'b' 7;3 'c' 7;
 by steps 40 3 2 1 0 | 1 | many=3 | 1 1 4 | rows in order
@@ -42,7 +43,12 @@ by steps 1000 2 1 3 0 | 1 | many=3 | 1 1 4 | rows in order
 a partial group overflows by itself | GATHERED_SUMS_IN_TWO_PHASES | TOO_LARGE | D | 1 | X7 Overflow node=2
 by steps 1000 2 1 3 0 | 1 | many=3 | 1 1 4 | X7 Overflow node=2
 a part of a sum overflows by some schedules | SUMS_IN_TWO_PHASES | LARGE | D | 2 | 'a' 9223372036854775807;
-by drawn 3 100 | 1000 | many=3 | 1 1 4 | X7 Overflow node=4 or rows";
+by drawn 3 100 | 1000 | many=3 | 1 1 4 | X7 Overflow node=4 or rows
+a worker that goes on leaves a run unfinished where another overflowed | {"sizes":["many"],"root":{"op":"exchange","kind":"gather","input":{"op":"union","left":{"op":"project","columns":[{"fn":"add","of":["v",{"value":1}],"type":"int","as":"w"}],"input":{"op":"select","where":[{"column":"k","op":"=","value":"a"}],"input":{"op":"exchange","kind":"hash","route":"h","columns":["k"],"size":"many","input":T_PLAIN}}},"right":{"op":"project","columns":[{"fn":"add","of":["v",{"value":1}],"type":"int","as":"w"}],"input":{"op":"select","where":[{"column":"k","op":"=","value":"b"}],"input":{"op":"exchange","kind":"hash","route":"h","columns":["k"],"size":"many","input":T_PLAIN}}}}}} | BOTH_TOO_LARGE | D | 3 | X7 Overflow node=2
+by steps 1000 3 4 5 6 2 0 | 1 | many=2 | 1 1 4 | unfinished
+of two workers that overflow the lower one is told | {"sizes":["many"],"root":{"op":"exchange","kind":"gather","input":{"op":"union","left":{"op":"project","columns":[{"fn":"add","of":["v",{"value":1}],"type":"int","as":"w"}],"input":{"op":"select","where":[{"column":"k","op":"=","value":"a"}],"input":{"op":"exchange","kind":"hash","route":"h","columns":["k"],"size":"many","input":T_PLAIN}}},"right":{"op":"project","columns":[{"fn":"add","of":["v",{"value":1}],"type":"int","as":"w"}],"input":{"op":"select","where":[{"column":"k","op":"=","value":"b"}],"input":{"op":"exchange","kind":"hash","route":"h","columns":["k"],"size":"many","input":T_PLAIN}}}}}} | BOTH_TOO_LARGE | D | 3 | X7 Overflow node=2
+by steps 1000 3 4 5 6 2 1 0 | 1 | many=2 | 1 1 4 | rows
+by steps 1000 3 4 5 6 1 2 0 | 1 | many=2 | 1 1 4 | rows"#;
 
 #[test]
 fn chosen_schedules_have_their_lines(rt: HostRuntime) -> Result<(), Fail> {
@@ -95,6 +101,15 @@ by limit 1000 | 1 | many=65 | 1 1 0 | X2 SizeOutOfRange name=many
 another catalog | GATHERED | OTHER | - | 1 |
 by limit 1000 | 1 | many=1 | 1 1 1 | X6 OtherCatalog
 by limit 1000 | 1 | | 0 0 0 | X6 OtherCatalog
+a function that is not there | {"sizes":["many"],"root":{"op":"exchange","kind":"gather","input":{"op":"project","columns":[{"fn":"nosuch","of":["v"],"type":"int","as":"w"}],"input":T_PLAIN}}} | T | D | 1 | X15 BadFunction node=1
+by limit 1000 | 1 | many=1 | 1 1 1 | rows
+by limit 0 | 1 | many=1 | 1 1 1 | rows
+by limit 1000 | 1 | many=1 | 1 1 0 | X14 BadSlack
+by limit 1000 | 1 | many=0 | 1 1 1 | X2 SizeOutOfRange name=many
+by steps 1 1 9 0 | 1 | many=1 | 1 1 4 | X5 BadStep index=1
+by steps 1 1 0 | 1 | many=1 | 1 1 4 | rows
+a function that is not there, over another catalog | {"sizes":["many"],"root":{"op":"exchange","kind":"gather","input":{"op":"project","columns":[{"fn":"nosuch","of":["v"],"type":"int","as":"w"}],"input":T_PLAIN}}} | OTHER | - | 1 |
+by limit 1000 | 1 | many=1 | 1 1 1 | X6 OtherCatalog
 faults | COUNTED_BY_ONE | T | D | 0 | 4;
 by fault BadStep | 1 | | 1 1 1 | X5 BadStep index=3
 by fault Overflow | 1 | | 1 1 1 | X7 Overflow node=2
@@ -102,7 +117,8 @@ by fault NoMemory | 1 | | 1 1 1 | X8 NoMemory
 by fault NoThread | 1 | | 1 1 1 | X9 NoThread
 by fault Unsorted | 1 | | 1 1 1 | X10 Unsorted node=1
 by fault Stranger | 1 | | 1 1 1 | X11 Stranger exchange=4
-by fault TooManyWorkers | 1 | | 1 1 1 | X12 TooManyWorkers number=257"#;
+by fault TooManyWorkers | 1 | | 1 1 1 | X12 TooManyWorkers number=257
+by fault BadFunction | 1 | | 1 1 1 | X15 BadFunction node=5"#;
 
 #[test]
 fn setups_and_counts_have_their_lines(rt: HostRuntime) -> Result<(), Fail> {

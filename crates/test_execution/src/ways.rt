@@ -75,6 +75,7 @@ fn fault_named(name: &str) -> RunFault {
         "NoThread" => RunFault::NoThread,
         "Unsorted" => RunFault::Unsorted { node: 1 },
         "Stranger" => RunFault::Stranger { exchange: 4 },
+        "BadFunction" => RunFault::BadFunction { node: 5 },
         "TooManyWorkers" => RunFault::TooManyWorkers { number: 257 },
         _ => RunFault::NoMemory,
     }

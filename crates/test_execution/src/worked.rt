@@ -3,7 +3,9 @@
 
 use crate::ways::{try_plan, try_plans};
 use std::test::Fail;
-use test_runs::{JOIN_PLANS, OPERATOR_JOINS, OPERATOR_PLANS, SUM_PLANS, WORKED_PLANS};
+use test_runs::{
+    FUNCTION_PLANS, JOIN_PLANS, OPERATOR_JOINS, OPERATOR_PLANS, SUM_PLANS, WORKED_PLANS,
+};
 use test_tables::ToFirst;
 use vx_exchange::ByteRouter;
 
@@ -34,6 +36,19 @@ fn worked_plans_come_to_their_rows(rt: HostRuntime) -> Result<(), Fail> {
 fn operators_come_to_their_serial_rows(rt: HostRuntime) -> Result<(), Fail> {
     try_plans(&rt, &ByteRouter, 0, OPERATOR_PLANS, WAYS)?;
     try_plans(&rt, &ByteRouter, 0, OPERATOR_JOINS, WAYS)
+}
+
+// The turns at the end of each schedule are more than a run needs.
+const FEWER_WAYS: &str = "serial | 1 | | 1 1 1 | rows in order
+rounds | 1 | many=1 | 1 1 4 | rows
+rounds | 1 | many=3 | 1 1 4 | rows
+drawn 3 50 | 20 | many=3 | 1 1 4 | rows
+threads | 2 | many=3 | 1 1 1 | rows
+threads | 1 | many=2 | 4096 2 2 | rows";
+
+#[test]
+fn functions_come_to_their_rows(rt: HostRuntime) -> Result<(), Fail> {
+    try_plans(&rt, &ByteRouter, 0, FUNCTION_PLANS, FEWER_WAYS)
 }
 
 // Sums by a key, where all keys are sent to one worker.

@@ -4,6 +4,7 @@
 
 mod crowds;
 mod exchanges;
+mod functions;
 mod lines;
 mod operators;
 mod relations;
@@ -11,6 +12,7 @@ mod worked;
 
 pub use crowds::IN_A_ROW;
 pub use exchanges::EXCHANGE_PLANS;
+pub use functions::FUNCTION_PLANS;
 pub use lines::{document_named, rows_named};
 pub use operators::{OPERATOR_JOINS, OPERATOR_PLANS};
 pub use relations::{

@@ -13,6 +13,8 @@ mod examples;
 #[cfg(test)]
 mod falling;
 #[cfg(test)]
+mod functions;
+#[cfg(test)]
 mod matches;
 #[cfg(test)]
 mod names;

@@ -1,6 +1,6 @@
--- A case is refused with status 3 only by its setup.
+-- A case is refused with status 3 only by its setup, or for a function that is not the program's.
 use Rattle.std.proofs.Common.{◌≡◌, ◌∙◌, ℕ, ◌+◌, ◌<◌, List, length, Bool, true, false, cond, Option, Some, None, Result, Ok, Err, refl, ap, arith, inl, inr, subst}
-use Rattle.std.specs.Prelude.{⊤}
+use Rattle.std.specs.Prelude.{⊤, ◌⊎◌}
 use Rattle.vx_rows_values.specs.Values.{Row}
 use Rattle.vx_catalog_relations.specs.Relation.{Relation}
 use Rattle.vx_catalog_relations.specs.Catalog.{relation_at}
@@ -44,7 +44,7 @@ use Rattle.volcano_answer.specs.Answer.{IsBundlePlan, IsBundlePlanRefusal, Refus
 use Rattle.volcano_answer.specs.Planning.{plan_from}
 use Rattle.volcano_answer.specs.Planning as planning
 use Rattle.volcano_answer.specs.Answer as answer
-use Rattle.volcano_answer.specs.Case.{IsCase, is_of_setup, IsOfSetup}
+use Rattle.volcano_answer.specs.Case.{IsCase, is_of_setup, IsOfSetup, IsForFunction}
 
 -- a refusal of status 4 has not status 3
 not_three : (e r : Refusal) → e ≡ r → status_of r ≡ 4 → status_of e ≡ 3 → ⊥
@@ -142,19 +142,20 @@ run_ends p db run.NoMemory e is h three = not_three e (refusal.Run run.NoMemory)
 run_ends p db (run.Overflow node) e is h three = not_three e (refusal.Run (run.Overflow node)) is refl three
 run_ends p db _ e is h three = h
 
-run_fails : (p : TypedPlanView) (db : Database) (s : SetupView) (fault : RunFault) (e : Refusal) → db.catalog ≡ p.names.catalog → e ≡ refusal.Run fault → RunFails p db s fault → status_of e ≡ 3 → IsOfSetup e
+run_fails : (p : TypedPlanView) (db : Database) (s : SetupView) (fault : RunFault) (e : Refusal) → db.catalog ≡ p.names.catalog → e ≡ refusal.Run fault → RunFails p db s fault → status_of e ≡ 3 → IsOfSetup e ⊎ IsForFunction p e
 run_fails p db s fault e same is (runs.for_catalog of differs) three = absurd (differs same)
 run_fails p db s fault e same is (runs.for_setup c (inl memory)) three = absurd (not_three e (refusal.Run run.NoMemory) (is ∙ ap refusal.Run memory) refl three)
-run_fails p db s fault e same is (runs.for_setup c (inr err)) three = (fault, is, named_setup fault (subst AllNamed err (sizes_named s p.names.sizes (plan_in p.root))))
+run_fails p db s fault e same is (runs.for_setup c (inr err)) three = inl (fault, is, named_setup fault (subst AllNamed err (sizes_named s p.names.sizes (plan_in p.root))))
+run_fails p db s fault e same is (runs.for_function sizes set node names unknown) three = inr (inl (node, is ∙ ap refusal.Run names, unknown))
 run_fails p db s fault e same is (runs.for_fault sizes set h) three = absurd (run_ends p db fault e is h three)
 
-run_refuses : (b : Bundle) (p : TypedPlanView) (db : Database) (e : Refusal) → db.catalog ≡ p.names.catalog → RunRefuses p db b.setting e → status_of e ≡ 3 → IsOfSetup e
+run_refuses : (b : Bundle) (p : TypedPlanView) (db : Database) (e : Refusal) → db.catalog ≡ p.names.catalog → RunRefuses p db b.setting e → status_of e ≡ 3 → IsOfSetup e ⊎ IsForFunction p e
 run_refuses b p db e same (commands.for_rounds in_rounds s set needs is) three = absurd (not_three e refusal.Unfinished is refl three)
 run_refuses b p db e same (commands.for_threads in_threads s set is) three = absurd (not_three e (refusal.Run run.NoThread) is refl three)
 run_refuses b p db e same (commands.run_memory is) three = absurd (not_three e refusal.NoMemory is refl three)
 run_refuses b p db e same (commands.for_fault fault is h) three = run_fails p db b.setting.setup fault e same is h three
 
-plan_refuses : (b : Bundle) (p : TypedPlanView) (e : Refusal) → IsCase b p → PlanRefuses p (holds_in b.tables) (lacks_in b.tables) b.setting e → status_of e ≡ 3 → IsOfSetup e
+plan_refuses : (b : Bundle) (p : TypedPlanView) (e : Refusal) → IsCase b p → PlanRefuses p (holds_in b.tables) (lacks_in b.tables) b.setting e → status_of e ≡ 3 → IsOfSetup e ⊎ IsForFunction p e
 plan_refuses b p e case (commands.for_tables h) three = absurd (tables_load b.tables (plan_in p.root) p.names.catalog e case.loaded h three)
 plan_refuses b p e case (commands.for_run db there h) three = run_refuses b p db e there.same h three
 
@@ -171,23 +172,24 @@ none_left i (unary h op flags t) =
 none_left i (binary h op t u) = rw (none_left (i + 1) t) (none_left (i + 1 + nodes_left (plan_in t)) u)
 none_left i (exchange h k m t) = none_left i t
 
-evaluation_fails : (p : TypedPlanView) (db : Database) (fault : EvalFault) (e : Refusal) → db.catalog ≡ p.names.catalog → e ≡ refusal.Eval fault → EvalFails (erased p) db fault → status_of e ≡ 3 → ⊥
-evaluation_fails p db eval.OtherCatalog e same is h three = h same
-evaluation_fails p db (eval.HasExchange node) e same is h three = none_some (first_exchange (plan_in (erased_from 0 p.root))) node (none_left 0 p.root) h.1
-evaluation_fails p db (eval.Overflow node) e same is h three = not_three e (refusal.Eval (eval.Overflow node)) is refl three
-evaluation_fails p db eval.NoMemory e same is h three = not_three e (refusal.Eval eval.NoMemory) is refl three
+evaluation_fails : (p : TypedPlanView) (db : Database) (fault : EvalFault) (e : Refusal) → db.catalog ≡ p.names.catalog → e ≡ refusal.Eval fault → EvalFails (erased p) db fault → status_of e ≡ 3 → IsForFunction p e
+evaluation_fails p db eval.OtherCatalog e same is h three = absurd (h same)
+evaluation_fails p db (eval.HasExchange node) e same is h three = absurd (none_some (first_exchange (plan_in (erased_from 0 p.root))) node (none_left 0 p.root) h.1)
+evaluation_fails p db (eval.Overflow node) e same is h three = absurd (not_three e (refusal.Eval (eval.Overflow node)) is refl three)
+evaluation_fails p db eval.NoMemory e same is h three = absurd (not_three e (refusal.Eval eval.NoMemory) is refl three)
+evaluation_fails p db (eval.BadFunction node) e same is h three = inr (node, is, h.1)
 
-serial_refuses : (b : Bundle) (p : TypedPlanView) (e : Refusal) → IsCase b p → SerialRefuses p (holds_in b.tables) (lacks_in b.tables) e → status_of e ≡ 3 → ⊥
-serial_refuses b p e case (commands.serial_memory is) three = not_three e refusal.NoMemory is refl three
-serial_refuses b p e case (commands.for_texts h) three = tables_load b.tables (plan_in p.root) p.names.catalog e case.loaded h three
+serial_refuses : (b : Bundle) (p : TypedPlanView) (e : Refusal) → IsCase b p → SerialRefuses p (holds_in b.tables) (lacks_in b.tables) e → status_of e ≡ 3 → IsForFunction p e
+serial_refuses b p e case (commands.serial_memory is) three = absurd (not_three e refusal.NoMemory is refl three)
+serial_refuses b p e case (commands.for_texts h) three = absurd (tables_load b.tables (plan_in p.root) p.names.catalog e case.loaded h three)
 serial_refuses b p e case (commands.for_evaluation db fault there is h) three = evaluation_fails p db fault e there.same is h three
 
-command_refuses : (b : Bundle) (p : TypedPlanView) (e : Refusal) → IsCase b p → CommandRefuses b.command p (holds_in b.tables) (lacks_in b.tables) b.setting e → status_of e ≡ 3 → IsOfSetup e
+command_refuses : (b : Bundle) (p : TypedPlanView) (e : Refusal) → IsCase b p → CommandRefuses b.command p (holds_in b.tables) (lacks_in b.tables) b.setting e → status_of e ≡ 3 → IsOfSetup e ⊎ IsForFunction p e
 command_refuses b p e case (commands.command_memory is) three = absurd (not_three e refusal.NoMemory is refl three)
 command_refuses b p e case (commands.for_rule checked (inl h)) three = absurd (none_some (refusal_in p) _ case.shown h.3)
 command_refuses b p e case (commands.for_rule checked (inr h)) three = absurd (not_three e (refusal.Plan of_plan.NoMemory) h.1 refl three)
 command_refuses b p e case (commands.for_rest runs shown h) three = plan_refuses b p e case h three
-command_refuses b p e case (commands.for_serial runs h) three = absurd (serial_refuses b p e case h three)
+command_refuses b p e case (commands.for_serial runs h) three = inr (serial_refuses b p e case h three)
 
 -- the plan of a bundle over these relations
 abbrev plan_over_relations : Bundle → List Relation → Result TypedPlanView plan.Refusal
@@ -212,7 +214,7 @@ has_plan b p e x (planning.for_plan relations fault is declared h) three =
     let same : relations ≡ p.names.catalog = cc (declares, declares_too) in
     plan_resolves e fault (plan_over_relations b relations) p (ap (plan_over_relations b) same ∙ x.planned) is h three
 
-pub case_is_refused_by_setup : (b : Bundle) (p : TypedPlanView) (e : Refusal) → IsCase b p → Refuses b e → status_of e ≡ 3 → IsOfSetup e
+pub case_is_refused_by_setup : (b : Bundle) (p : TypedPlanView) (e : Refusal) → IsCase b p → Refuses b e → status_of e ≡ 3 → IsOfSetup e ⊎ IsForFunction p e
 case_is_refused_by_setup b p e case (answer.bundle_memory is) three = absurd (not_three e refusal.NoMemory is refl three)
 case_is_refused_by_setup b p e case (answer.for_planning h) three = absurd (has_plan b p e case.planned h three)
 case_is_refused_by_setup b p e case (answer.for_plan_of q planned h) three =

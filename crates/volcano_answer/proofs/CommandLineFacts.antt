@@ -25,7 +25,8 @@ use Rattle.vx_plan_json.specs.Document.{Document}
 use Rattle.volcano_answer.specs.Files.{known_at, AreRead, IsFilesPlan}
 use Rattle.volcano_answer.specs.Annotated.{asking_if, AnnotationRefuses}
 use Rattle.volcano_answer.specs.Forms.{FormRefuses}
-use Rattle.volcano_answer.specs.CommandLine.{FileCommand, FormIsRefused, for_form, AnnotationIsRefused, for_annotation, TaskRefuses, for_plan_of, with_program_name, AsksFor, for_help, for_what_is_asked, for_kind, for_no_task, for_other_stats, for_asked_drawing, drawing_memory, arguments_memory, for_ask, ask_memory, IsNoTask, for_stopped, ArgumentsRefuse, AsksForStopped}
+use Rattle.volcano_answer.specs.Statements.{StatementFails}
+use Rattle.volcano_answer.specs.CommandLine.{FileCommand, FormIsRefused, for_form, StatementIsRefused, for_statement, AnnotationIsRefused, for_annotation, TaskRefuses, for_plan_of, with_program_name, AsksFor, for_help, for_what_is_asked, for_kind, for_no_task, for_other_stats, for_asked_drawing, drawing_memory, arguments_memory, for_ask, ask_memory, IsNoTask, for_stopped, ArgumentsRefuse, AsksForStopped}
 use Rattle.vx_exec_runs.specs.Promise.{Counting}
 use Rattle.volcano_answer.specs.Usage.{IsWrong}
 use Rattle.volcano_answer.specs.CommandLineView.{IsAskAnswer, IsArgumentAnswer, IsHelp, IsClapFault, IsUsageFault, IsNoDrawing, IsAskFault, IsArgumentFault}
@@ -42,6 +43,12 @@ pub form_refused : {T : Type 0} (files : List ℕ → Stored) (reliable : List �
     → IsFilesPlan files input paths p → IfErr r (λ e. FormRefuses p e) → IfErr r (λ e. FormIsRefused files reliable input failed paths e)
 form_refused files reliable input failed paths p (Ok x) planned h = tt
 form_refused files reliable input failed paths p (Err e) planned h = for_form p planned h
+
+-- what has no statement is refused for that
+pub statement_refused : {T : Type 0} (files : List ℕ → Stored) (reliable : List ℕ → Bool) (input : Option (List ℕ)) (failed : Bool) (paths : Paths) (p : TypedPlanView) (r : Result T Refusal)
+    → IsFilesPlan files input paths p → IfErr r (StatementFails p) → IfErr r (λ e. StatementIsRefused files reliable input failed paths e)
+statement_refused files reliable input failed paths p (Ok x) planned h = tt
+statement_refused files reliable input failed paths p (Err e) planned h = for_statement p planned h
 
 -- a document that gets no claims is refused for that
 pub annotation_refused : {T : Type 0} (files : List ℕ → Stored) (reliable : List ℕ → Bool) (input : Option (List ℕ)) (failed : Bool) (paths : Paths) (derive : Bool) (relations : List Relation) (d : Document) (r : Result T Refusal)

@@ -96,7 +96,7 @@ module _ (p : TypedPlanView) (holds : Holding) (all db : Database) (s : Setting)
   same_rows i is = sym (has.same i is)
 
   set_in : (sizes : Sizes) → IsSetUp p all s.setup sizes → IsSetUp p db s.setup sizes
-  set_in sizes h = record { same = has.own.same; sizes = h.sizes }
+  set_in sizes h = record { same = has.own.same; sizes = h.sizes; known = h.known }
 
   needs_in : (sizes : Sizes) → NeedsMoreRounds p all sizes → NeedsMoreRounds p db sizes
   needs_in sizes h =
@@ -117,6 +117,7 @@ module _ (p : TypedPlanView) (holds : Holding) (all db : Database) (s : Setting)
   true_in (run.Stranger exchange) h = h
   true_in (run.TooManyWorkers number) h = h
   true_in run.BadSlack h = h
+  true_in (run.BadFunction node) h = h
 
   run_in : (groups : List ℕ) (t : RowsView) → IsRunOf byte_route p all groups t → IsRunOf byte_route p db groups t
   run_in groups t h = record {
@@ -131,6 +132,7 @@ module _ (p : TypedPlanView) (holds : Holding) (all db : Database) (s : Setting)
   fails_in : (e : RunFault) → all.catalog ≡ p.names.catalog → fails.RunFails p all s.setup e → fails.RunFails p db s.setup e
   fails_in e over (fails.for_catalog is other) = absurd (other over)
   fails_in e over (fails.for_setup same h) = fails.for_setup has.own.same h
+  fails_in e over (fails.for_function sizes set node is unknown) = fails.for_function sizes (record { same = has.own.same; sizes = set.sizes }) node is unknown
   fails_in e over (fails.for_fault sizes set h) = fails.for_fault sizes (set_in sizes set) (true_in e h)
 
   refuses_over : (e : Refusal) → all.catalog ≡ p.names.catalog → RunRefuses p all s e → RunRefuses p db s e

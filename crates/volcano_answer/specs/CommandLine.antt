@@ -29,7 +29,7 @@ use Rattle.volcano_drawing.specs.Fault.{HasNoTotals}
 use Rattle.volcano_stats.specs.Words.{op_words}
 use Rattle.volcano_answer.specs.Files.{known_at, AreRead, AreNotRead, IsReadRefusal, IsFilesPlan, IsFilesRefusal}
 use Rattle.volcano_answer.specs.Forms.{form_named, IsInForm, FormRefuses}
-use Rattle.volcano_answer.specs.Statements.{dialect_named, IsStatement}
+use Rattle.volcano_answer.specs.Statements.{dialect_named, IsStatement, StatementFails}
 use Rattle.vx_check_sql.specs.declared.dialect.Dialect.{Dialect}
 use Rattle.volcano_answer.specs.Annotated.{asking_if, IsAnnotated, AnnotationRefuses}
 use Rattle.volcano_stats.specs.declared.text.StatsForm.{StatsForm}
@@ -128,10 +128,11 @@ pub data DrawingIsRefused (files : List ℕ → Stored) (reliable : List ℕ →
 abbrev pub AnswersStatement : (List ℕ → Stored) → Option (List ℕ) → Dialect → Paths → List ℕ → Type 0
 AnswersStatement files input d paths text = (p : TypedPlanView) × IsFilesPlan files input paths p × IsStatement d p text
 
--- the first reason why there is none: there is no such plan; out of memory may come anywhere
+-- the first reason why there is none: there is no such plan, or a function of it is not the program's; out of memory may come anywhere
 pub data StatementIsRefused (files : List ℕ → Stored) (reliable : List ℕ → Bool) (input : Option (List ℕ)) (failed : Bool) (paths : Paths) (e : Refusal) : Type 0 where
   statement_memory : e ≡ refusal.NoMemory → StatementIsRefused files reliable input failed paths e
   for_statement_planning : IsFilesRefusal files reliable input failed paths e → StatementIsRefused files reliable input failed paths e
+  for_statement : (p : TypedPlanView) → IsFilesPlan files input paths p → StatementFails p e → StatementIsRefused files reliable input failed paths e
 
 -- the text is that of the plan of these paths, which asks for what is known of its columns where that is said, with the claims that the rule table shows
 abbrev pub AnswersAnnotation : (List ℕ → Stored) → Option (List ℕ) → Paths → (derive : Bool) → List ℕ → Type 0

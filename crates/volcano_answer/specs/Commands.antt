@@ -79,7 +79,8 @@ abbrev pub IsSerial : TypedPlanView → Holding → List ℕ → Type 0
 IsSerial p holds text =
     (db : Database) × (rows : RowsView) × IsDatabaseFor p holds db × IsSerialOf (erased p) db rows × (text ≡ csv_text (columns p.root).names rows.rows)
 
--- why this plan has no serial text: the tables, then the first overflow of the plan without its exchanges, in which nodes are numbered anew; out of memory may come anywhere
+-- why this plan has no serial text: the tables, then the first function of the plan without its exchanges, in which nodes are numbered anew, that the program does
+-- not have, then the first overflow there; out of memory may come anywhere
 pub data SerialRefuses (p : TypedPlanView) (holds : Holding) (lacks : Lacking) (e : Refusal) : Type 0 where
   serial_memory : e ≡ refusal.NoMemory → SerialRefuses p holds lacks e
   for_texts : IsFirstMissing (plan_in p.root) holds lacks p.names.catalog e → SerialRefuses p holds lacks e

@@ -195,7 +195,7 @@ fn why_job<'a>(code: &'a str) -> Result<AskedJob<'a>, WrongPart<'a>>
         None => Err(WrongPart {
             before: "volcano: why ",
             argument: code,
-            after: ": a code is C1 to C12, P1 to P13, K1 to K9, K11, X1 to X14 or V1 to V6, or the name of one; see volcano why --help\n",
+            after: ": a code is C1 to C12, P1 to P13, K1 to K9, K11, X1 to X15 or V1 to V6, or the name of one; see volcano why --help\n",
         }),
     }
 }
@@ -273,8 +273,7 @@ fn answer_statement<F: Store, I: ByteIn>(
     ensures refused { IfErr result (λ e. StatementIsRefused (F.holds files.now) (F.is_reliable files.now) (I.remaining input.old) (I.has_failed input.new) (paths_are sources.entry) e) }
 {
     let plan = plan_from_files(alloc, files, input, sources)?;
-    let text = statement(alloc, dialect, &plan)?;
-    Ok(text)
+    statement(alloc, dialect, &plan)
 }
 
 // The picture of the plan at one path over the catalog at the other, with the statistics of the file at a third.

@@ -1,7 +1,7 @@
 -- The words that shapes of values know: those of which a text has to be one, and the names of an object's members.
 use Rattle.std.specs.Prelude.{◌≡◌, ℕ, List, [], ◌∷◌, map, codes, Contains}
 use Rattle.volcano_documents.specs.declared.shapes.Shape.{Shape}
-use Rattle.volcano_documents.specs.declared.shapes.Shape.TheVariants.{Word, Bundle, Catalog, Relation, Column, Directed, Plan, Range, Claim, HashPart, RangePart, OtherPart, Condition, Renamed, CountedRows, ColumnAggregate, Scan, Select, Kept, Sort, Limit, Union, InnerJoin, SemiJoin, PlainGroup, PartialGroup, FinalGroup, HashExchange, RangeExchange, SizedExchange, Gather, Concat}
+use Rattle.volcano_documents.specs.declared.shapes.Shape.TheVariants.{Word, Bundle, Catalog, Relation, Column, Directed, Plan, Range, Claim, HashPart, RangePart, OtherPart, Condition, Renamed, Answer, Call, Value, OtherOperand, MadeCall, MadeValue, CountedRows, ColumnAggregate, Scan, Select, Project, Distinct, Sort, Limit, Union, InnerJoin, SemiJoin, PlainGroup, PartialGroup, FinalGroup, HashExchange, RangeExchange, SizedExchange, Gather, Concat}
 use Rattle.volcano_documents.specs.declared.shapes.Form.{Form}
 use Rattle.volcano_documents.specs.declared.shapes.Form.TheVariants.{Object}
 use Rattle.volcano_documents.specs.declared.shapes.Member.{Member}
@@ -26,11 +26,18 @@ known_words RangePart = codes "range" ∷ codes "column" ∷ []
 known_words OtherPart = codes "hash" ∷ codes "columns" ∷ codes "range" ∷ codes "column" ∷ []
 known_words Condition = codes "column" ∷ codes "op" ∷ codes "value" ∷ codes "column2" ∷ []
 known_words Renamed = codes "column" ∷ codes "as" ∷ []
+known_words Answer = codes "fn" ∷ codes "of" ∷ []
+known_words Call = codes "fn" ∷ codes "of" ∷ codes "type" ∷ []
+known_words Value = codes "value" ∷ []
+known_words OtherOperand = codes "value" ∷ codes "fn" ∷ codes "of" ∷ codes "type" ∷ []
+known_words MadeCall = codes "fn" ∷ codes "of" ∷ codes "type" ∷ codes "as" ∷ []
+known_words MadeValue = codes "value" ∷ codes "as" ∷ []
 known_words CountedRows = codes "fn" ∷ codes "as" ∷ []
 known_words ColumnAggregate = codes "fn" ∷ codes "column" ∷ codes "as" ∷ []
 known_words Scan = codes "op" ∷ codes "relation" ∷ codes "mode" ∷ codes "size" ∷ codes "prefix" ∷ codes "claim" ∷ []
 known_words Select = codes "op" ∷ codes "where" ∷ codes "claim" ∷ codes "input" ∷ []
-known_words Kept = codes "op" ∷ codes "columns" ∷ codes "claim" ∷ codes "input" ∷ []
+known_words Project = codes "op" ∷ codes "columns" ∷ codes "claim" ∷ codes "input" ∷ []
+known_words Distinct = codes "op" ∷ codes "columns" ∷ codes "claim" ∷ codes "input" ∷ []
 known_words Sort = codes "op" ∷ codes "phase" ∷ codes "columns" ∷ codes "claim" ∷ codes "input" ∷ []
 known_words Limit = codes "op" ∷ codes "rows" ∷ codes "claim" ∷ codes "input" ∷ []
 known_words Union = codes "op" ∷ codes "claim" ∷ codes "left" ∷ codes "right" ∷ []

@@ -1,6 +1,6 @@
 //! The members of the objects in documents: those of bundles, catalogs and plans. A new member is a new line here.
 
-use crate::shapes::{Member, Rule, Shape};
+use crate::shapes::{Mark, Member, Rule, Shape};
 use crate::words::Words;
 
 // A member that an object has to have.
@@ -75,6 +75,18 @@ pub const RANGE_PART: &[Member] = &[
     member!("column", Shape::Name),
 ];
 
+// By which members a part says how rows are routed.
+pub const ROUTES: &[Mark] = &[
+    Mark {
+        name: "hash",
+        shape: Shape::HashPart,
+    },
+    Mark {
+        name: "range",
+        shape: Shape::RangePart,
+    },
+];
+
 // Of a part that has neither of the members that tell the two apart.
 pub const OTHER_PART: &[Member] = &[
     maybe!("hash", Shape::Name),
@@ -91,6 +103,66 @@ pub const CONDITION: &[Member] = &[
 ];
 
 pub const RENAMED: &[Member] = &[member!("column", Shape::Name), member!("as", Shape::Name)];
+
+// By which member a condition of a select says that it is a function.
+pub const ANSWERS: &[Mark] = &[Mark {
+    name: "fn",
+    shape: Shape::Answer,
+}];
+
+pub const ANSWER: &[Member] = &[member!("fn", Shape::Name), member!("of", Shape::Operands)];
+
+// By which members an operand says what it is.
+pub const COMPUTED: &[Mark] = &[
+    Mark {
+        name: "fn",
+        shape: Shape::Call,
+    },
+    Mark {
+        name: "value",
+        shape: Shape::Value,
+    },
+];
+
+pub const CALL: &[Member] = &[
+    member!("fn", Shape::Name),
+    member!("of", Shape::Operands),
+    member!("type", Shape::Word(Words::Types)),
+];
+
+pub const VALUE: &[Member] = &[member!("value", Shape::Constant)];
+
+// Of an operand that has neither of the members that tell the two apart.
+pub const OTHER_OPERAND: &[Member] = &[
+    maybe!("value", Shape::Constant),
+    maybe!("fn", Shape::Name),
+    maybe!("of", Shape::Operands),
+    maybe!("type", Shape::Word(Words::Types)),
+];
+
+// By which members a column of a projection says that it is computed.
+pub const MADE: &[Mark] = &[
+    Mark {
+        name: "fn",
+        shape: Shape::MadeCall,
+    },
+    Mark {
+        name: "value",
+        shape: Shape::MadeValue,
+    },
+];
+
+pub const MADE_CALL: &[Member] = &[
+    member!("fn", Shape::Name),
+    member!("of", Shape::Operands),
+    member!("type", Shape::Word(Words::Types)),
+    member!("as", Shape::Name),
+];
+
+pub const MADE_VALUE: &[Member] = &[
+    member!("value", Shape::Constant),
+    member!("as", Shape::Name),
+];
 
 pub const COUNTED_ROWS: &[Member] = &[
     member!("fn", Shape::Word(Words::Functions)),
@@ -116,12 +188,19 @@ pub const SCAN: &[Member] = &[
 
 pub const SELECT: &[Member] = &[
     member!("op", Shape::Word(Words::Operators)),
-    member!("where", Shape::Conditions),
+    member!("where", Shape::Filters),
     maybe!("claim", Shape::Claim),
     member!("input", Shape::Node),
 ];
 
-pub const KEPT: &[Member] = &[
+pub const PROJECT: &[Member] = &[
+    member!("op", Shape::Word(Words::Operators)),
+    member!("columns", Shape::Entries),
+    maybe!("claim", Shape::Claim),
+    member!("input", Shape::Node),
+];
+
+pub const DISTINCT: &[Member] = &[
     member!("op", Shape::Word(Words::Operators)),
     member!("columns", Shape::Outputs),
     maybe!("claim", Shape::Claim),

@@ -5,7 +5,7 @@ ghost use Rattle.volcano_documents.specs.Shapes.{names_of, known_words};
 ghost use Rattle.volcano_documents.specs.Misfits.{NamesOneOf, NamesNone};
 
 use crate::near::nearest_word;
-use crate::shapes::{Form, Member, Rule, Shape, chosen_shape, form_of};
+use crate::shapes::{Form, Mark, Member, Rule, Shape, chosen_shape, form_of};
 use crate::steps::Step;
 use crate::wording::{
     expected_member, expected_members, expected_single, found_member, found_value, names_of,
@@ -409,18 +409,14 @@ fn see_either<'v>(
     wrong_value(alloc, value, expected.as_str())
 }
 
-// The object that says how rows are routed, by the members that it has.
-fn see_routed<'v>(alloc: Global, value: &'v Value) -> Result<Seen<'v>, AllocError>
-    ensures { IfOk result NamesNone }
-{
-    let shape = if value.get("hash").is_some() {
-        Shape::HashPart
-    } else if value.get("range").is_some() {
-        Shape::RangePart
-    } else {
-        Shape::OtherPart
-    };
-    one_part(alloc, None, shape, value)
+// The shape of the first of these members that a value has, or else the other one.
+fn marked_shape(marks: &[Mark], other: Shape, value: &Value) -> Shape {
+    for mark in marks {
+        if value.get(mark.name).is_some() {
+            return mark.shape;
+        }
+    }
+    other
 }
 
 /// What is seen of a value that should have a shape, without looking into its parts.
@@ -437,6 +433,8 @@ pub fn see<'v>(alloc: Global, shape: Shape, value: &'v Value) -> Result<Seen<'v>
             see_tagged(alloc, shape, member, words, default, value)
         }
         Form::Either(text, object) => see_either(alloc, text, object, value),
-        Form::Routed => see_routed(alloc, value),
+        Form::Marked(marks, other) => {
+            one_part(alloc, None, marked_shape(marks, other, value), value)
+        }
     }
 }

@@ -32,7 +32,12 @@ pub enum Shape {
     Ranges,
     Bounds,
     Conditions,
+    /// The conditions of a select: comparisons and functions.
+    Filters,
     Outputs,
+    /// The columns of a projection: kept and computed.
+    Entries,
+    Operands,
     Pairs,
     Pair,
     Aggregates,
@@ -57,11 +62,23 @@ pub enum Shape {
     OtherPart,
     Condition,
     Renamed,
+    /// A function that is a condition.
+    Answer,
+    /// A function and the type of its answer.
+    Call,
+    /// A constant in an object.
+    Value,
+    /// An operand that is neither a function nor a constant.
+    OtherOperand,
+    /// A column of a projection that a function answers, and one that is a constant.
+    MadeCall,
+    MadeValue,
     CountedRows,
     ColumnAggregate,
     Scan,
     Select,
-    Kept,
+    Project,
+    Distinct,
     Sort,
     Limit,
     Union,
@@ -81,7 +98,12 @@ pub enum Shape {
     Part,
     RoutedPart,
     OrderEntry,
+    Filter,
     Output,
+    Entry,
+    EntryObject,
+    Operand,
+    OperandObject,
     Aggregate,
     Node,
     Join,
@@ -95,6 +117,13 @@ pub struct Member {
     pub name: &'static str,
     pub shape: Shape,
     pub is_required: bool,
+}
+
+/// A member by which an object says that it has a shape.
+#[derive(Clone, Copy)]
+pub struct Mark {
+    pub name: &'static str,
+    pub shape: Shape,
 }
 
 /// What is asked of an object's members beside their own shapes.
@@ -124,8 +153,8 @@ pub enum Form {
     Tagged(&'static str, Words, Option<Shape>),
     /// A text of the one shape, or an object of the other.
     Either(Shape, Shape),
-    /// An object that says by which members it has how rows are routed.
-    Routed,
+    /// An object with the shape of the first of these members that it has, or else with the other shape.
+    Marked(&'static [Mark], Shape),
 }
 
 /// How a value of a shape is looked at.
@@ -144,17 +173,34 @@ pub fn form_of(shape: Shape) -> Form
         Shape::Ranges => Form::List(Shape::Range, 0),
         Shape::Bounds => Form::List(Shape::Constant, 0),
         Shape::Conditions => Form::List(Shape::Condition, 1),
+        Shape::Filters => Form::List(Shape::Filter, 1),
         Shape::Outputs => Form::List(Shape::Output, 1),
+        Shape::Entries => Form::List(Shape::Entry, 1),
+        Shape::Operands => Form::List(Shape::Operand, 0),
         Shape::Pairs => Form::List(Shape::Pair, 1),
         Shape::Pair => Form::Pair,
         Shape::Aggregates => Form::List(Shape::Aggregate, 0),
         Shape::SomeAggregates => Form::List(Shape::Aggregate, 1),
         Shape::Tables => Form::Map(Shape::Text),
         Shape::Sizes => Form::Map(Shape::Count),
+        _ => either_form(shape),
+    }
+}
+
+// The same for values that are texts or objects, and for objects whose members say their shape.
+fn either_form(shape: Shape) -> Form
+    ensures { KnowsMembers shape result }
+{
+    match shape {
         Shape::Part => Form::Either(Shape::Word(Words::Parts), Shape::RoutedPart),
-        Shape::RoutedPart => Form::Routed,
+        Shape::RoutedPart => Form::Marked(members::ROUTES, Shape::OtherPart),
         Shape::OrderEntry => Form::Either(Shape::Name, Shape::Directed),
         Shape::Output => Form::Either(Shape::Name, Shape::Renamed),
+        Shape::Filter => Form::Marked(members::ANSWERS, Shape::Condition),
+        Shape::Entry => Form::Either(Shape::Name, Shape::EntryObject),
+        Shape::EntryObject => Form::Marked(members::MADE, Shape::Renamed),
+        Shape::Operand => Form::Either(Shape::Name, Shape::OperandObject),
+        Shape::OperandObject => Form::Marked(members::COMPUTED, Shape::OtherOperand),
         _ => choice_form(shape),
     }
 }
@@ -191,6 +237,21 @@ fn object_form(shape: Shape) -> Form
         Shape::OtherPart => Form::Object(members::OTHER_PART, Rule::One("hash", "range")),
         Shape::Condition => Form::Object(members::CONDITION, Rule::One("value", "column2")),
         Shape::Renamed => Form::Object(members::RENAMED, Rule::Free),
+        _ => computed_form(shape),
+    }
+}
+
+// The same for functions, their operands and aggregates.
+fn computed_form(shape: Shape) -> Form
+    ensures { KnowsMembers shape result }
+{
+    match shape {
+        Shape::Answer => Form::Object(members::ANSWER, Rule::Free),
+        Shape::Call => Form::Object(members::CALL, Rule::Free),
+        Shape::Value => Form::Object(members::VALUE, Rule::Free),
+        Shape::OtherOperand => Form::Object(members::OTHER_OPERAND, Rule::One("value", "fn")),
+        Shape::MadeCall => Form::Object(members::MADE_CALL, Rule::Free),
+        Shape::MadeValue => Form::Object(members::MADE_VALUE, Rule::Free),
         Shape::CountedRows => Form::Object(members::COUNTED_ROWS, Rule::Free),
         Shape::ColumnAggregate => Form::Object(members::COLUMN_AGGREGATE, Rule::Free),
         _ => node_form(shape),
@@ -204,7 +265,8 @@ fn node_form(shape: Shape) -> Form
     match shape {
         Shape::Scan => Form::Object(members::SCAN, Rule::Free),
         Shape::Select => Form::Object(members::SELECT, Rule::Free),
-        Shape::Kept => Form::Object(members::KEPT, Rule::Free),
+        Shape::Project => Form::Object(members::PROJECT, Rule::Free),
+        Shape::Distinct => Form::Object(members::DISTINCT, Rule::Free),
         Shape::Sort => Form::Object(members::SORT, Rule::Free),
         Shape::Limit => Form::Object(members::LIMIT, Rule::Free),
         Shape::Union => Form::Object(members::UNION, Rule::Free),
@@ -238,8 +300,8 @@ fn operator_shape(word: &str) -> Option<Shape> {
     match word {
         "scan" => Some(Shape::Scan),
         "select" => Some(Shape::Select),
-        "project" => Some(Shape::Kept),
-        "distinct" => Some(Shape::Kept),
+        "project" => Some(Shape::Project),
+        "distinct" => Some(Shape::Distinct),
         "sort" => Some(Shape::Sort),
         "limit" => Some(Shape::Limit),
         "union" => Some(Shape::Union),

@@ -12,6 +12,7 @@ use Rattle.volcano_embedding.specs.declared.lines.Words.{Words}
 abbrev pub run_node : RunFault → Option ℕ
 run_node (run.Overflow node) = Some node
 run_node (run.Unsorted node) = Some node
+run_node (run.BadFunction node) = Some node
 run_node fault = None
 
 abbrev pub eval_node : EvalFault → Option ℕ
@@ -19,6 +20,7 @@ eval_node eval.OtherCatalog = None
 eval_node (eval.HasExchange node) = Some node
 eval_node (eval.Overflow node) = Some node
 eval_node eval.NoMemory = None
+eval_node (eval.BadFunction node) = Some node
 
 -- the node that a refusal names
 abbrev pub node_of : Refusal → Option ℕ

@@ -30,7 +30,8 @@ IsSerial s text output =
     (p : TypedPlanView) × (db : Database) × (rows : RowsView) × (plan_text s.catalog text ≡ Ok p) × IsDatabaseFor p s db × IsSerialOf (erased p) db rows
     × (output ≡ csv_text (columns p.root).names rows.rows)
 
--- why there are no serial rows: no plan, then the tables, then the first overflow of the plan without its exchanges, in which nodes are numbered anew
+-- why there are no serial rows: no plan, then the tables, then the first function of the plan without its exchanges, in which nodes are numbered anew, that the
+-- program does not have, then the first overflow there
 pub data SerialRefuses (s : Session) (text : List ℕ) (e : Refusal) : Type 0 where
   serial_memory : e ≡ refusal.NoMemory → SerialRefuses s text e
   for_plan : NoPlan s.catalog text e → SerialRefuses s text e

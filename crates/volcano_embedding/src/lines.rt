@@ -77,7 +77,9 @@ fn run_node(fault: &RunFault) -> Option<u32>
     ensures { result ≡ run_node fault.now }
 {
     match fault {
-        RunFault::Overflow { node } | RunFault::Unsorted { node } => Some(*node),
+        RunFault::Overflow { node }
+        | RunFault::Unsorted { node }
+        | RunFault::BadFunction { node } => Some(*node),
         _ => None,
     }
 }
@@ -86,7 +88,9 @@ fn eval_node(fault: &EvalFault) -> Option<u32>
     ensures { result ≡ eval_node fault.now }
 {
     match fault {
-        EvalFault::HasExchange { node } | EvalFault::Overflow { node } => Some(*node),
+        EvalFault::HasExchange { node }
+        | EvalFault::Overflow { node }
+        | EvalFault::BadFunction { node } => Some(*node),
         EvalFault::OtherCatalog | EvalFault::NoMemory => None,
     }
 }

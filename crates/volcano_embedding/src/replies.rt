@@ -10,7 +10,7 @@ use volcano_refusals::{Refusal, status};
 use vx_check::accepted_text;
 
 /// What a call comes to. The status is 0 where the text answers, and else that with which the program ends: 3 for
-/// input that is refused and 4 where memory ran out or a sum overflowed. Then the text is the printed line.
+/// input that is refused and 4 where memory ran out or a sum or a function overflowed. Then the text is the printed line.
 #[derive(Drop)]
 pub struct Reply {
     pub status: u8,

@@ -64,7 +64,7 @@ rule_status rule.KeyNotShown = 3
 rule_status rule.TotalNotShown = 3
 rule_status rule.FirstRowsOpen = 3
 
--- of a run: X1 to X6, X12 and X14 are reported before it begins (X5 by no bundle), X7 to X11 end it
+-- of a run: X1 to X6, X12, X14 and X15 are reported before it begins (X5 by no bundle), X7 to X11 end it
 abbrev pub run_status : RunFault → ℕ
 run_status (run.SizeMissing name) = 3
 run_status (run.SizeOutOfRange name) = 3
@@ -79,13 +79,15 @@ run_status (run.Unsorted node) = 4
 run_status (run.Stranger exchange) = 4
 run_status (run.TooManyWorkers number) = 3
 run_status run.BadSlack = 3
+run_status (run.BadFunction node) = 3
 
--- of a serial evaluation: X6 and X13 are reported before it begins, X7 and X8 end it
+-- of a serial evaluation: X6, X13 and X15 are reported before it begins, X7 and X8 end it
 abbrev pub eval_status : EvalFault → ℕ
 eval_status eval.OtherCatalog = 3
 eval_status (eval.HasExchange node) = 3
 eval_status (eval.Overflow node) = 4
 eval_status eval.NoMemory = 4
+eval_status (eval.BadFunction node) = 3
 
 -- of the program: V1 to V3 and V6 are 3, V4, V5 and out of memory are 4
 abbrev pub status_of : Refusal → ℕ

@@ -86,7 +86,8 @@ fn run_status(fault: &RunFault) -> u8
         | RunFault::BadStep { .. }
         | RunFault::OtherCatalog
         | RunFault::TooManyWorkers { .. }
-        | RunFault::BadSlack => 3,
+        | RunFault::BadSlack
+        | RunFault::BadFunction { .. } => 3,
         RunFault::Overflow { .. }
         | RunFault::NoMemory
         | RunFault::NoThread
@@ -99,7 +100,8 @@ fn eval_status(fault: &EvalFault) -> u8
     ensures { result ≡ eval_status fault.now }
 {
     match fault {
-        EvalFault::OtherCatalog | EvalFault::HasExchange { .. } => 3,
+        EvalFault::OtherCatalog | EvalFault::HasExchange { .. } | EvalFault::BadFunction { .. } =>
+            3,
         EvalFault::Overflow { .. } | EvalFault::NoMemory => 4,
     }
 }

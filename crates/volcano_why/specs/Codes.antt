@@ -17,7 +17,7 @@ checker_codes = codes "K1" ∷ codes "K2" ∷ codes "K3" ∷ codes "K4" ∷ code
 
 -- of runs and serial evaluations
 abbrev pub run_codes : List (List ℕ)
-run_codes = codes "X1" ∷ codes "X2" ∷ codes "X3" ∷ codes "X4" ∷ codes "X5" ∷ codes "X6" ∷ codes "X7" ∷ codes "X8" ∷ codes "X9" ∷ codes "X10" ∷ codes "X11" ∷ codes "X12" ∷ codes "X13" ∷ codes "X14" ∷ []
+run_codes = codes "X1" ∷ codes "X2" ∷ codes "X3" ∷ codes "X4" ∷ codes "X5" ∷ codes "X6" ∷ codes "X7" ∷ codes "X8" ∷ codes "X9" ∷ codes "X10" ∷ codes "X11" ∷ codes "X12" ∷ codes "X13" ∷ codes "X14" ∷ codes "X15" ∷ []
 
 -- of the program
 abbrev pub program_codes : List (List ℕ)
@@ -39,7 +39,7 @@ codes_and_names =
     (codes "C1", codes "BadCatalog") ∷ (codes "C2", codes "DuplicateName") ∷ (codes "C3", codes "UnknownColumn") ∷ (codes "C4", codes "HeaderMismatch") ∷ (codes "C5", codes "BadWidth") ∷ (codes "C6", codes "BadInt") ∷ (codes "C7", codes "NotUtf8") ∷ (codes "C8", codes "KeyBroken") ∷ (codes "C9", codes "OrderBroken") ∷ (codes "C10", codes "ReadFailed") ∷ (codes "C11", codes "NoMemory") ∷ (codes "C12", codes "TooLarge") ∷
     (codes "P1", codes "NotJson") ∷ (codes "P2", codes "BadNode") ∷ (codes "P3", codes "TooDeep") ∷ (codes "P4", codes "UnknownRelation") ∷ (codes "P5", codes "UnknownColumn") ∷ (codes "P6", codes "DuplicateColumn") ∷ (codes "P7", codes "TypeMismatch") ∷ (codes "P8", codes "UnknownRange") ∷ (codes "P9", codes "BadRange") ∷ (codes "P10", codes "BadSize") ∷ (codes "P11", codes "NoMemory") ∷ (codes "P12", codes "TooWide") ∷ (codes "P13", codes "PhaseMismatch") ∷
     (codes "K1", codes "SizeMismatch") ∷ (codes "K2", codes "RootNotOne") ∷ (codes "K3", codes "PartNotShown") ∷ (codes "K4", codes "InputsNotMatched") ∷ (codes "K5", codes "ReplicatedInput") ∷ (codes "K6", codes "OrderNotShown") ∷ (codes "K7", codes "OrderNeeded") ∷ (codes "K8", codes "KeyNotShown") ∷ (codes "K9", codes "TotalNotShown") ∷ (codes "K11", codes "FirstRowsOpen") ∷
-    (codes "X1", codes "SizeMissing") ∷ (codes "X2", codes "SizeOutOfRange") ∷ (codes "X3", codes "BadPacket") ∷ (codes "X4", codes "BadMorsel") ∷ (codes "X5", codes "BadStep") ∷ (codes "X6", codes "OtherCatalog") ∷ (codes "X7", codes "Overflow") ∷ (codes "X8", codes "NoMemory") ∷ (codes "X9", codes "NoThread") ∷ (codes "X10", codes "Unsorted") ∷ (codes "X11", codes "Stranger") ∷ (codes "X12", codes "TooManyWorkers") ∷ (codes "X13", codes "HasExchange") ∷ (codes "X14", codes "BadSlack") ∷
+    (codes "X1", codes "SizeMissing") ∷ (codes "X2", codes "SizeOutOfRange") ∷ (codes "X3", codes "BadPacket") ∷ (codes "X4", codes "BadMorsel") ∷ (codes "X5", codes "BadStep") ∷ (codes "X6", codes "OtherCatalog") ∷ (codes "X7", codes "Overflow") ∷ (codes "X8", codes "NoMemory") ∷ (codes "X9", codes "NoThread") ∷ (codes "X10", codes "Unsorted") ∷ (codes "X11", codes "Stranger") ∷ (codes "X12", codes "TooManyWorkers") ∷ (codes "X13", codes "HasExchange") ∷ (codes "X14", codes "BadSlack") ∷ (codes "X15", codes "BadFunction") ∷
     (codes "V1", codes "BadBundle") ∷ (codes "V2", codes "NoTable") ∷ (codes "V3", codes "FileUnreadable") ∷ (codes "V4", codes "WriteFailed") ∷ (codes "V5", codes "Unfinished") ∷ (codes "V6", codes "TooLarge") ∷ []
 
 -- a word is this code or its name, in any case

@@ -60,6 +60,7 @@ const NAMES: &[CodeName] = &[
     CodeName("X12", "TooManyWorkers"),
     CodeName("X13", "HasExchange"),
     CodeName("X14", "BadSlack"),
+    CodeName("X15", "BadFunction"),
     CodeName("V1", "BadBundle"),
     CodeName("V2", "NoTable"),
     CodeName("V3", "FileUnreadable"),

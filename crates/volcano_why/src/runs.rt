@@ -41,10 +41,12 @@ Example: tables that were loaded before a key was added to the catalog.
 "#;
 
 const X7: &str = r#"X7 Overflow node=2
-What happened: a sum or a count of the data is outside 64 signed bits.
+What happened: a sum or a count of the data, or what a function answers of a row, is outside 64 signed bits, or a
+function divides by 0.
 Usual cause, and cure: it is a property of the data: the plan without its exchanges overflows too, or a partial
 group added up rows of one key that do not fit by themselves: put numbers of both signs into one worker, or group
-in one phase. With `serial` it is the first such node, each after its inputs, and numbered as in the plan without
+in one phase. A function is applied to every row of its node's input: conditions of the same select and the choice
+of an `if` guard nothing, and a select below its node does. With `serial` it is the first such node, each after its inputs, and numbered as in the plan without
 its exchanges; a group node over more than 2^62 rows is reported so too.
 Example: a sum over two rows that both have 9223372036854775807.
 "#;
@@ -92,6 +94,15 @@ Usual cause, and cure: take 1 to 1,024 packets, or leave it out.
 Example: `--slack 0`.
 "#;
 
+const X15: &str = r#"X15 BadFunction node=2
+What happened: a node names a function that the program does not have, or does not have for the types of its
+operands; or the function's answer has another type than the plan says of it, or a condition's is no number. It is
+the first such node, each after its inputs.
+Usual cause, and cure: take one of the functions that docs/GUIDE.md lists, with operands of the types there and the
+type of its answer; or run the plan elsewhere: the checker takes any function, since its rules ask nothing of one.
+Example: `{"fn": "add", "of": ["k", {"value": 1}], "type": "int", "as": "n"}` where `k` is a text.
+"#;
+
 /// The entry of a code of runs.
 pub fn run_entry(code: &str) -> Option<&'static str>
     ensures listed { is_some result ≡ is_one_of code.now run_codes }
@@ -112,6 +123,7 @@ pub fn run_entry(code: &str) -> Option<&'static str>
         "X12" => Some(X12),
         "X13" => Some(X13),
         "X14" => Some(X14),
+        "X15" => Some(X15),
         _ => None,
     }
 }

@@ -1,1 +1,2 @@
+pub mod CallFacts
 pub mod WordFacts

@@ -6,7 +6,7 @@ use Rattle.serde_json.specs.Written.{compact_text}
 use Rattle.vx_rows_values.specs.declared.order.OrderEntry.{OrderEntry}
 use Rattle.vx_rows_values.specs.Values.{Val, num, text, Name}
 use Rattle.vx_catalog_relations.specs.Catalog.{relation_at}
-use Rattle.vx_plan_nodes.specs.Plan.{Size, one_worker, group_of, Route, by_hash, by_range, Part, one, any, all, routed, Claim, Side, column, constant, Condition, Aggregate, least, greatest, sum, count_rows, Unary, select, project, distinct, sort, group, limit, Phase, plain, partial, final, JoinMethod, by_hashing, by_merging, Binary, union, join, semi_join, ExchangeKind, route_to, round, broadcast, gather, concat, size}
+use Rattle.vx_plan_nodes.specs.Plan.{Size, one_worker, group_of, Route, by_hash, by_range, Part, one, any, all, routed, Claim, Side, column, constant, Condition, Expression, input, value, call, Operands, no_operands, operand, Filter, comparing, computing, Entry, copy_of, made_by, Aggregate, least, greatest, sum, count_rows, Unary, select, project, distinct, sort, group, limit, Phase, plain, partial, final, JoinMethod, by_hashing, by_merging, Binary, union, join, semi_join, ExchangeKind, route_to, round, broadcast, gather, concat, size}
 use Rattle.vx_rows_values.specs.Test.{test_text}
 use Rattle.vx_plan_nodes.specs.Names.{Names}
 use Rattle.vx_plan_nodes.specs.Outline.{Outline, scan, unary, binary, exchange, top, columns, plan_in}
@@ -77,14 +77,39 @@ side_text names (constant v) = value_text v
 abbrev pub condition_text : List Name → Condition → List ℕ
 condition_text names c = name_at names c.left ++ (codes " " ++ (test_text c.test ++ (codes " " ++ side_text names c.right)))
 
--- a kept column, with its new name where it has one
+-- an expression: of a call the function's name and its operands, and not the type of its answer
+abbrev mutual
+  pub expression_text : List Name → Expression → List ℕ
+  expression_text names (input c) = name_at names c
+  expression_text names (value v) = value_text v
+  expression_text names (call f t es) = f.name ++ (codes "(" ++ (separated (codes ",") false (operand_texts names es) ++ codes ")"))
+
+  pub operand_texts : List Name → Operands → List (List ℕ)
+  operand_texts names no_operands = []
+  operand_texts names (operand e es) = expression_text names e ∷ operand_texts names es
+
+abbrev pub filter_text : List Name → Filter → List ℕ
+filter_text names (comparing c) = condition_text names c
+filter_text names (computing e) = expression_text names e
+
+-- a column, with its new name where it has one
 abbrev pub kept_text : Name → Name → Bool → List ℕ
-kept_text input output renamed = input ++ cond renamed (codes " as " ++ output) []
+kept_text shown output renamed = shown ++ cond renamed (codes " as " ++ output) []
 
 -- kept columns, the first of which has this number in the output
 abbrev pub kept_texts : List Name → List Name → ℕ → List ℕ → List Bool → List (List ℕ)
 kept_texts inputs outputs i (c ∷ cs) (f ∷ fs) = kept_text (name_at inputs c) (name_at outputs i) f ∷ kept_texts inputs outputs (suc i) cs fs
 kept_texts inputs outputs i _ _ = []
+
+-- what a column of a projection is
+abbrev pub made_text : List Name → Entry → List ℕ
+made_text names (copy_of c) = name_at names c
+made_text names (made_by e) = expression_text names e
+
+-- columns of a projection, the first of which has this number in the output
+abbrev pub made_texts : List Name → List Name → ℕ → List Entry → List Bool → List (List ℕ)
+made_texts inputs outputs i (e ∷ es) (f ∷ fs) = kept_text (made_text inputs e) (name_at outputs i) f ∷ made_texts inputs outputs (suc i) es fs
+made_texts inputs outputs i _ _ = []
 
 abbrev pub function_text : List Name → Aggregate → List ℕ
 function_text names (least c) = codes "min(" ++ (name_at names c ++ codes ")")
@@ -112,8 +137,8 @@ grouping_text inputs outputs partial by aggregates = codes "partial-group " ++ g
 grouping_text inputs outputs final by aggregates = codes "final-group"
 
 abbrev pub unary_text : List Name → List Name → List Bool → Unary → List ℕ
-unary_text inputs outputs renamed (select cs) = codes "select " ++ separated (codes " and ") false (map (condition_text inputs) cs)
-unary_text inputs outputs renamed (project cols) = codes "project [" ++ (separated (codes ",") false (kept_texts inputs outputs 0 cols renamed) ++ codes "]")
+unary_text inputs outputs renamed (select fs) = codes "select " ++ separated (codes " and ") false (map (filter_text inputs) fs)
+unary_text inputs outputs renamed (project es) = codes "project [" ++ (separated (codes ",") false (made_texts inputs outputs 0 es renamed) ++ codes "]")
 unary_text inputs outputs renamed (distinct cols) = codes "distinct [" ++ (separated (codes ",") false (kept_texts inputs outputs 0 cols renamed) ++ codes "]")
 unary_text inputs outputs renamed (sort of_parts order) = cond of_parts (codes "partial-sort ") (codes "sort ") ++ order_text inputs order
 unary_text inputs outputs renamed (group phase by aggregates) = grouping_text inputs outputs phase by aggregates

@@ -3,16 +3,16 @@
 ghost use Rattle.std.specs.Prelude.{◌≡◌, ◌++◌, ◌+◌, ◌<◌, ◌^◌, map, string_bytes, length, OnOk, IfOk, codes, decimal, false};
 ghost use Rattle.vx_rows_values.specs.ValueView.{val_of};
 ghost use Rattle.vx_catalog_relations.specs.Catalog.{relation_at};
-ghost use Rattle.vx_plan_nodes.specs.Outline.{outline_of, columns, condition_of, aggregate_of, phase_of, unary_of, renamed_of, binary_of, kind_of};
+ghost use Rattle.vx_plan_nodes.specs.Outline.{outline_of, columns, condition_of, expression_of, filter_of, entry_of, is_renamed, aggregate_of, phase_of, unary_of, renamed_of, binary_of, kind_of};
 ghost use Rattle.vx_plan_nodes.specs.TypedView.{names_in};
-ghost use Rattle.vx_check.specs.Explain.{name_at, separated, value_text, condition_text, kept_text, kept_texts, function_text, aggregate_texts, aggregates_text, group_text, grouping_text, unary_text, pair_text, where_text, binary_text, kind_text, merge_text, scan_text, prefix_text, description};
+ghost use Rattle.vx_check.specs.Explain.{name_at, separated, value_text, condition_text, expression_text, filter_text, kept_text, kept_texts, made_text, made_texts, function_text, aggregate_texts, aggregates_text, group_text, grouping_text, unary_text, pair_text, where_text, binary_text, kind_text, merge_text, scan_text, prefix_text, description};
 
 use crate::words::{push_between, push_list, push_name, push_order, push_routed};
 use itoa::Buffer;
 use std::alloc::{AllocError, Global};
 use vx_plan_nodes::{
-    Aggregate, Binary, Condition, Exchange, ExchangeKind, Name, Phase, Projected, ScanNode, Side,
-    SortPhase, TypedNode, TypedPlan, Unary, share_names,
+    Aggregate, Binary, Condition, Entry, Exchange, ExchangeKind, Expression, Filter, Name, Phase,
+    Projected, ScanNode, Side, SortPhase, TypedNode, TypedPlan, Unary, share_names,
 };
 use vx_rows_values::{OrderEntry, Value};
 
@@ -68,6 +68,92 @@ fn push_conditions(
     Ok(())
 }
 
+// Adds expressions, with a comma between them.
+#[cycle(expressions)]
+fn push_operands(
+    alloc: Global,
+    text: &mut String,
+    names: &[Name],
+    operands: &[Expression],
+) -> Result<(), AllocError>
+    ensures { OnOk result (string_bytes text.new ≡ string_bytes text.old ++ separated (codes ",") false (map (λ e. expression_text names.now (expression_of e)) operands.now)) }
+{
+    for (i, operand) in operands.iter().enumerate() {
+        push_between(text, ",", i > 0)?;
+        push_expression(alloc, text, names, operand)?;
+    }
+    Ok(())
+}
+
+// Adds a call.
+#[cycle(expressions)]
+fn push_call(
+    alloc: Global,
+    text: &mut String,
+    names: &[Name],
+    function: &str,
+    operands: &[Expression],
+) -> Result<(), AllocError>
+    ensures { OnOk result (string_bytes text.new ≡ string_bytes text.old ++ (function.now ++ (codes "(" ++ (separated (codes ",") false (map (λ e. expression_text names.now (expression_of e)) operands.now) ++ codes ")")))) }
+{
+    text.push_str(function)?;
+    text.push_str("(")?;
+    push_operands(alloc, text, names, operands)?;
+    text.push_str(")")
+}
+
+// Adds an expression over columns of these names.
+#[cycle(expressions)]
+fn push_expression(
+    alloc: Global,
+    text: &mut String,
+    names: &[Name],
+    expression: &Expression,
+) -> Result<(), AllocError>
+    ensures { OnOk result (string_bytes text.new ≡ string_bytes text.old ++ expression_text names.now (expression_of expression.now)) }
+{
+    match expression {
+        Expression::Input(column) => push_name(text, names, *column),
+        Expression::Value(value) => push_value(alloc, text, value),
+        Expression::Call(name, _, operands) => push_call(
+            alloc,
+            text,
+            names,
+            name.as_str(),
+            operands.as_slice(),
+        ),
+    }
+}
+
+fn push_filter(
+    alloc: Global,
+    text: &mut String,
+    names: &[Name],
+    filter: &Filter,
+) -> Result<(), AllocError>
+    ensures { OnOk result (string_bytes text.new ≡ string_bytes text.old ++ filter_text names.now (filter_of filter.now)) }
+{
+    match filter {
+        Filter::Compared(condition) => push_condition(alloc, text, names, condition),
+        Filter::Computed(expression) => push_expression(alloc, text, names, expression),
+    }
+}
+
+fn push_filters(
+    alloc: Global,
+    text: &mut String,
+    names: &[Name],
+    filters: &[Filter],
+) -> Result<(), AllocError>
+    ensures { OnOk result (string_bytes text.new ≡ string_bytes text.old ++ separated (codes " and ") false (map (filter_text names.now) (map filter_of filters.now))) }
+{
+    for (i, filter) in filters.iter().enumerate() {
+        push_between(text, " and ", i > 0)?;
+        push_filter(alloc, text, names, filter)?;
+    }
+    Ok(())
+}
+
 // Adds the kept column with this number, with its new name where it has one.
 fn push_kept_column(
     text: &mut String,
@@ -101,18 +187,92 @@ fn push_kept_columns(
     Ok(())
 }
 
-// Adds an operator's word and the columns that it keeps, in brackets.
-fn push_kept(
+// Adds the columns that a distinct keeps, in brackets.
+fn push_distinct(
     text: &mut String,
-    word: &str,
     inputs: &[Name],
     outputs: &[Name],
     kept: &[Projected],
 ) -> Result<(), AllocError>
-    ensures { OnOk result (string_bytes text.new ≡ string_bytes text.old ++ (word.now ++ (separated (codes ",") false (kept_texts inputs.now outputs.now 0 (map (λ k. k.column) kept.now) (map (λ k. k.renamed) kept.now)) ++ codes "]"))) }
+    ensures { OnOk result (string_bytes text.new ≡ string_bytes text.old ++ (codes "distinct [" ++ (separated (codes ",") false (kept_texts inputs.now outputs.now 0 (map (λ k. k.column) kept.now) (map (λ k. k.renamed) kept.now)) ++ codes "]"))) }
 {
-    text.push_str(word)?;
+    text.push_str("distinct [")?;
     push_kept_columns(text, inputs, outputs, kept)?;
+    text.push_str("]")
+}
+
+// Whether it has a name that is not its input column's.
+fn is_renamed(entry: &Entry) -> bool
+    ensures { result ≡ is_renamed entry.now }
+{
+    match entry {
+        Entry::Kept(kept) => kept.renamed,
+        Entry::Made(_) => true,
+    }
+}
+
+// Adds what a column of a projection is.
+fn push_made(
+    alloc: Global,
+    text: &mut String,
+    inputs: &[Name],
+    entry: &Entry,
+) -> Result<(), AllocError>
+    ensures { OnOk result (string_bytes text.new ≡ string_bytes text.old ++ made_text inputs.now (entry_of entry.now)) }
+{
+    match entry {
+        Entry::Kept(kept) => push_name(text, inputs, kept.column),
+        Entry::Made(expression) => push_expression(alloc, text, inputs, expression),
+    }
+}
+
+// Adds the column of a projection with this number, with its new name where it has one.
+fn push_entry(
+    alloc: Global,
+    text: &mut String,
+    inputs: &[Name],
+    outputs: &[Name],
+    number: usize,
+    entry: &Entry,
+) -> Result<(), AllocError>
+    ensures { OnOk result (string_bytes text.new ≡ string_bytes text.old ++ kept_text (made_text inputs.now (entry_of entry.now)) (name_at outputs.now number) (is_renamed entry.now)) }
+{
+    push_made(alloc, text, inputs, entry)?;
+    if is_renamed(entry) {
+        text.push_str(" as ")?;
+        push_name(text, outputs, number)?;
+    }
+    Ok(())
+}
+
+fn push_entries(
+    alloc: Global,
+    text: &mut String,
+    inputs: &[Name],
+    outputs: &[Name],
+    entries: &[Entry],
+) -> Result<(), AllocError>
+    ensures { OnOk result (string_bytes text.new ≡ string_bytes text.old ++ separated (codes ",") false (made_texts inputs.now outputs.now 0 (map entry_of entries.now) (map is_renamed entries.now))) }
+{
+    for (i, entry) in entries.iter().enumerate() {
+        push_between(text, ",", i > 0)?;
+        push_entry(alloc, text, inputs, outputs, i, entry)?;
+    }
+    Ok(())
+}
+
+// Adds a projection's columns, in brackets.
+fn push_project(
+    alloc: Global,
+    text: &mut String,
+    inputs: &[Name],
+    outputs: &[Name],
+    entries: &[Entry],
+) -> Result<(), AllocError>
+    ensures { OnOk result (string_bytes text.new ≡ string_bytes text.old ++ (codes "project [" ++ (separated (codes ",") false (made_texts inputs.now outputs.now 0 (map entry_of entries.now) (map is_renamed entries.now)) ++ codes "]"))) }
+{
+    text.push_str("project [")?;
+    push_entries(alloc, text, inputs, outputs, entries)?;
     text.push_str("]")
 }
 
@@ -224,12 +384,12 @@ fn push_unary(
     ensures { OnOk result (string_bytes text.new ≡ string_bytes text.old ++ unary_text inputs.now outputs.now (renamed_of operator.now) (unary_of operator.now)) }
 {
     match operator {
-        Unary::Select(conditions) => {
+        Unary::Select(filters) => {
             text.push_str("select ")?;
-            push_conditions(alloc, text, inputs, conditions.as_slice())
+            push_filters(alloc, text, inputs, filters.as_slice())
         }
-        Unary::Project(kept) => push_kept(text, "project [", inputs, outputs, kept.as_slice()),
-        Unary::Distinct(kept) => push_kept(text, "distinct [", inputs, outputs, kept.as_slice()),
+        Unary::Project(entries) => push_project(alloc, text, inputs, outputs, entries.as_slice()),
+        Unary::Distinct(kept) => push_distinct(text, inputs, outputs, kept.as_slice()),
         Unary::Sort(SortPhase::Plain, order) => {
             text.push_str("sort ")?;
             push_order(text, inputs, order.as_slice())

@@ -281,8 +281,8 @@ kept-total catalog (exchange n c kind m p) x k j =
 -- a limit over the input of a node, where the one of the accepted claims is known
 known-here : (catalog : ℕ → Relation) (n : ℕ) (d e : Claim) (op : Unary) (y x : Plan) → size x ≡ size y → (is_total_order catalog y ≡ true → is_total_order catalog x ≡ true)
     → first_rows_known catalog (unary n d op y) ≡ true → first_rows_known catalog (unary n e op x) ≡ true
-known-here catalog n d e (select cs) y x same total h = refl
-known-here catalog n d e (project cols) y x same total h = refl
+known-here catalog n d e (select fs) y x same total h = refl
+known-here catalog n d e (project es) y x same total h = refl
 known-here catalog n d e (distinct cols) y x same total h = refl
 known-here catalog n d e (sort of_parts cols) y x same total h = refl
 known-here catalog n d e (group phase by aggregates) y x same total h = refl

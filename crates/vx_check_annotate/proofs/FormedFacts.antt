@@ -16,7 +16,7 @@ use Rattle.vx_rows_values.specs.Ranges.{RangeForm}
 use Rattle.vx_rows_values.proofs.Booleans.{and-left, and-right, and-both}
 use Rattle.vx_catalog_relations.specs.Catalog.{relation_at, all_below, are_distinct, is_named, IsCatalog}
 use Rattle.vx_catalog_relations.specs.Naming.{name_at, order_text}
-use Rattle.vx_plan_nodes.specs.Plan.{by_hash, by_range, Part, routed, Claim, Aggregate, Unary, Binary}
+use Rattle.vx_plan_nodes.specs.Plan.{by_hash, by_range, Part, routed, Claim, Entry, Aggregate, Unary, Binary}
 use Rattle.vx_plan_nodes.specs.Plan as plan
 use Rattle.vx_plan_nodes.specs.Types.{aggregate_type, types_of, unary_types, binary_types}
 use Rattle.vx_plan_nodes.specs.Phases.{phase_fits, both_closed}
@@ -24,9 +24,10 @@ use Rattle.vx_plan_nodes.specs.Typed.{are_columns, is_size, is_unary, is_binary,
 use Rattle.vx_plan_nodes.specs.Outline.{Top, Outline, scan, unary, binary, exchange, plan_in}
 use Rattle.vx_plan_nodes.specs.Outputs.{IsOutputOf, HasOutputs}
 use Rattle.vx_plan_nodes.specs.Names.{Names, scope_of}
-use Rattle.vx_plan_json.specs.Formed.{are_names, are_some_names, is_order, is_range_form, is_part_form, is_claim_form, is_output_form, is_new_name, is_aggregate_form, is_function_form, is_unary_form, is_binary_form, is_kind_form, is_merge_form, is_tree_form}
-use Rattle.vx_plan.specs.ByName.{names_at, part_by_name, claim_by_name, kept_by_name, function_by_name, aggregates_by_name, top_by_name, unary_by_name, binary_by_name, kind_by_name, tree_by_name, column_names}
-use Rattle.vx_plan.specs.Exact.{are_kept, UnaryNames, binary_names, AreNamed}
+use Rattle.vx_plan_json.specs.Document.{OperandForm}
+use Rattle.vx_plan_json.specs.Formed.{are_names, are_some_names, is_order, is_range_form, is_part_form, is_claim_form, is_output_form, is_new_name, is_operand_form, is_made, is_entry_form, is_aggregate_form, is_function_form, is_unary_form, is_binary_form, is_kind_form, is_merge_form, is_tree_form}
+use Rattle.vx_plan.specs.ByName.{names_at, part_by_name, claim_by_name, kept_by_name, operand_by_name, entry_by_name, entries_by_name, function_by_name, aggregates_by_name, top_by_name, unary_by_name, binary_by_name, kind_by_name, tree_by_name, column_names}
+use Rattle.vx_plan.specs.Exact.{are_kept, IsEntryNamed, AreEntries, UnaryNames, binary_names, AreNamed}
 use Rattle.vx_plan.proofs.ClaimExact.{range-fits}
 use Rattle.vx_check_annotate.specs.Unclaimed.{without_claims, are_claims_formed}
 
@@ -135,6 +136,22 @@ kept-some names (c ∷ cols) (b ∷ renamed) (n ∷ output) h f =
     one false f h = ap is_some_list ((bytes_eq-Decides n (name_at names c)).0 h) ∙ and-left (is_some_list (name_at names c)) true f
 kept-some names _ _ _ h f = cc
 
+-- columns of a projection: one that is kept has a new name, or its old one, and one that is computed has a name
+entries-some : (names : List Name) (es : List Entry) (renamed : List Bool) (output : List Name) → AreEntries names es renamed output → list_all is_entry_form (entries_by_name names es renamed output) ≡ true → are_names output ≡ true
+entries-some names [] [] [] h f = refl
+entries-some names (e ∷ es) (b ∷ renamed) (n ∷ output) h f =
+    let own : Bool = is_entry_form (entry_by_name names e b n) in
+    let below : Bool = list_all is_entry_form (entries_by_name names es renamed output) in
+    and-both (is_some_list n) (are_names output) (one e b h.0 (and-left own below f)) (entries-some names es renamed output h.1 (and-right own below f))
+  where
+    one : (e : Entry) (b : Bool) → IsEntryNamed names e b n → is_entry_form (entry_by_name names e b n) ≡ true → is_some_list n ≡ true
+    one (plan.copy_of c) true k f = and-right (is_some_list (name_at names c)) (is_some_list n) f
+    one (plan.copy_of c) false k f = ap is_some_list ((bytes_eq-Decides n (name_at names c)).0 k) ∙ and-left (is_some_list (name_at names c)) true f
+    one (plan.made_by e) b k f =
+        let o : OperandForm = operand_by_name names e in
+        and-right (is_operand_form o) (is_some_list n) (and-right (is_made o) (is_operand_form o && is_some_list n) f)
+entries-some names _ _ _ h f = absurd h
+
 aggregates-some : (names : List Name) (aggregates : List Aggregate) (output : List Name) → length output ≡ length aggregates → list_all is_aggregate_form (aggregates_by_name names aggregates output) ≡ true → are_names output ≡ true
 aggregates-some names [] [] e f = refl
 aggregates-some names [] (n ∷ output) e f = absurd (omega arith)
@@ -163,9 +180,9 @@ group-some names output by aggregates types e l f =
 -- what an operator over one input gives, whose columns have names
 unary-some : (names output : List Name) (types : List ColType) (op : Unary) (renamed : List Bool) → are_names names ≡ true → UnaryNames op renamed names output → length output ≡ length (unary_types op types)
     → is_unary_form (unary_by_name names output op renamed) ≡ true → are_names output ≡ true
-unary-some names output types (plan.select cs) renamed h n l f = ap are_names n.1 ∙ h
-unary-some names output types (plan.project cols) renamed h n l f =
-    kept-some names cols renamed output n (and-right (is_some_list (kept_by_name names cols renamed output)) (list_all is_output_form (kept_by_name names cols renamed output)) f)
+unary-some names output types (plan.select fs) renamed h n l f = ap are_names n.1 ∙ h
+unary-some names output types (plan.project es) renamed h n l f =
+    entries-some names es renamed output n (and-right (is_some_list (entries_by_name names es renamed output)) (list_all is_entry_form (entries_by_name names es renamed output)) f)
 unary-some names output types (plan.distinct cols) renamed h n l f =
     kept-some names cols renamed output n (and-right (is_some_list (kept_by_name names cols renamed output)) (list_all is_output_form (kept_by_name names cols renamed output)) f)
 unary-some names output types (plan.sort of_parts order) renamed h n l f = ap are_names n.1 ∙ h

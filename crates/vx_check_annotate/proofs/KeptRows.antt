@@ -79,8 +79,8 @@ total-kept catalog p x k j h = by (covers (claim p).keys (order_columns (claim p
 -- the input of a limit is kept by this one
 known-over : (catalog : ℕ → Relation) (n : ℕ) (c d : Claim) (op : Unary) (p y : Plan) → Keeps p y → KeepsKeys p y → first_rows_known catalog (unary n c op p) ≡ true
     → first_rows_known catalog (unary n d op y) ≡ true
-known-over catalog n c d (select cs) p y k j h = refl
-known-over catalog n c d (project cols) p y k j h = refl
+known-over catalog n c d (select fs) p y k j h = refl
+known-over catalog n c d (project es) p y k j h = refl
 known-over catalog n c d (distinct cols) p y k j h = refl
 known-over catalog n c d (sort of_parts cols) p y k j h = refl
 known-over catalog n c d (group phase by aggregates) p y k j h = refl

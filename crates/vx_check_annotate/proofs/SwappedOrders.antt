@@ -16,7 +16,7 @@ use Rattle.vx_plan_nodes.specs.Plan.{Part, Unary, select, project, distinct, sor
 use Rattle.vx_plan_nodes.specs.Phases.{first_columns, phase_fits}
 use Rattle.vx_plan_nodes.specs.Types.{types_of, unary_types, width, binary_width}
 use Rattle.vx_plan_nodes.specs.Typed.{Scope, are_columns, is_unary, is_kind, typed}
-use Rattle.vx_plan_nodes.specs.Describe.{Copying, whole_rows, columns_kept, right_of, source, keys_kept, key_of_first, described, described_both}
+use Rattle.vx_plan_nodes.specs.Describe.{Copying, whole_rows, columns_kept, entries_kept, kept_column, right_of, source, keys_kept, key_of_first, described, described_both}
 use Rattle.vx_check_rules.specs.Rules.{contains, within, covers, cons_both, entry_at, shifted, numbers_below}
 use Rattle.vx_check_rules.specs.Behaviour.{Keyed, sources, keyed_by, keyed_after, keyed_held, keyed_over, is_column, has_copy, has_key, keys_give}
 use Rattle.vx_check_rules.proofs.Bools.{or-false, or-left, or-right, all-more, any-more}
@@ -224,8 +224,8 @@ up-apart k (s ∷ places) p = by (flat_map (entry_copies k) s) refl (up-apart k 
 
 -- of an operator over one input with these types
 after-tidy : (op : Unary) (ts : List ColType) (places : OrderChoices) → is_unary ts op ≡ true → Tidy (length ts) places → Tidy (length ts) (places_after (described op).order places)
-after-tidy (select cs) ts places h t = t
-after-tidy (project cols) ts places h t = t
+after-tidy (select fs) ts places h t = t
+after-tidy (project es) ts places h t = t
 after-tidy (distinct cols) ts places h t = t
 after-tidy (sort of_parts order) ts places h t = singles-tidy (length ts) order (and-right (is_some_list order) (are_columns (length ts) (order_columns order)) h)
 after-tidy (group plain by aggregates) ts places h t = t
@@ -462,8 +462,8 @@ first-swaps n o u p t b h = sym (key-first n u) ∙ within-swaps n o u p t b (ke
 unary-swaps : (op : Unary) (w : ℕ) (places : OrderChoices) (keys : List (List ℕ)) → Tidy w places → Swaps places keys → (o u : List ℕ)
     → Beside o u (places_up (described op).copying (places_after (described op).order places)) → show (keyed_after (described op).keys (described op).copying keys) o ≡ true
     → show (keyed_after (described op).keys (described op).copying keys) u ≡ true
-unary-swaps (select cs) w places keys t swaps o u b h = kept-swaps whole_rows keys places swaps o u b h
-unary-swaps (project cols) w places keys t swaps o u b h = kept-swaps (columns_kept cols) keys places swaps o u b h
+unary-swaps (select fs) w places keys t swaps o u b h = kept-swaps whole_rows keys places swaps o u b h
+unary-swaps (project es) w places keys t swaps o u b h = kept-swaps (entries_kept (map kept_column es)) keys places swaps o u b h
 unary-swaps (distinct cols) w places keys t swaps o u b h = first-swaps (length cols) o u _ (kept-tidy cols w places t) b h
 unary-swaps (sort false order) w places keys t swaps o u b h = kept-swaps whole_rows keys (singles order) (singles-swaps order keys) o u b h
 unary-swaps (sort true order) w places keys t swaps o u b h = absurd (true≢false (sym h))

@@ -1,8 +1,8 @@
 -- Trees that differ in their claims alone.
-use Rattle.std.proofs.Common.{◌≡◌, suc, ◌+◌, max, true, ◌&&◌, refl, sym, ap, ◌∙◌}
+use Rattle.std.proofs.Common.{◌≡◌, ℕ, suc, ◌+◌, ◌-◌, max, true, ◌&&◌, refl, sym, ap, ◌∙◌}
 use Rattle.vx_rows_values.proofs.Booleans.{and-left, and-right, and-both}
 use Rattle.vx_plan_json.specs.Document.{Tree, scan, unary, binary, exchange, tree_nodes, tree_levels}
-use Rattle.vx_plan_json.specs.Formed.{is_claim_form, is_scan_form, is_unary_form, is_binary_form, is_kind_form, is_merge_form, is_tree_form}
+use Rattle.vx_plan_json.specs.Formed.{is_claim_form, is_scan_form, is_unary_form, is_binary_form, is_kind_form, is_merge_form, is_tree_form, is_unary_low, levels_left, are_operands_low}
 use Rattle.vx_check_annotate.specs.Unclaimed.{without_claims, are_claims_formed}
 
 pub nodes_without : (t : Tree) → tree_nodes (without_claims t) ≡ tree_nodes t
@@ -17,11 +17,20 @@ levels_without (unary c op t) = ap suc (levels_without t)
 levels_without (binary c op t u) = λ i. suc (max (levels_without t i) (levels_without u i))
 levels_without (exchange c k m t) = ap suc (levels_without t)
 
+low_without : (levels : ℕ) (t : Tree) → are_operands_low levels (without_claims t) ≡ are_operands_low levels t
+low_without levels (scan c s) = refl
+low_without levels (unary c op t) = ap (λ b. is_unary_low (levels_left (levels - 1)) op && b) (low_without (levels - 1) t)
+low_without levels (binary c op t u) = λ i. low_without (levels - 1) t i && low_without (levels - 1) u i
+low_without levels (exchange c k m t) = low_without (levels - 1) t
+
 pub same_nodes : (t u : Tree) → without_claims t ≡ without_claims u → tree_nodes t ≡ tree_nodes u
 same_nodes t u h = sym (nodes_without t) ∙ (ap tree_nodes h ∙ nodes_without u)
 
 pub same_levels : (t u : Tree) → without_claims t ≡ without_claims u → tree_levels t ≡ tree_levels u
 same_levels t u h = sym (levels_without t) ∙ (ap tree_levels h ∙ levels_without u)
+
+pub same_low : (levels : ℕ) (t u : Tree) → without_claims t ≡ without_claims u → are_operands_low levels t ≡ are_operands_low levels u
+same_low levels t u h = sym (low_without levels t) ∙ (ap (are_operands_low levels) h ∙ low_without levels u)
 
 -- ---- a tree has its form where its claims have theirs and the tree without them has it
 

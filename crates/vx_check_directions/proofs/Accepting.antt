@@ -14,7 +14,7 @@ use Rattle.vx_plan_nodes.specs.Types.{width, types_of}
 use Rattle.vx_plan_nodes.specs.Phases.{both_closed}
 use Rattle.vx_plan_nodes.specs.Typed.{Scope, typed, is_binary, is_pair, are_distinct_pairs}
 use Rattle.vx_plan_nodes.specs.Describe.{left_of, right_of}
-use Rattle.vx_plan_facts.specs.Equal.{Equality, each_itself, lifted, with_test, with_conditions, with_pairs, unary_equal, equal_at}
+use Rattle.vx_plan_facts.specs.Equal.{Equality, each_itself, lifted, with_test, with_conditions, comparisons, with_pairs, unary_equal, equal_at}
 use Rattle.vx_plan_facts.specs.Determined.{Columns, determined}
 use Rattle.vx_plan_facts.specs.Following.{set_of, equal_entries, begins_equally, short_after, short, order_follows}
 use Rattle.vx_plan_facts.proofs.Tests.{or-cases, or-left, or-right}
@@ -50,8 +50,8 @@ conditions-itself [] e c h = h
 conditions-itself (d ∷ cs) e c h = tested-itself d.left d.test d.right (with_conditions cs e) c (conditions-itself cs e c h)
 
 unary-itself : (op : Unary) (e : Equality) (c : ℕ) → e c c ≡ true → unary_equal op e c c ≡ true
-unary-itself (select cs) e c h = conditions-itself cs e c h
-unary-itself (project cols) e c h = or-left (c == c) _ (itself c)
+unary-itself (select fs) e c h = conditions-itself (comparisons fs) e c h
+unary-itself (project es) e c h = or-left (c == c) _ (itself c)
 unary-itself (distinct cols) e c h = or-left (c == c) _ (itself c)
 unary-itself (sort of_parts order) e c h = or-left (c == c) _ (itself c)
 unary-itself (group phase by aggregates) e c h = or-left (c == c) _ (itself c)

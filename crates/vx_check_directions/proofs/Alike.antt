@@ -84,8 +84,8 @@ opens-alike h keys aggregates (binary n c op p q) = refl
 opens-alike h keys aggregates (exchange n c k m p) = opens-alike h keys aggregates p
 
 pub fits-alike : (h : Choice) (op : Unary) (p : Plan) → phase_fits op (turned h p) ≡ phase_fits op p
-fits-alike h (select cs) p = ap not (open-alike h p)
-fits-alike h (project cols) p = ap not (open-alike h p)
+fits-alike h (select fs) p = ap not (open-alike h p)
+fits-alike h (project es) p = ap not (open-alike h p)
 fits-alike h (distinct cols) p = ap not (open-alike h p)
 fits-alike h (sort true order) p = open-alike h p
 fits-alike h (sort false order) p = ap not (open-alike h p)

@@ -27,8 +27,8 @@ totals-alike catalog h p = ap₂ (λ a b. a || b) (total-alike catalog h p) (rw 
 
 pub firsts-alike : (catalog : ℕ → Relation) (h : Choice) (p : Plan) → first_rows_known_derived catalog (turned h p) ≡ first_rows_known_derived catalog p
 firsts-alike catalog h (scan n c r m z) = refl
-firsts-alike catalog h (unary n c (select cs) p) = refl
-firsts-alike catalog h (unary n c (project cols) p) = refl
+firsts-alike catalog h (unary n c (select fs) p) = refl
+firsts-alike catalog h (unary n c (project es) p) = refl
 firsts-alike catalog h (unary n c (distinct cols) p) = refl
 firsts-alike catalog h (unary n c (sort of_parts order) p) = refl
 firsts-alike catalog h (unary n c (group phase by aggregates) p) = refl
@@ -94,8 +94,8 @@ orders-alike catalog h p =
 
 below-alike : (catalog : ℕ → Relation) (h : Choice) (p : Plan) (key : List ℕ) → key_below catalog (turned h p) key ≡ key_below catalog p key
 below-alike catalog h (scan n c r m z) key = refl
-below-alike catalog h (unary n c (select cs) p) key = refl
-below-alike catalog h (unary n c (project cols) p) key = rw (determined-alike catalog h p, claim-alike h p) refl
+below-alike catalog h (unary n c (select fs) p) key = refl
+below-alike catalog h (unary n c (project es) p) key = rw (determined-alike catalog h p, claim-alike h p) refl
 below-alike catalog h (unary n c (distinct cols) p) key = refl
 below-alike catalog h (unary n c (sort of_parts order) p) key = refl
 below-alike catalog h (unary n c (group phase by aggregates) p) key = refl

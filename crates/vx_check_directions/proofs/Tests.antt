@@ -1,10 +1,11 @@
 -- The tests of nodes that do not look at the directions of joins by merging: all but that of the orders that a node needs.
-use Rattle.std.proofs.Common.{◌≡◌, ℕ, Bool, ◌&&◌, ◌||◌, List, refl, ap, ap₂, ◌∙◌}
+use Rattle.std.proofs.Common.{◌≡◌, ℕ, Bool, ◌&&◌, ◌||◌, List, map, refl, ap, ap₂, ◌∙◌}
 use Rattle.vx_rows_values.specs.declared.order.OrderEntry.{OrderEntry}
 use Rattle.vx_catalog_relations.specs.Relation.{Relation}
 use Rattle.vx_plan_nodes.specs.Plan.{Part, one, any, all, routed, Claim, Unary, select, project, distinct, sort, group, limit, plain, partial, final, by_hashing, by_merging, Binary, union, join, semi_join, Plan, scan, unary, binary, exchange, claim, size, is_one}
+use Rattle.vx_plan_nodes.specs.Describe.{kept_column}
 use Rattle.vx_plan_nodes.specs.Types.{width}
-use Rattle.vx_check_rules.specs.Rules.{has, sizes_match, not_replicated, keeps_apart, binary_inputs_match, inputs_match, first_rows_known, unary_shows, both_have, shows, part_shown, orders, order_shown, keys_of, keys_shown, is_total_order, unless_one, through, copied, routed_alike, alike_shows, left_columns, right_columns, join_shows}
+use Rattle.vx_check_rules.specs.Rules.{has, sizes_match, not_replicated, keeps_apart, binary_inputs_match, inputs_match, first_rows_known, unary_shows, both_have, shows, part_shown, orders, order_shown, keys_of, keys_shown, is_total_order, unless_one, through, copied, copied_from, routed_alike, alike_shows, left_columns, right_columns, join_shows}
 use Rattle.vx_check_directions.specs.Turned.{pairs_of, in_falls, Choice, turned}
 use Rattle.vx_check_directions.proofs.Alike.{claim-alike, size-alike, width-alike}
 
@@ -28,8 +29,8 @@ inputs-alike h (scan n c r m z) = refl
 inputs-alike h (unary n c op p) = rw (size-alike h p, apart op) refl
   where
     apart : (op : Unary) → keeps_apart op (turned h p) ≡ keeps_apart op p
-    apart (select cs) = refl
-    apart (project cols) = refl
+    apart (select fs) = refl
+    apart (project es) = refl
     apart (distinct cols) = rw (size-alike h p, claim-alike h p) refl
     apart (sort of_parts order) = refl
     apart (group plain by aggregates) = rw (size-alike h p, claim-alike h p) refl
@@ -50,8 +51,8 @@ total-alike catalog h p = rw (claim-alike h p, width-alike catalog h p) refl
 
 pub first-alike : (catalog : ℕ → Relation) (h : Choice) (p : Plan) → first_rows_known catalog (turned h p) ≡ first_rows_known catalog p
 first-alike catalog h (scan n c r m z) = refl
-first-alike catalog h (unary n c (select cs) p) = refl
-first-alike catalog h (unary n c (project cols) p) = refl
+first-alike catalog h (unary n c (select fs) p) = refl
+first-alike catalog h (unary n c (project es) p) = refl
 first-alike catalog h (unary n c (distinct cols) p) = refl
 first-alike catalog h (unary n c (sort of_parts order) p) = refl
 first-alike catalog h (unary n c (group phase by aggregates) p) = refl
@@ -79,8 +80,8 @@ shows-alike catalog h (scan n c r m z) x = refl
 shows-alike catalog h (unary n c op p) x = over op
   where
     over : (op : Unary) → unary_shows op (turned h p) x ≡ unary_shows op p x
-    over (select cs) = has-alike h p x
-    over (project cols) = ap (λ f. through f (copied cols) x) (has-all h p)
+    over (select fs) = has-alike h p x
+    over (project es) = ap (λ f. through f (copied_from (map kept_column es)) x) (has-all h p)
     over (distinct cols) = ap (λ f. through f (copied cols) x) (has-all h p)
     over (sort of_parts order) = has-alike h p x
     over (group phase by aggregates) = ap (λ f. through f (copied by) x) (has-all h p)

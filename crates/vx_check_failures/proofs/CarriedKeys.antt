@@ -1,16 +1,16 @@
 -- The keys that are carried up to a node name its columns.
-use Rattle.std.proofs.Common.{◌≡◌, ◌∙◌, ℕ, zero, suc, ◌+◌, ◌<◌, ◌≤◌, ◌==◌, nat_lt, nat_le, Bool, true, false, cond, not, ◌&&◌, ◌||◌, List, [], ◌∷◌, ◌++◌, map, length, flat_map, position, Option, Some, None, refl, sym, ap, arith, lt-ltb, ltb-true}
+use Rattle.std.proofs.Common.{◌≡◌, ◌∙◌, ℕ, zero, suc, ◌+◌, ◌<◌, ◌≤◌, ◌==◌, nat_lt, nat_le, Bool, true, false, cond, not, ◌&&◌, ◌||◌, List, [], ◌∷◌, ◌++◌, map, length, flat_map, position, Option, Some, None, refl, sym, ap, subst, arith, lt-ltb, ltb-true}
 use Rattle.std.specs.List.{list_all}
 use Rattle.std.proofs.lemmas.List.Quantifiers.{position-Some}
 use Rattle.std.proofs.lemmas.List.Folds.{list_all-append}
-use Rattle.std.proofs.lemmas.List.{append-nil}
+use Rattle.std.proofs.lemmas.List.{append-nil, length-map}
 use Rattle.vx_rows_values.proofs.Booleans.{and-left, and-right, and-both}
 use Rattle.vx_catalog_relations.specs.Relation.{Relation}
 use Rattle.vx_catalog_relations.specs.Catalog.{all_below}
 use Rattle.vx_plan_nodes.specs.Plan.{Claim, Unary, select, project, distinct, sort, group, limit, plain, partial, final, Binary, union, join, semi_join, Plan, scan, unary, binary, exchange, claim}
 use Rattle.vx_plan_nodes.specs.Phases.{first_columns, columns_from}
 use Rattle.vx_plan_nodes.specs.Types.{width}
-use Rattle.vx_plan_nodes.specs.Describe.{Copying, whole_rows, columns_kept, right_of, place, key_of_first, keys_kept}
+use Rattle.vx_plan_nodes.specs.Describe.{Copying, whole_rows, entries_kept, kept_column, is_column, right_of, place, key_of_first, keys_kept}
 use Rattle.vx_check_rules.specs.Rules.{cons_both, covers}
 use Rattle.vx_check_rules.specs.Behaviour.{Keyed, places, kept_keys, first_pair, keys_up, keyed_after, keyed_held, behaviour, node_keys}
 use Rattle.vx_check_rules.proofs.Carrying.{kept-whole}
@@ -43,9 +43,9 @@ kept-below k v w placed (key ∷ keys) h =
     by (Some x) e more =
         rw e (and-both (all_below w x) (list_all (all_below w) (kept_keys k keys)) (places-below k v w placed key x (and-left (all_below v key) (list_all (all_below v) keys) h) e) more)
 
--- of columns that are kept the places are below their number, and behind w columns those of the first v are below both numbers together
-kept-placed : (cols : List ℕ) (v : ℕ) → PlacedBelow (columns_kept cols) v (length cols)
-kept-placed cols v c d h e = lt-ltb d (length cols) (position-Some (λ k. c == k) cols d 0 e).0
+-- of entries of a projection the places are below their number, and behind w columns those of the first v are below both numbers together
+entries-placed : (ks : List (Option ℕ)) (v : ℕ) → PlacedBelow (entries_kept ks) v (length ks)
+entries-placed ks v c d h e = lt-ltb d (length ks) (position-Some (is_column c) ks d None e).0
 
 right-placed : (w v : ℕ) → PlacedBelow (right_of w) v (w + v)
 right-placed w v c d h e = by (nat_lt c 64) e
@@ -109,12 +109,14 @@ KeysBelow catalog (exchange n c k m p) = list_all (all_below (width catalog p)) 
 
 unary-below : (catalog : ℕ → Relation) (n : ℕ) (c : Claim) (op : Unary) (p : Plan) → list_all (all_below (width catalog p)) (claim p).keys ≡ true
     → list_all (all_below (width catalog (unary n c op p))) (node_keys catalog (unary n c op p)) ≡ true
-unary-below catalog n c (select cs) p h = whole-below (width catalog p) (claim p).keys h
+unary-below catalog n c (select fs) p h = whole-below (width catalog p) (claim p).keys h
 unary-below catalog n c (sort false cols) p h = whole-below (width catalog p) (claim p).keys h
 unary-below catalog n c (sort true cols) p h = refl
-unary-below catalog n c (project cols) p h =
-    let keys = kept_keys (columns_kept cols) (claim p).keys in
-    ap (list_all (all_below (length cols))) (append-nil keys) ∙ kept-below (columns_kept cols) (width catalog p) (length cols) (kept-placed cols (width catalog p)) (claim p).keys h
+unary-below catalog n c (project es) p h =
+    let ks = map kept_column es in
+    let keys = kept_keys (entries_kept ks) (claim p).keys in
+    ap (list_all (all_below (length es))) (append-nil keys)
+    ∙ subst (λ w. list_all (all_below w) keys ≡ true) (length-map es kept_column) (kept-below (entries_kept ks) (width catalog p) (length ks) (entries-placed ks (width catalog p)) (claim p).keys h)
 unary-below catalog n c (distinct cols) p h = first-below (length cols) (length cols) (omega arith)
 unary-below catalog n c (group plain by aggregates) p h = first-below (length by) (length by + length aggregates) (omega arith)
 unary-below catalog n c (group partial by aggregates) p h = refl

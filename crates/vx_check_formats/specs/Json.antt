@@ -132,8 +132,8 @@ phase_word partial = codes "partial-group"
 phase_word final = codes "final-group"
 
 abbrev pub unary_word : Unary → List ℕ
-unary_word (select cs) = codes "select"
-unary_word (project cols) = codes "project"
+unary_word (select fs) = codes "select"
+unary_word (project es) = codes "project"
 unary_word (distinct cols) = codes "distinct"
 unary_word (sort of_parts order) = cond of_parts (codes "partial-sort") (codes "sort")
 unary_word (group phase by aggregates) = phase_word phase

@@ -6,7 +6,7 @@ use Rattle.vx_rows_values.specs.Test.{Test, equal, unequal, below, at_most, abov
 use Rattle.vx_plan_nodes.specs.Plan.{Side, column, constant, Condition, Unary, select, project, distinct, sort, group, limit, Binary, union, join, semi_join, scan, unary, binary, exchange}
 use Rattle.vx_plan_nodes.specs.Describe.{Copying, source, left_of, right_of, described}
 use Rattle.vx_plan_nodes.specs.Types.{width}
-use Rattle.vx_plan_facts.specs.Equal.{Equality, each_itself, both_equal, lifted, with_pair, with_test, with_conditions, with_pairs, unary_equal, binary_equal, equal_at}
+use Rattle.vx_plan_facts.specs.Equal.{Equality, each_itself, both_equal, lifted, with_pair, with_test, with_conditions, comparisons, with_pairs, unary_equal, binary_equal, equal_at}
 use Rattle.vx_plan_facts.proofs.Tests.{or-cases, or-left, or-right}
 use Rattle.vx_check_keeping.specs.Laws.{IsEquivalence, EqualIsEquivalence}
 
@@ -197,8 +197,8 @@ module _ (w : ℕ) (e f : Equality) (is : IsEquivalence e) (also : IsEquivalence
 -- ---- all nodes
 
 unary-is : (op : Unary) (e : Equality) → IsEquivalence e → IsEquivalence (unary_equal op e)
-unary-is (select cs) e is = conditions-is cs e is
-unary-is (project cols) e is = lifted-is (described (project cols)).copying e is
+unary-is (select fs) e is = conditions-is (comparisons fs) e is
+unary-is (project es) e is = lifted-is (described (project es)).copying e is
 unary-is (distinct cols) e is = lifted-is (described (distinct cols)).copying e is
 unary-is (sort of_parts order) e is = lifted-is (described (sort of_parts order)).copying e is
 unary-is (group phase by aggregates) e is = lifted-is (described (group phase by aggregates)).copying e is

@@ -6,7 +6,7 @@ use Rattle.vx_catalog_relations.specs.Relation.{Relation}
 use Rattle.vx_plan_nodes.specs.Plan.{Claim, claim, Side, column, constant, Condition, Unary, select, project, distinct, sort, group, limit, JoinMethod, join, semi_join, ExchangeKind, Plan, unary, binary, exchange}
 use Rattle.vx_plan_nodes.specs.Types.{width, well_formed}
 use Rattle.vx_plan_nodes.specs.Describe.{Copying, whole_rows, source, left_of, right_of, described}
-use Rattle.vx_plan_facts.specs.Equal.{Equality, both_equal, lifted, with_test, with_conditions, with_pairs, unary_equal, equal_at}
+use Rattle.vx_plan_facts.specs.Equal.{Equality, both_equal, lifted, with_test, with_conditions, comparisons, with_pairs, unary_equal, equal_at}
 use Rattle.vx_plan_facts.specs.Fixed.{fixed_at}
 use Rattle.vx_plan_facts.specs.Naming.{names_within}
 use Rattle.vx_plan_facts.specs.Determined.{Columns, column_in, sources_in, by_input, by_rows, by_inputs, determined}
@@ -46,11 +46,11 @@ whole-is : (c x : ℕ) → source whole_rows c ≡ Some x → c ≡ x
 whole-is c x h = cc
 
 unary-carried : (op : Unary) (e : Equality) (c d x y : ℕ) → source (described op).copying c ≡ Some x → source (described op).copying d ≡ Some y → e x y ≡ true → unary_equal op e c d ≡ true
-unary-carried (select cs) e c d x y h i same =
+unary-carried (select fs) e c d x y h i same =
     let l : x ≡ c = sym (whole-is c x h) in
     let m : y ≡ d = sym (whole-is d y i) in
-    conditions-more cs e c d (subst (λ (z : ℕ). e z d ≡ true) l (subst (λ (z : ℕ). e x z ≡ true) m same))
-unary-carried (project cols) e c d x y h i same = lifted-carried (described (project cols)).copying e c d x y h i same
+    conditions-more (comparisons fs) e c d (subst (λ (z : ℕ). e z d ≡ true) l (subst (λ (z : ℕ). e x z ≡ true) m same))
+unary-carried (project es) e c d x y h i same = lifted-carried (described (project es)).copying e c d x y h i same
 unary-carried (distinct cols) e c d x y h i same = lifted-carried (described (distinct cols)).copying e c d x y h i same
 unary-carried (sort of_parts cols) e c d x y h i same = lifted-carried (described (sort of_parts cols)).copying e c d x y h i same
 unary-carried (group phase by aggregates) e c d x y h i same = lifted-carried (described (group phase by aggregates)).copying e c d x y h i same

@@ -72,8 +72,8 @@ pub whole-reaches : (v : ℕ) → Reaches v whole_rows v
 whole-reaches v c x l e = let is : c ≡ x = cc in subst (λ z. z < v) is l
 
 pub unary-reaches : (v : ℕ) (op : Unary) → names_within v op ≡ true → Reaches (unary_width op v) (described op).copying v
-unary-reaches v (select cs) h = whole-reaches v
-unary-reaches v (project cols) h = λ c x l e. within-is v (source (described (project cols)).copying c) x (project-within v (project cols) cols refl h c) e
+unary-reaches v (select fs) h = whole-reaches v
+unary-reaches v (project es) h = λ c x l e. within-is v (source (described (project es)).copying c) x (project-within v (project es) es refl h c) e
 unary-reaches v (distinct cols) h = λ c x l e. within-is v (source (described (distinct cols)).copying c) x (distinct-within v (distinct cols) cols refl h c) e
 unary-reaches v (sort of_parts order) h = whole-reaches v
 unary-reaches v (group phase by aggregates) h =

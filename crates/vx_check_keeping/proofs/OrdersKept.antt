@@ -1,5 +1,5 @@
 -- At the nodes of two plans of the same operators: orders that are shown and needed, over inputs whose claims tell the other ones'.
-use Rattle.std.proofs.Common.{◌≡◌, ℕ, ◌+◌, ◌==◌, nat_lt, Bool, true, false, cond, not, ◌&&◌, ◌||◌, ⊎_elim, List, [], ◌∷◌, map, length, refl, sym, ap, ◌∙◌, subst, true≢false, eqb-true, arith, Option, Some, None, slice_get}
+use Rattle.std.proofs.Common.{◌≡◌, ℕ, ◌+◌, ◌==◌, nat_lt, Bool, true, false, cond, not, ◌&&◌, ◌||◌, ⊎_elim, List, [], ◌∷◌, map, length, refl, sym, ap, ◌∙◌, subst, true≢false, eqb-true, arith, Option, Some, None}
 use Rattle.std.specs.List.{list_all}
 use Rattle.std.proofs.lemmas.Bool.{and_parts}
 use Rattle.vx_rows_values.specs.declared.order.OrderEntry.{OrderEntry}
@@ -12,7 +12,7 @@ use Rattle.vx_plan_nodes.specs.Plan.{by_hash, by_range, Part, one, any, all, rou
 use Rattle.vx_plan_nodes.specs.Phases.{phase_fits}
 use Rattle.vx_plan_nodes.specs.Types.{types_of, width, part_columns}
 use Rattle.vx_plan_nodes.specs.Typed.{are_columns, is_unary, is_kind, typed}
-use Rattle.vx_plan_nodes.specs.Describe.{Copying, whole_rows, source, left_of, described}
+use Rattle.vx_plan_nodes.specs.Describe.{Copying, whole_rows, kept_column, source, left_of, described}
 use Rattle.vx_plan_facts.specs.Equal.{Equality, equal_at}
 use Rattle.vx_plan_facts.specs.Determined.{determined}
 use Rattle.vx_plan_facts.specs.Following.{equal_entries, short, equal_lists}
@@ -21,6 +21,8 @@ use Rattle.vx_plan_facts.proofs.NamedColumns.{types-width, typed-scan, typed-una
 use Rattle.vx_plan_facts.proofs.Tests.{or-cases, or-left, or-right, or-more}
 use Rattle.vx_plan_facts.proofs.ClosingFacts.{is-below}
 use Rattle.vx_check_rules.specs.Rules.{route_eq, is_front, entry_at, entry_both, copied_order, if_order, unary_orders, rises_by, goes_on, orders}
+use Rattle.vx_check_rules.specs.Behaviour.{order_sources}
+use Rattle.vx_check_rules.proofs.Exact.{order-copied, order-entries}
 use Rattle.vx_check_rules.specs.Derived.{part_matches, order_given_derived, front_copies, rises_equally, goes_on_derived, unary_order, follows_at, order_derived}
 use Rattle.vx_check_rules.proofs.CopySteps.{copies-below}
 use Rattle.vx_check_shown.specs.PartLaws.{told}
@@ -127,17 +129,17 @@ both-is None x os ds h = absurd cc
 both-is (Some d) x None ds h = absurd cc
 both-is (Some d) x (Some es) ds h = (d, es, refl, refl, cc)
 
-kept-copies : (k : Copying) (kept : List ℕ) → ((c : ℕ) → source k c ≡ slice_get kept c) → (cs ds : List OrderEntry) → copied_order kept cs ≡ Some ds → AreCopies k cs ds
-kept-copies k kept is [] [] h = tt
-kept-copies k kept is [] (d ∷ ds) h = absurd cc
-kept-copies k kept is (c ∷ cs) ds h =
-    let t = both-is (slice_get kept c.column) c (copied_order kept cs) ds h in
-    subst (λ (xs : List OrderEntry). AreCopies k (c ∷ cs) xs) (sym t.4) (is c.column ∙ t.2, refl, kept-copies k kept is cs t.1 t.3)
+sources-copies : (k : Copying) (cs ds : List OrderEntry) → order_sources k cs ≡ Some ds → AreCopies k cs ds
+sources-copies k [] [] h = tt
+sources-copies k [] (d ∷ ds) h = absurd cc
+sources-copies k (c ∷ cs) ds h =
+    let t = both-is (source k c.column) c (order_sources k cs) ds h in
+    subst (λ (xs : List OrderEntry). AreCopies k (c ∷ cs) xs) (sym t.4) (t.2, refl, sources-copies k cs t.1 t.3)
 
-group-source : (phase : Phase) (by : List ℕ) (aggregates : List Aggregate) (c : ℕ) → source (described (group phase by aggregates)).copying c ≡ slice_get by c
-group-source plain by aggregates c = refl
-group-source partial by aggregates c = refl
-group-source final by aggregates c = refl
+group-order : (phase : Phase) (by : List ℕ) (aggregates : List Aggregate) (order : List OrderEntry) → order_sources (described (group phase by aggregates)).copying order ≡ copied_order by order
+group-order plain by aggregates order = order-copied by order
+group-order partial by aggregates order = order-copied by order
+group-order final by aggregates order = order-copied by order
 
 module _ (catalog : List Relation) where
   abbrev C : ℕ → Relation
@@ -210,26 +212,26 @@ module _ (catalog : List Relation) where
 
   -- ---- what the first table shows of orders
 
-  kept-first : (n : ℕ) (c : Claim) (op : Unary) (p : Plan) → IsTypedOver catalog (unary n c op p) → (kept : List ℕ) (order : List OrderEntry) → ((d : ℕ) → source (described op).copying d ≡ slice_get kept d)
-      → all_below (width C (unary n c op p)) (order_columns order) ≡ true → if_order (copied_order kept order) (λ cs. is_front cs (claim p).order) ≡ true
+  kept-first : (n : ℕ) (c : Claim) (op : Unary) (p : Plan) → IsTypedOver catalog (unary n c op p) → (order : List OrderEntry) (o : Option (List OrderEntry)) → order_sources (described op).copying order ≡ o
+      → all_below (width C (unary n c op p)) (order_columns order) ≡ true → if_order o (λ cs. is_front cs (claim p).order) ≡ true
       → follows_at C (unary n c op p) (front_copies (width C (unary n c op p)) (described op).copying (equal_at C p) (short (determined C p) (claim p).order)) order ≡ true
-  kept-first n c op p h kept order is l k =
+  kept-first n c op p h order o is l k =
       let x : Plan = unary n c op p in
       let t = typed-unary catalog x n c op p refl h in
-      let cs = order-is (copied_order kept order) (λ ds. is_front ds (claim p).order) k in
+      let cs = order-is o (λ ds. is_front ds (claim p).order) k in
       let below = order-below catalog p t.0 in
       copies-follow (width C x) (width C p) (described op).copying (equal_at C p) (equal_at C x) (determined C p) (determined C x)
       (unary-carries C n c op p (formed-over catalog x h) (formed-over catalog p t.0) t.1) (claim p).order order cs.0 below
-      (front-below (width C p) cs.0 (claim p).order cs.2 below) l (kept-copies (described op).copying kept is order cs.0 cs.1) cs.2
+      (front-below (width C p) cs.0 (claim p).order cs.2 below) l (sources-copies (described op).copying order cs.0 (is ∙ cs.1)) cs.2
 
   first-unary : (n : ℕ) (c : Claim) (op : Unary) (p : Plan) → IsTypedOver catalog (unary n c op p) → (order : List OrderEntry) → all_below (width C (unary n c op p)) (order_columns order) ≡ true
       → unary_orders op (claim p).order order ≡ true → order_derived C (unary n c op p) order ≡ true
-  first-unary n c (select cs) p h order l k =
-      front-at (unary n c (select cs) p) h (claim p).order order (order-below catalog p (typed-unary catalog (unary n c (select cs) p) n c (select cs) p refl h).0) l k
-  first-unary n c (project cols) p h order l k = kept-first n c (project cols) p h cols order (λ d. refl) l k
-  first-unary n c (distinct cols) p h order l k = kept-first n c (distinct cols) p h cols order (λ d. refl) l k
+  first-unary n c (select fs) p h order l k =
+      front-at (unary n c (select fs) p) h (claim p).order order (order-below catalog p (typed-unary catalog (unary n c (select fs) p) n c (select fs) p refl h).0) l k
+  first-unary n c (project es) p h order l k = kept-first n c (project es) p h order _ (order-entries (map kept_column es) order) l k
+  first-unary n c (distinct cols) p h order l k = kept-first n c (distinct cols) p h order _ (order-copied cols order) l k
   first-unary n c (sort of_parts given) p h order l k = front-at (unary n c (sort of_parts given) p) h given order (sorted-below catalog n c of_parts given p h) l k
-  first-unary n c (group phase by aggregates) p h order l k = kept-first n c (group phase by aggregates) p h by order (group-source phase by aggregates) l k
+  first-unary n c (group phase by aggregates) p h order l k = kept-first n c (group phase by aggregates) p h order _ (group-order phase by aggregates order) l k
   first-unary n c (limit m) p h order l k =
       front-at (unary n c (limit m) p) h (claim p).order order (order-below catalog p (typed-unary catalog (unary n c (limit m) p) n c (limit m) p refl h).0) l k
 
@@ -302,13 +304,13 @@ module _ (catalog : List Relation) where
       → follows_at C (with_claims (unary n c op p) g)
       (unary_order (width C (with_claims (unary n c op p) g)) op (equal_at C (with_claims p (under g))) (determined C (with_claims p (under g))) (claim (with_claims p (under g))).order)
       (unary_order (width C (unary n c op p)) op (equal_at C p) (determined C p) (claim p).order) ≡ true
-  unary-up n c (select cs) p g b u =
-      let f : Plan = with_claims (unary n c (select cs) p) g in
+  unary-up n c (select fs) p g b u =
+      let f : Plan = with_claims (unary n c (select fs) p) g in
       let s : Plan = with_claims p (under g) in
-      let t = typed-unary catalog f n (claim g) (select cs) s refl b.also in
+      let t = typed-unary catalog f n (claim g) (select fs) s refl b.also in
       follows-more (width C s) (width C f) (equal_at C s) (equal_at C f) (determined C s) (determined C f)
       (stays-larger (width C f) (width C s) whole_rows (equal_at C s) (equal_at C f) (determined C s) (determined C f)
-      (unary-carries C n (claim g) (select cs) s (formed-over catalog f b.also) (formed-over catalog s t.0) t.1) (omega arith) (λ x l. refl))
+      (unary-carries C n (claim g) (select fs) s (formed-over catalog f b.also) (formed-over catalog s t.0) t.1) (omega arith) (λ x l. refl))
       (claim s).order (claim p).order (order-below catalog s t.0) (below-over p (under g) (order_columns (claim p).order) (order-below catalog p u.both.typed)) u.tells.order
   unary-up n c (limit m) p g b u =
       let f : Plan = with_claims (unary n c (limit m) p) g in
@@ -318,7 +320,7 @@ module _ (catalog : List Relation) where
       (stays-larger (width C f) (width C s) whole_rows (equal_at C s) (equal_at C f) (determined C s) (determined C f)
       (unary-carries C n (claim g) (limit m) s (formed-over catalog f b.also) (formed-over catalog s t.0) t.1) (omega arith) (λ x l. refl))
       (claim s).order (claim p).order (order-below catalog s t.0) (below-over p (under g) (order_columns (claim p).order) (order-below catalog p u.both.typed)) u.tells.order
-  unary-up n c (project cols) p g b u = copied-up n c (project cols) p g b u
+  unary-up n c (project es) p g b u = copied-up n c (project es) p g b u
   unary-up n c (distinct cols) p g b u = copied-up n c (distinct cols) p g b u
   unary-up n c (sort of_parts order) p g b u =
       let f : Plan = with_claims (unary n c (sort of_parts order) p) g in
@@ -327,8 +329,8 @@ module _ (catalog : List Relation) where
 
   given-below : (n : ℕ) (c : Claim) (op : Unary) (p : Plan) → IsTypedOver catalog (unary n c op p)
       → all_below (width C (unary n c op p)) (order_columns (unary_order (width C (unary n c op p)) op (equal_at C p) (determined C p) (claim p).order)) ≡ true
-  given-below n c (select cs) p h = order-below catalog p (typed-unary catalog (unary n c (select cs) p) n c (select cs) p refl h).0
-  given-below n c (project cols) p h = copies-below (length cols) (described (project cols)).copying (equal_at C p) (short (determined C p) (claim p).order)
+  given-below n c (select fs) p h = order-below catalog p (typed-unary catalog (unary n c (select fs) p) n c (select fs) p refl h).0
+  given-below n c (project es) p h = copies-below (length es) (described (project es)).copying (equal_at C p) (short (determined C p) (claim p).order)
   given-below n c (distinct cols) p h = copies-below (length cols) (described (distinct cols)).copying (equal_at C p) (short (determined C p) (claim p).order)
   given-below n c (sort of_parts order) p h = sorted-below catalog n c of_parts order p h
   given-below n c (limit m) p h = order-below catalog p (typed-unary catalog (unary n c (limit m) p) n c (limit m) p refl h).0

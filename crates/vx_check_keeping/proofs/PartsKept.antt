@@ -1,14 +1,16 @@
 -- What a node shows over inputs that claim some parts it shows over inputs whose parts tell those.
-use Rattle.std.proofs.Common.{◌≡◌, ℕ, ◌-◌, ◌≤◌, nat_lt, nat_le, Bool, true, false, cond, ◌&&◌, ◌||◌, ⊎_elim, List, [], ◌∷◌, map, refl, sym, ap, ◌∙◌, subst, true≢false, ltb-true, Option, Some, None, slice_get, arith}
+use Rattle.std.proofs.Common.{◌≡◌, ℕ, ◌-◌, ◌≤◌, nat_lt, nat_le, Bool, true, false, cond, ◌&&◌, ◌||◌, ⊎_elim, List, [], ◌∷◌, map, refl, sym, ap, ◌∙◌, subst, true≢false, ltb-true, Option, Some, None, arith}
 use Rattle.std.specs.List.{list_all}
 use Rattle.vx_rows_values.proofs.Booleans.{and-left, and-right, and-both}
 use Rattle.vx_catalog_relations.specs.Catalog.{all_below}
 use Rattle.vx_plan_nodes.specs.Plan.{Route, Part, one, any, all, routed, Unary, select, project, distinct, sort, group, limit, Phase, plain, partial, final, Aggregate, JoinMethod, union, join, Plan, claim, size, is_one}
 use Rattle.vx_plan_nodes.specs.Types.{part_columns}
-use Rattle.vx_plan_nodes.specs.Describe.{Copying, whole_rows, columns_kept, left_of, right_of, described}
+use Rattle.vx_plan_nodes.specs.Describe.{Copying, whole_rows, columns_kept, entries_kept, kept_column, source, left_of, right_of, described}
 use Rattle.vx_plan_facts.specs.Equal.{Equality}
 use Rattle.vx_plan_facts.proofs.Tests.{or-cases, or-left, or-right, or-more}
-use Rattle.vx_check_rules.specs.Rules.{numbers_eq, route_eq, part_gives, has, routed_alike, cons_both, copied, if_some, left_columns, right_columns, keeps_apart, binary_inputs_match, through, unary_shows, alike_shows, join_shows, both_have, unless_one}
+use Rattle.vx_check_rules.specs.Rules.{numbers_eq, route_eq, part_gives, has, routed_alike, cons_both, copied, copied_from, if_some, left_columns, right_columns, keeps_apart, binary_inputs_match, through, unary_shows, alike_shows, join_shows, both_have, unless_one}
+use Rattle.vx_check_rules.specs.Behaviour.{sources}
+use Rattle.vx_check_rules.proofs.Exact.{sources-kept, sources-entries}
 use Rattle.vx_check_rules.specs.Derived.{part_matches, routed_alike_equally, unary_meets_equally, stands_for, stand_for, routed_as, join_routed, is_any}
 use Rattle.vx_check_shown.specs.PartLaws.{told}
 use Rattle.vx_check_keeping.specs.Laws.{IsEquivalence}
@@ -63,8 +65,8 @@ module _ (e : Equality) (is : IsEquivalence e) where
 
   pub unary-matches : (op : Unary) (p s : Plan) → InPlace e p s → ((is_one (size p) || keeps_apart op p) || unary_meets_equally e op (claim p).part) ≡ true
       → ((is_one (size s) || keeps_apart op s) || unary_meets_equally e op (claim s).part) ≡ true
-  unary-matches (select cs) p s i h = free (is_one (size s))
-  unary-matches (project cols) p s i h = free (is_one (size s))
+  unary-matches (select fs) p s i h = free (is_one (size s))
+  unary-matches (project es) p s i h = free (is_one (size s))
   unary-matches (sort of_parts order) p s i h = free (is_one (size s))
   unary-matches (distinct cols) p s i h = apart-kept p s i cols h
   unary-matches (group plain by aggregates) p s i h = apart-kept p s i by h
@@ -101,16 +103,15 @@ module _ (e : Equality) (is : IsEquivalence e) where
   cons-is (Some d) None ds h = absurd cc
   cons-is (Some d) (Some es) ds h = (d, es, refl, refl, cc)
 
-  pub kept-stand : (w : ℕ) (kept : List ℕ) (g : Equality) → IsEquivalence g → (cs ds : List ℕ) → all_below w cs ≡ true → copied kept cs ≡ Some ds
-      → stand_for w (columns_kept kept) e g cs ds ≡ true
-  kept-stand w kept g also [] [] l h = refl
-  kept-stand w kept g also [] (d ∷ ds) l h = absurd cc
-  kept-stand w kept g also (c ∷ cs) ds l h =
-      let t = cons-is (slice_get kept c) (copied kept cs) ds h in
-      subst (λ (xs : List ℕ). stand_for w (columns_kept kept) e g (c ∷ cs) xs ≡ true) (sym t.4)
-      (and-both (stands_for w (columns_kept kept) e g c t.0) (stand_for w (columns_kept kept) e g cs t.1)
-      (copy-stands e is w (columns_kept kept) g also c t.0 (ltb-true c w (and-left (nat_lt c w) (all_below w cs) l)) t.2)
-      (kept-stand w kept g also cs t.1 (and-right (nat_lt c w) (all_below w cs) l) t.3))
+  sources-stand : (w : ℕ) (k : Copying) (g : Equality) → IsEquivalence g → (cs ds : List ℕ) → all_below w cs ≡ true → sources k cs ≡ Some ds → stand_for w k e g cs ds ≡ true
+  sources-stand w k g also [] [] l h = refl
+  sources-stand w k g also [] (d ∷ ds) l h = absurd cc
+  sources-stand w k g also (c ∷ cs) ds l h =
+      let t = cons-is (source k c) (sources k cs) ds h in
+      subst (λ (xs : List ℕ). stand_for w k e g (c ∷ cs) xs ≡ true) (sym t.4)
+      (and-both (stands_for w k e g c t.0) (stand_for w k e g cs t.1)
+      (copy-stands e is w k g also c t.0 (ltb-true c w (and-left (nat_lt c w) (all_below w cs) l)) t.2)
+      (sources-stand w k g also cs t.1 (and-right (nat_lt c w) (all_below w cs) l) t.3))
 
   pub whole-stand : (w : ℕ) (g : Equality) → IsEquivalence g → (cs : List ℕ) → all_below w cs ≡ true → stand_for w whole_rows e g cs cs ≡ true
   whole-stand w g also [] l = refl
@@ -119,11 +120,19 @@ module _ (e : Equality) (is : IsEquivalence e) where
       (copy-stands e is w whole_rows g also c c (ltb-true c w (and-left (nat_lt c w) (all_below w cs) l)) refl)
       (whole-stand w g also cs (and-right (nat_lt c w) (all_below w cs) l))
 
+  source-as : (w : ℕ) (k : Copying) (g : Equality) → IsEquivalence g → (p : Plan) → is_one (size p) ≡ false → (r : Route) (cs : List ℕ) → all_below w cs ≡ true
+      → if_some (sources k cs) (λ ds. has p (routed r ds)) ≡ true → routed_as w k e g (claim p).part (routed r cs) ≡ true
+  source-as w k g also p n r cs l h =
+      let t = some-is (sources k cs) (λ ds. has p (routed r ds)) h in
+      given-as e is w k g (claim p).part r t.0 cs (sources-stand w k g also cs t.0 l t.1) (has-gives p (routed r t.0) n t.2)
+
   kept-as : (w : ℕ) (kept : List ℕ) (g : Equality) → IsEquivalence g → (p : Plan) → is_one (size p) ≡ false → (r : Route) (cs : List ℕ) → all_below w cs ≡ true
       → if_some (copied kept cs) (λ ds. has p (routed r ds)) ≡ true → routed_as w (columns_kept kept) e g (claim p).part (routed r cs) ≡ true
-  kept-as w kept g also p n r cs l h =
-      let t = some-is (copied kept cs) (λ ds. has p (routed r ds)) h in
-      given-as e is w (columns_kept kept) g (claim p).part r t.0 cs (kept-stand w kept g also cs t.0 l t.1) (has-gives p (routed r t.0) n t.2)
+  kept-as w kept g also p n r cs l h = source-as w (columns_kept kept) g also p n r cs l (ap (λ o. if_some o (λ ds. has p (routed r ds))) (sources-kept kept cs) ∙ h)
+
+  entries-as : (w : ℕ) (ks : List (Option ℕ)) (g : Equality) → IsEquivalence g → (p : Plan) → is_one (size p) ≡ false → (r : Route) (cs : List ℕ) → all_below w cs ≡ true
+      → if_some (copied_from ks cs) (λ ds. has p (routed r ds)) ≡ true → routed_as w (entries_kept ks) e g (claim p).part (routed r cs) ≡ true
+  entries-as w ks g also p n r cs l h = source-as w (entries_kept ks) g also p n r cs l (ap (λ o. if_some o (λ ds. has p (routed r ds))) (sources-entries ks cs) ∙ h)
 
   group-as : (w : ℕ) (phase : Phase) (by : List ℕ) (aggregates : List Aggregate) (g : Equality) (q z : Part) → routed_as w (columns_kept by) e g q z ≡ true
       → routed_as w (described (group phase by aggregates)).copying e g q z ≡ true
@@ -133,24 +142,24 @@ module _ (e : Equality) (is : IsEquivalence e) where
 
   first-as : (w : ℕ) (op : Unary) (g : Equality) → IsEquivalence g → (p : Plan) → is_one (size p) ≡ false → (r : Route) (cs : List ℕ) → all_below w cs ≡ true
       → unary_shows op p (routed r cs) ≡ true → routed_as w (described op).copying e g (claim p).part (routed r cs) ≡ true
-  first-as w (select conditions) g also p n r cs l h = given-as e is w whole_rows g (claim p).part r cs cs (whole-stand w g also cs l) (has-gives p (routed r cs) n h)
-  first-as w (project cols) g also p n r cs l h = kept-as w cols g also p n r cs l h
+  first-as w (select fs) g also p n r cs l h = given-as e is w whole_rows g (claim p).part r cs cs (whole-stand w g also cs l) (has-gives p (routed r cs) n h)
+  first-as w (project es) g also p n r cs l h = entries-as w (map kept_column es) g also p n r cs l h
   first-as w (distinct cols) g also p n r cs l h = kept-as w cols g also p n r cs l h
   first-as w (sort of_parts order) g also p n r cs l h = given-as e is w whole_rows g (claim p).part r cs cs (whole-stand w g also cs l) (has-gives p (routed r cs) n h)
   first-as w (group phase by aggregates) g also p n r cs l h = group-as w phase by aggregates g (claim p).part (routed r cs) (kept-as w by g also p n r cs l h)
   first-as w (limit m) g also p n r cs l h = given-as e is w whole_rows g (claim p).part r cs cs (whole-stand w g also cs l) (has-gives p (routed r cs) n h)
 
   unary-any : (op : Unary) (p s : Plan) → InPlace e p s → unary_shows op p any ≡ true → unary_shows op s any ≡ true
-  unary-any (select cs) p s i h = has-any p s i h
-  unary-any (project cols) p s i h = has-any p s i h
+  unary-any (select fs) p s i h = has-any p s i h
+  unary-any (project es) p s i h = has-any p s i h
   unary-any (distinct cols) p s i h = has-any p s i h
   unary-any (sort of_parts order) p s i h = has-any p s i h
   unary-any (group phase by aggregates) p s i h = has-any p s i h
   unary-any (limit m) p s i h = has-any p s i h
 
   unary-all : (op : Unary) (p s : Plan) → InPlace e p s → unary_shows op p all ≡ true → unary_shows op s all ≡ true
-  unary-all (select cs) p s i h = has-all p s i h
-  unary-all (project cols) p s i h = has-all p s i h
+  unary-all (select fs) p s i h = has-all p s i h
+  unary-all (project es) p s i h = has-all p s i h
   unary-all (distinct cols) p s i h = has-all p s i h
   unary-all (sort of_parts order) p s i h = has-all p s i h
   unary-all (group phase by aggregates) p s i h = has-all p s i h

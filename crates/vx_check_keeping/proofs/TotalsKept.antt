@@ -192,8 +192,8 @@ total-kept catalog p g u h =
 
 pub first-kept : (catalog : List Relation) (n i : ℕ) (c d : Claim) (op : Unary) (p g : Plan) → Under catalog p g → first_rows_known_derived (relation_at catalog) (unary n c op p) ≡ true
     → first_rows_known_derived (relation_at catalog) (unary i d op (with_claims p g)) ≡ true
-first-kept catalog n i c d (select cs) p g u h = refl
-first-kept catalog n i c d (project cols) p g u h = refl
+first-kept catalog n i c d (select fs) p g u h = refl
+first-kept catalog n i c d (project es) p g u h = refl
 first-kept catalog n i c d (distinct cols) p g u h = refl
 first-kept catalog n i c d (sort of_parts order) p g u h = refl
 first-kept catalog n i c d (group phase by aggregates) p g u h = refl

@@ -7,13 +7,14 @@ use Rattle.vx_rows_values.specs.Order.{order_columns, entry_eq}
 use Rattle.vx_rows_values.specs.Lists.{is_some_list}
 use Rattle.vx_rows_values.proofs.Booleans.{and-left, and-right, and-both}
 use Rattle.vx_plan_nodes.specs.Plan.{Part}
-use Rattle.vx_plan_nodes.specs.Describe.{Copying, whole_rows, columns_kept, left_of, right_of, no_columns, source}
+use Rattle.vx_plan_nodes.specs.Describe.{Copying, whole_rows, columns_kept, entries_kept, left_of, right_of, no_columns, source}
 use Rattle.vx_check_rules.specs.Rules.{contains, is_front, entry_at, rises_by}
 use Rattle.vx_check_rules.proofs.Bools.{or-false}
 use Rattle.vx_check_rules.proofs.WayFacts.{any-flat}
 use Rattle.vx_check_options.specs.Options.{OrderChoices, places_from, copies, singles, has_entry, entry_copies, place_then, places_up, narrowed, or_nowhere, rising}
 use Rattle.vx_check_options.specs.Placed.{first_entries, entry_or_first, source_entry, order_along, is_chosen}
 use Rattle.vx_check_options.specs.Laws.{may_begin}
+use Rattle.vx_check_options.proofs.EntryCopies.{entry-source}
 use Rattle.vx_check_options.proofs.Entries.{entry-itself, lone-entry, has-first, any-entry, kept-passes, copy-column, copy-back}
 
 -- ---- copies and what they are copies of
@@ -50,6 +51,7 @@ lone-is x c h = eqb-true c x (sym (or-false (c == x)) ∙ h)
 pub copy-source : (k : Copying) (x c : ℕ) → contains (copies k x) c ≡ true → source k c ≡ Some x
 copy-source whole_rows x c h = ap Some (lone-is x c h)
 copy-source (columns_kept cols) x c h = let e : c - 0 ≡ c = omega arith in sym (ap (slice_get cols) e) ∙ (kept-source 0 cols x c h).1
+copy-source (entries_kept ks) x c h = entry-source ks x c h
 copy-source (left_of w) x c h = by (nat_lt x w) refl h
   where
     by : (b : Bool) → nat_lt x w ≡ b → contains (cond b (x ∷ []) []) c ≡ true → cond (nat_lt c w) (Some c) None ≡ Some x

@@ -43,8 +43,8 @@ opens-without keys aggregates (exchange n c k m p) = opens-without keys aggregat
 
 -- that the phases fit
 fits-without : (op : Unary) (p : Plan) → phase_fits op (without_keys p) ≡ phase_fits op p
-fits-without (select cs) p = ap not (open-without p)
-fits-without (project cols) p = ap not (open-without p)
+fits-without (select fs) p = ap not (open-without p)
+fits-without (project es) p = ap not (open-without p)
 fits-without (distinct cols) p = ap not (open-without p)
 fits-without (sort false cols) p = ap not (open-without p)
 fits-without (sort true cols) p = open-without p

@@ -1,5 +1,5 @@
 -- Copies of columns, as a loop finds them.
-use Rattle.std.proofs.Common.{Vec, Global, map, ◌≡◌, ℕ, ◌+◌, ◌<◌, Bool, true, false, cond, List, [], ◌∷◌, ◌++◌, length, get_or, drop, refl, sym, ap, ◌∙◌, arith, Option, Some, None, slice_get, eqb, append_assoc, Result, Ok, Err}
+use Rattle.std.proofs.Common.{Vec, Global, map, ◌≡◌, ℕ, zero, suc, ◌+◌, ◌<◌, Bool, true, false, cond, List, [], ◌∷◌, ◌++◌, length, get_or, drop, refl, sym, ap, ◌∙◌, arith, Option, Some, None, slice_get, eqb, append_assoc, Result, Ok, Err}
 use Rattle.std.specs.Option.{option_eq}
 use Rattle.std.specs.Result.{IfOk}
 use Rattle.std.specs.Vec.{vec_len}
@@ -13,7 +13,9 @@ use Rattle.vx_check_rules.specs.Behaviour.{is_column}
 use Rattle.vx_check_rules.proofs.Exact.{slice-at}
 use Rattle.vx_check_rules.proofs.ColumnFacts.{first_push}
 use Rattle.vx_plan_nodes.specs.Phases.{first_columns}
-use Rattle.vx_check_options.specs.Options.{places_from}
+use Rattle.vx_plan_nodes.specs.Describe.{entries_kept, source}
+use Rattle.vx_plan_nodes.specs.Describe as describe
+use Rattle.vx_check_options.specs.Options.{places_from, entries_from}
 
 turned : (a b : ℕ) → eqb a b ≡ eqb b a
 turned a b = grind (arith, nat_tests)
@@ -38,6 +40,22 @@ pub places-step : (kept : List ℕ) (n col : ℕ) → n < length kept
     ≡ cond (option_eq eqb (slice_get kept n) (Some col)) (n ∷ places_from (n + 1) (drop (n + 1) kept) col) (places_from (n + 1) (drop (n + 1) kept) col)
 places-step kept n col within =
     rw (add-one n, drop-cons kept n 0 within, slice-at kept n within, turned (get_or kept n 0) col) refl
+
+-- the same of entries
+source-at : (ks : List (Option ℕ)) (n : ℕ) → n < length ks → source (entries_kept ks) n ≡ get_or ks n None
+source-at [] n h = absurd (omega (arith, h))
+source-at (k ∷ ks) zero h = refl
+source-at (k ∷ ks) (suc n) h = source-at ks n (omega (arith, h))
+
+entry-test : (c : ℕ) (o : Option ℕ) → describe.is_column c o ≡ option_eq eqb o (Some c)
+entry-test c None = refl
+entry-test c (Some k) = turned c k
+
+pub entries-step : (ks : List (Option ℕ)) (n col : ℕ) → n < length ks
+    → entries_from n (drop n ks) col
+    ≡ cond (option_eq eqb (source (entries_kept ks) n) (Some col)) (n ∷ entries_from (n + 1) (drop (n + 1) ks) col) (entries_from (n + 1) (drop (n + 1) ks) col)
+entries-step ks n col within =
+    rw (add-one n, drop-cons ks n None within, source-at ks n within, entry-test col (get_or ks n None)) refl
 
 -- what is found here and what comes later
 pub found-here : (b : Bool) (n : ℕ) (found more all : List ℕ) → all ≡ found ++ cond b (n ∷ more) more → b ≡ true → all ≡ (found ++ n ∷ []) ++ more

@@ -1,5 +1,5 @@
 -- Orders among the entries that may stand at their places.
-use Rattle.std.proofs.Common.{ℕ, ◌≡◌, ◌==◌, Bool, true, false, cond, ◌&&◌, ◌||◌, ⊎_elim, List, [], ◌∷◌, flat_map, filter, Option, Some, None, is_some, refl, sym, ap, ◌∙◌}
+use Rattle.std.proofs.Common.{ℕ, ◌≡◌, ◌==◌, Bool, true, false, cond, ◌&&◌, ◌||◌, ⊎_elim, List, [], ◌∷◌, map, flat_map, filter, Option, Some, None, is_some, refl, sym, ap, ◌∙◌}
 use Rattle.std.specs.List.{list_any}
 use Rattle.vx_rows_values.specs.declared.order.OrderEntry.{OrderEntry}
 use Rattle.vx_rows_values.specs.Order.{entry_eq}
@@ -7,7 +7,7 @@ use Rattle.vx_rows_values.proofs.Booleans.{and-left, and-right, and-both}
 use Rattle.vx_catalog_relations.specs.Relation.{Relation}
 use Rattle.vx_plan_nodes.specs.Plan.{by_hash, by_range, Part, one, any, all, routed, Claim, Unary, select, project, distinct, sort, group, limit, plain, partial, final, by_hashing, by_merging, left_order, right_order, Binary, union, join, semi_join, ExchangeKind, route_to, round, broadcast, gather, concat, Plan, unary, binary, exchange, claim, size, is_one}
 use Rattle.vx_plan_nodes.specs.Typed.{may_merge}
-use Rattle.vx_plan_nodes.specs.Describe.{Copying, whole_rows, columns_kept, source, OrderAfter, order_kept, sorted_on, described}
+use Rattle.vx_plan_nodes.specs.Describe.{Copying, whole_rows, columns_kept, entries_kept, kept_column, source, OrderAfter, order_kept, sorted_on, described}
 use Rattle.vx_check_rules.specs.Rules.{contains, is_front, entry_at, entry_both, if_order, part_gives, rises_by, goes_on, orders, order_given}
 use Rattle.vx_check_rules.specs.Behaviour.{order_sources, Sorted, sorted_by, order_after, sorts}
 use Rattle.vx_check_rules.proofs.Bools.{or-left, or-right, or-false, any-more}
@@ -17,6 +17,7 @@ use Rattle.vx_check_options.specs.Options.{copies, OrderChoices, singles, has_en
 use Rattle.vx_check_options.specs.Laws.{is_told, may_begin}
 use Rattle.vx_check_options.proofs.Entries.{entry-same, has-first, copy-there}
 use Rattle.vx_check_options.proofs.Telling.{same, gives-is, or-cases}
+use Rattle.vx_check_options.proofs.EntryCopies.{entry-found}
 use Rattle.vx_check_options.proofs.Told.{kept-found}
 
 -- ---- what begins an order
@@ -100,9 +101,12 @@ whole-finds c d e = let is : c ≡ d = cc in rw is (or-left (d == d) false (same
 kept-finds : (cols : List ℕ) → Finds (columns_kept cols)
 kept-finds cols c d e = kept-found cols c d e
 
+entries-find : (ks : List (Option ℕ)) → Finds (entries_kept ks)
+entries-find ks c d e = entry-found ks c d e
+
 op-finds : (op : Unary) → Finds (described op).copying
-op-finds (select cs) = whole-finds
-op-finds (project cols) = kept-finds cols
+op-finds (select fs) = whole-finds
+op-finds (project es) = entries-find (map kept_column es)
 op-finds (distinct cols) = kept-finds cols
 op-finds (sort of_parts cols) = whole-finds
 op-finds (group plain by aggregates) = kept-finds by

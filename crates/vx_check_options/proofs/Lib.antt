@@ -1,5 +1,6 @@
 pub mod Entries
 pub mod CopyLists
+pub mod EntryCopies
 pub mod PartLists
 pub mod OptionFacts
 pub mod LoopLists

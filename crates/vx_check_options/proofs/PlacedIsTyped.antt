@@ -47,8 +47,8 @@ opens-placed keys aggregates catalog (exchange n c k m p) q order = opens-placed
 
 -- that the phases fit
 fits-placed : (op : Unary) (catalog : ℕ → Relation) (p : Plan) (q : Part) (order : List OrderEntry) → phase_fits op (placed catalog p q order) ≡ phase_fits op p
-fits-placed (select cs) catalog p q order = ap not (open-placed catalog p q order)
-fits-placed (project cols) catalog p q order = ap not (open-placed catalog p q order)
+fits-placed (select fs) catalog p q order = ap not (open-placed catalog p q order)
+fits-placed (project es) catalog p q order = ap not (open-placed catalog p q order)
 fits-placed (distinct cols) catalog p q order = ap not (open-placed catalog p q order)
 fits-placed (sort false cols) catalog p q order = ap not (open-placed catalog p q order)
 fits-placed (sort true cols) catalog p q order = open-placed catalog p q order

@@ -9,12 +9,13 @@ use Rattle.vx_rows_values.specs.Order.{entry_eq}
 use Rattle.vx_rows_values.specs.Lists.{is_some_list}
 use Rattle.vx_rows_values.proofs.Booleans.{and-left, and-right, and-both}
 use Rattle.vx_plan_nodes.specs.Plan.{Part}
-use Rattle.vx_plan_nodes.specs.Describe.{Copying, whole_rows, columns_kept, left_of, right_of, no_columns, source, OrderAfter, order_kept, sorted_on}
+use Rattle.vx_plan_nodes.specs.Describe.{Copying, whole_rows, columns_kept, entries_kept, left_of, right_of, no_columns, source, OrderAfter, order_kept, sorted_on}
 use Rattle.vx_check_rules.specs.Rules.{contains, is_front, entry_at, entry_both, if_order}
 use Rattle.vx_check_rules.specs.Behaviour.{order_sources, order_after}
 use Rattle.vx_check_rules.proofs.Bools.{or-false, or-left, or-right}
 use Rattle.vx_check_options.specs.Options.{places_from, copies, OrderChoices, singles, has_entry, entry_copies, place_then, places_up, narrowed, or_nowhere, places_after, rising}
 use Rattle.vx_check_options.specs.Placed.{first_entries, entry_or_first, source_entry, order_along, order_below, is_chosen}
+use Rattle.vx_check_options.proofs.EntryCopies.{entry-source}
 use Rattle.vx_check_options.proofs.Entries.{entry-same, entry-itself, lone-entry, has-first, front-same, any-entry, copy-column, copy-back}
 
 -- ---- tests
@@ -99,6 +100,7 @@ copies-source (columns_kept cols) c d h =
     let at : d ≡ 0 + w.0 = w.1 in
     let is : d ≡ w.0 = omega arith in
     rw is w.2
+copies-source (entries_kept ks) c d h = entry-source ks c d h
 copies-source (left_of w) c d h = left-source w c d h
 copies-source (right_of w) c d h = right-source w c d h
 copies-source no_columns c d h = cc

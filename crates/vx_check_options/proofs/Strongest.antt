@@ -10,7 +10,7 @@ use Rattle.vx_catalog_relations.specs.Relation.{Relation}
 use Rattle.vx_catalog_relations.specs.Catalog.{relation_at}
 use Rattle.vx_plan_nodes.specs.Plan.{Route, by_hash, by_range, Part, one, any, all, routed, Claim, Unary, select, project, distinct, sort, group, limit, plain, partial, final, Binary, union, join, semi_join, ExchangeKind, route_to, round, broadcast, gather, concat, Plan, scan, unary, binary, exchange, claim, size, is_one, by_hashing, by_merging, left_order, right_order}
 use Rattle.vx_plan_nodes.specs.Typed.{Scope, may_merge, is_kind, are_columns, typed}
-use Rattle.vx_plan_nodes.specs.Describe.{Copying, whole_rows, columns_kept, left_of, right_of, no_columns, source, OrderAfter, order_kept, sorted_on, described}
+use Rattle.vx_plan_nodes.specs.Describe.{Copying, whole_rows, columns_kept, entries_kept, kept_column, left_of, right_of, no_columns, source, OrderAfter, order_kept, sorted_on, described}
 use Rattle.vx_check_rules.specs.Rules.{part_gives, is_front, cons_both, if_some, rises_by, goes_on, orders, if_order, entry_at, entry_both}
 use Rattle.vx_check_rules.specs.Refusal.{or_else, refused_at}
 use Rattle.vx_check_rules.specs.Behaviour.{sources, Way, way, order_after, gives, ways_from, behaviour, shown_part, shown_order, order_sources}
@@ -20,6 +20,7 @@ use Rattle.vx_check_rules.proofs.Refusals.{none-both}
 use Rattle.vx_check_options.specs.Options.{places_from, copies, in_front, copied_lists, routed_by, parts_up, parts_of_way, parts_among, same_part, is_routed, told_parts, parts_above, parts_at, OrderChoices, singles, place_then, places_up, narrowed, or_nowhere, places_after, places_sent, rising, places_at, fit_tests, first_unfit, has_entry, entry_copies}
 use Rattle.vx_check_options.specs.Placed.{order_along, order_below, order_sent, is_chosen, part_sent, keyless, placed}
 use Rattle.vx_check_options.specs.Laws.{is_option, IsStrongest, AtEach}
+use Rattle.vx_check_options.proofs.EntryCopies.{entry-some as entries-some}
 use Rattle.vx_check_options.proofs.Entries.{entry-same, has-first}
 use Rattle.vx_check_options.proofs.PlacedOrders.{same-number, are_full, some-is, narrowed-length, chosen-length, along-chosen, chosen-along, kept-chosen, singles-chosen}
 use Rattle.vx_check_options.proofs.PlacedParts.{any-where, not-so, any-take, take-some, filter-some, routed-is, part-is, any-at, told-any, common_of, ways-each, lefts_at, rights_at, parts-at-is, passes_over, among-some, if-given, below-in, sent-in, option-in}
@@ -64,6 +65,7 @@ right-some w c d s h = by (nat_le w d) h
 copies-some : (k : Copying) (c d : ℕ) → nat_lt d 64 ≡ true → source k d ≡ Some c → is_some_list (copies k c) ≡ true
 copies-some whole_rows c d s h = refl
 copies-some (columns_kept cols) c d s h = place-some 0 cols c d h
+copies-some (entries_kept ks) c d s h = entries-some ks c d h
 copies-some (left_of w) c d s h = left-some w c d h
 copies-some (right_of w) c d s h = right-some w c d s h
 copies-some no_columns c d s h = cc
@@ -237,9 +239,9 @@ along-longest k (d ∷ ds) places below some h l = by (source k d.column) (order
 
 -- an operator over one input has a copy among its copies
 unary-copies : (op : Unary) (c d : ℕ) → source (described op).copying d ≡ Some c → is_some_list (copies (described op).copying c) ≡ true
-unary-copies (select cs) c d h = refl
+unary-copies (select fs) c d h = refl
 unary-copies (sort of_parts cols) c d h = refl
-unary-copies (project cols) c d h = place-some 0 cols c d h
+unary-copies (project es) c d h = entries-some (map kept_column es) c d h
 unary-copies (distinct cols) c d h = place-some 0 cols c d h
 unary-copies (group plain by aggregates) c d h = place-some 0 by c d h
 unary-copies (group partial by aggregates) c d h = place-some 0 by c d h

@@ -7,13 +7,14 @@ use Rattle.vx_rows_values.proofs.Booleans.{and-left, and-right, and-both}
 use Rattle.vx_catalog_relations.specs.Relation.{Relation}
 use Rattle.vx_catalog_relations.proofs.NameFacts.{list_any-map}
 use Rattle.vx_plan_nodes.specs.Plan.{Route, Part, one, any, all, routed, Plan}
-use Rattle.vx_plan_nodes.specs.Describe.{Copying, whole_rows, columns_kept, left_of, right_of, no_columns, source}
+use Rattle.vx_plan_nodes.specs.Describe.{Copying, whole_rows, columns_kept, entries_kept, left_of, right_of, no_columns, source}
 use Rattle.vx_check_rules.specs.Rules.{numbers_eq, route_eq, part_gives, contains, cons_both}
 use Rattle.vx_check_rules.specs.Behaviour.{sources, Way, way, each_has, gives, common_part, ways_from}
 use Rattle.vx_check_rules.proofs.Bools.{or-left, or-right, any-more}
 use Rattle.vx_check_rules.proofs.WayFacts.{any-flat}
 use Rattle.vx_check_options.specs.Options.{places_from, copies, in_front, copied_lists, are_all_lists, are_all_of, routed_by, parts_up, parts_of_way, parts_over, parts_among, same_part, with_part, with_parts, is_routed, most_telling, gives_part, part_if_given, told_parts}
 use Rattle.vx_check_options.specs.Laws.{is_told, keeps_part}
+use Rattle.vx_check_options.proofs.EntryCopies.{entry-found}
 use Rattle.vx_check_options.proofs.Telling.{same, route-self, gives-self, gives-more, gives-is, or-cases, any-both, any-where, shown-more}
 use Rattle.vx_check_options.proofs.Alike.{alike, one_or, replicates, plain, fair, fair-ways, way-common, some-is, all-telling, parts-alike}
 
@@ -53,6 +54,7 @@ right-copy w c d false l e f = cc
 copy-is : (k : Copying) (c d : ℕ) → nat_lt d 64 ≡ true → source k d ≡ Some c → contains (copies k c) d ≡ true
 copy-is whole_rows c d l e = let is : c ≡ d = cc in rw is (or-left (d == d) false (same d))
 copy-is (columns_kept cols) c d l e = kept-found cols c d e
+copy-is (entries_kept ks) c d l e = entry-found ks c d e
 copy-is (left_of w) c d l e = left-copy w c d (nat_lt d w) refl e
 copy-is (right_of w) c d l e = right-copy w c d (nat_le w d) l refl e
 copy-is no_columns c d l e = cc

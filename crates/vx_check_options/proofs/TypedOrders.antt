@@ -1,5 +1,5 @@
 -- The orders that are placed are columns of their nodes, none twice.
-use Rattle.std.proofs.Common.{◌≡◌, ℕ, ◌==◌, eq-eqb, nat_lt, Bool, true, false, cond, List, [], ◌∷◌, ◌++◌, length, refl, sym, ap, ◌∙◌, true≢false}
+use Rattle.std.proofs.Common.{◌≡◌, ℕ, ◌==◌, eq-eqb, nat_lt, Bool, true, false, cond, List, [], ◌∷◌, ◌++◌, map, length, refl, sym, ap, ◌∙◌, true≢false}
 use Rattle.vx_rows_values.specs.Order.{order_columns}
 use Rattle.vx_rows_values.specs.declared.order.OrderEntry.{OrderEntry}
 use Rattle.vx_rows_values.specs.declared.value.ColType.{ColType}
@@ -7,7 +7,7 @@ use Rattle.vx_rows_values.specs.Lists.{is_some_list}
 use Rattle.vx_rows_values.proofs.Booleans.{and-left, and-right, and-both}
 use Rattle.vx_catalog_relations.specs.Catalog.{relation_at, IsCatalog}
 use Rattle.vx_plan_nodes.specs.Plan.{Part, Unary, select, project, distinct, sort, group, limit, plain, partial, final, Binary, union, join, semi_join, ExchangeKind, route_to, round, broadcast, gather, concat, by_hashing, by_merging, left_order}
-use Rattle.vx_plan_nodes.specs.Describe.{Copying, whole_rows, columns_kept, described}
+use Rattle.vx_plan_nodes.specs.Describe.{Copying, whole_rows, columns_kept, entries_kept, kept_column, described}
 use Rattle.vx_plan_nodes.specs.Types.{unary_types, binary_types}
 use Rattle.vx_plan_nodes.specs.Typed.{Scope, are_columns, is_unary}
 use Rattle.vx_check_rules.specs.Rules.{contains}
@@ -53,8 +53,9 @@ declared-typed s r catalog h = let is = catalog.each r h in ap (λ w. are_column
 pub unary-order-typed : (op : Unary) (ts : List ColType) (order : List OrderEntry) (places : OrderChoices) → is_unary ts op ≡ true
     → may_begin order (places_up (described op).copying (places_after (described op).order places)) ≡ true
     → are_columns (length ts) (order_columns (order_below (described op).order (described op).copying order places)) ≡ true → are_columns (length (unary_types op ts)) (order_columns order) ≡ true
-unary-order-typed (select cs) ts order places o h c = copies-typed whole_rows ts ts order places (unary-types (select cs) ts) h c
-unary-order-typed (project cols) ts order places o h c = copies-typed (columns_kept cols) ts (unary_types (project cols) ts) order places (unary-types (project cols) ts) h c
+unary-order-typed (select fs) ts order places o h c = copies-typed whole_rows ts ts order places (unary-types (select fs) ts) h c
+unary-order-typed (project es) ts order places o h c =
+    copies-typed (entries_kept (map kept_column es)) ts (unary_types (project es) ts) order places (unary-types (project es) ts) h c
 unary-order-typed (distinct cols) ts order places o h c = copies-typed (columns_kept cols) ts (unary_types (distinct cols) ts) order places (unary-types (distinct cols) ts) h c
 unary-order-typed (sort of_parts given) ts order places o h c =
     copies-typed whole_rows ts ts order (singles given) (whole-types ts) h

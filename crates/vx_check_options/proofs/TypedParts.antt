@@ -11,10 +11,10 @@ use Rattle.vx_rows_values.specs.Lists.{is_some_list}
 use Rattle.vx_rows_values.proofs.Booleans.{and-left, and-right, and-both}
 use Rattle.vx_catalog_relations.specs.Relation.{Relation}
 use Rattle.vx_catalog_relations.specs.Catalog.{relation_at, all_below, are_distinct}
-use Rattle.vx_plan_nodes.specs.Plan.{Route, by_hash, by_range, Part, one, any, all, routed, Unary, select, project, distinct, sort, group, limit, plain, partial, final, Binary, union, join, semi_join, ExchangeKind, route_to, round, broadcast, gather, concat, Plan, scan, unary, binary, exchange, claim, size, is_one, Claim}
+use Rattle.vx_plan_nodes.specs.Plan.{Route, by_hash, by_range, Part, one, any, all, routed, Entry, copy_of, made_by, Unary, select, project, distinct, sort, group, limit, plain, partial, final, Binary, union, join, semi_join, ExchangeKind, route_to, round, broadcast, gather, concat, Plan, scan, unary, binary, exchange, claim, size, is_one, Claim}
 use Rattle.vx_plan_nodes.specs.Parts.{kind_part}
-use Rattle.vx_plan_nodes.specs.Describe.{Copying, whole_rows, columns_kept, left_of, right_of, source, described}
-use Rattle.vx_plan_nodes.specs.Types.{unary_types, binary_types, aggregate_type, types_of, width}
+use Rattle.vx_plan_nodes.specs.Describe.{Copying, whole_rows, columns_kept, entries_kept, kept_column, left_of, right_of, source, described}
+use Rattle.vx_plan_nodes.specs.Types.{entry_type, unary_types, binary_types, aggregate_type, types_of, width}
 use Rattle.vx_plan_nodes.specs.Typed.{Scope, type_eq, are_columns, range_type, bounds_at, is_size, is_routed, is_part, is_claim, is_unary, is_binary, is_kind, may_merge, is_output, typed}
 use Rattle.vx_plan_nodes.specs.Phases.{phase_fits, both_closed}
 use Rattle.vx_plan_nodes.proofs.ErasedFacts.{type-right}
@@ -102,10 +102,21 @@ kept-types cols ts rest x c h k = kept-type (type_at ts) cols rest x c (copy-sou
 kept-alone : (cols : List ℕ) (ts : List ColType) → KeepsTypes (columns_kept cols) ts (map (type_at ts) cols)
 kept-alone cols ts = let P : List ColType → Type 0 = KeepsTypes (columns_kept cols) ts in subst P (append-nil (map (type_at ts) cols)) (kept-types cols ts [])
 
+-- the type of an entry that keeps a column
+entry-type : (ts : List ColType) (es : List Entry) (x c : ℕ) → source (entries_kept (map kept_column es)) c ≡ Some x
+    → (nat_lt c (length (map (entry_type ts) es)) ≡ true) × (type_at (map (entry_type ts) es) c ≡ type_at ts x)
+entry-type ts [] x c e = cc
+entry-type ts (copy_of k ∷ es) x zero e = (lt-zero (length (map (entry_type ts) es)), ap (λ o. type_at ts (unwrap_or o x)) e)
+entry-type ts (made_by m ∷ es) x zero e = cc
+entry-type ts (y ∷ es) x (suc c) e = let more = entry-type ts es x c e in (lt-suc c (length (map (entry_type ts) es)) ∙ more.0, more.1)
+
+entries-types : (es : List Entry) (ts : List ColType) → KeepsTypes (entries_kept (map kept_column es)) ts (map (entry_type ts) es)
+entries-types es ts x c h k = entry-type ts es x c (copy-source (entries_kept (map kept_column es)) x c k)
+
 -- of an operator over one input
 pub unary-types : (op : Unary) (ts : List ColType) → KeepsTypes (described op).copying ts (unary_types op ts)
-unary-types (select cs) ts = whole-types ts
-unary-types (project cols) ts = kept-alone cols ts
+unary-types (select fs) ts = whole-types ts
+unary-types (project es) ts = entries-types es ts
 unary-types (distinct cols) ts = kept-alone cols ts
 unary-types (sort of_parts cols) ts = whole-types ts
 unary-types (group plain by aggregates) ts = kept-types by ts (map (aggregate_type ts) aggregates)

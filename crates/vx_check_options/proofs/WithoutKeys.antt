@@ -74,8 +74,8 @@ once-without (binary n c op p q) = refl
 once-without (exchange n c k m p) = has-without p any
 
 apart-without : (op : Unary) (p : Plan) → keeps_apart op (without_keys p) ≡ keeps_apart op p
-apart-without (select cs) p = refl
-apart-without (project cols) p = refl
+apart-without (select fs) p = refl
+apart-without (project es) p = refl
 apart-without (distinct cols) p = rw (size-without p, part-without p) refl
 apart-without (sort of_parts cols) p = refl
 apart-without (group plain by aggregates) p = rw (size-without p, part-without p) refl
@@ -122,8 +122,8 @@ unless-same f g all h = h all
 unless-same f g (routed r cols) h = h (routed r cols)
 
 unary-without : (op : Unary) (p : Plan) (q : Part) → unary_shows op (without_keys p) q ≡ unary_shows op p q
-unary-without (select cs) p q = has-without p q
-unary-without (project cols) p q = through-same (has (without_keys p)) (has p) (copied cols) q (has-without p)
+unary-without (select fs) p q = has-without p q
+unary-without (project es) p q = through-same (has (without_keys p)) (has p) _ q (has-without p)
 unary-without (distinct cols) p q = through-same (has (without_keys p)) (has p) (copied cols) q (has-without p)
 unary-without (sort of_parts cols) p q = has-without p q
 unary-without (group phase by aggregates) p q = through-same (has (without_keys p)) (has p) (copied by) q (has-without p)

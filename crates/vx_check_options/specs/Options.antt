@@ -6,7 +6,7 @@ use Rattle.vx_rows_values.specs.Order.{entry_eq}
 use Rattle.vx_rows_values.specs.Lists.{is_some_list}
 use Rattle.vx_catalog_relations.specs.Relation.{Relation}
 use Rattle.vx_plan_nodes.specs.Plan.{Route, Part, one, any, all, routed, by_hashing, by_merging, left_order, right_order, Binary, union, join, semi_join, ExchangeKind, concat, Plan, scan, unary, binary, exchange, claim, size, is_one}
-use Rattle.vx_plan_nodes.specs.Describe.{Copying, whole_rows, columns_kept, left_of, right_of, no_columns, OrderAfter, order_kept, sorted_on, described}
+use Rattle.vx_plan_nodes.specs.Describe.{Copying, whole_rows, columns_kept, entries_kept, is_column, left_of, right_of, no_columns, OrderAfter, order_kept, sorted_on, described}
 use Rattle.vx_check_rules.specs.Rules.{part_gives, entry_at, rises_by, sizes_match}
 use Rattle.vx_check_rules.specs.Behaviour.{Way, gives, common_part, ways_from}
 use Rattle.vx_check_rules.specs.Refusal.{Rule, size_mismatch, replicated_input, inputs_not_matched, order_needed, order_not_shown, or_else, refused_at}
@@ -19,10 +19,16 @@ abbrev pub places_from : ℕ → List ℕ → ℕ → List ℕ
 places_from n [] c = []
 places_from n (k ∷ ks) c = cond (c == k) (n ∷ places_from (suc n) ks c) (places_from (suc n) ks c)
 
+-- the places of those of a list that are this column, where some are none
+abbrev pub entries_from : ℕ → List (Option ℕ) → ℕ → List ℕ
+entries_from n [] c = []
+entries_from n (k ∷ ks) c = cond (is_column c k) (n ∷ entries_from (suc n) ks c) (entries_from (suc n) ks c)
+
 -- all output columns that are copies of an input column
 abbrev pub copies : Copying → ℕ → List ℕ
 copies whole_rows c = c ∷ []
 copies (columns_kept cols) c = places_from 0 cols c
+copies (entries_kept ks) c = entries_from 0 ks c
 copies (left_of w) c = cond (nat_lt c w) (c ∷ []) []
 copies (right_of w) c = cond (nat_lt c max_columns) ((w + c) ∷ []) []
 copies no_columns c = []

@@ -1,11 +1,13 @@
 //! All copies of input columns among those of an output.
 
 ghost use Rattle.std.specs.Prelude.{◌≡◌, [], ◌∷◌, ◌++◌, map, take, IfOk, OnOk};
+ghost use Rattle.vx_plan_nodes.specs.Describe.{kept_column};
 ghost use Rattle.vx_plan_nodes.specs.DescribeView.{copying_of, kept_columns};
-ghost use Rattle.vx_check_options.specs.Options.{places_from, copies, in_front, copied_lists};
+ghost use Rattle.vx_plan_nodes.specs.Outline.{entry_of};
+ghost use Rattle.vx_check_options.specs.Options.{places_from, entries_from, copies, in_front, copied_lists};
 
 use std::alloc::{AllocError, Global};
-use vx_plan_nodes::{Copying, KeptColumns};
+use vx_plan_nodes::{Copying, Entry, KeptColumns};
 
 // So many lists of copies of the same columns are kept at most.
 const MAX_LISTS: usize = 64;
@@ -25,6 +27,19 @@ fn add_kept(found: &mut Vec<usize>, kept: KeptColumns<'_>, column: usize) -> Res
     Ok(())
 }
 
+// Puts the places of the entries that keep the column behind the others.
+fn add_entries(found: &mut Vec<usize>, entries: &[Entry], column: usize) -> Result<(), AllocError>
+    ensures { OnOk result (found.new.items ≡ found.old.items ++ entries_from 0 (map (λ e. kept_column (entry_of e)) entries.now) column) }
+{
+    let copying = Copying::Entries(entries);
+    for place in 0..entries.len() {
+        if copying.source(place) == Some(column) {
+            found.push(place)?;
+        }
+    }
+    Ok(())
+}
+
 /// Puts all output columns that are copies of the input column behind the others.
 pub fn add_copies(
     found: &mut Vec<usize>,
@@ -35,6 +50,9 @@ pub fn add_copies(
 {
     if let Copying::Kept(kept) = copying {
         return add_kept(found, kept, column);
+    }
+    if let Copying::Entries(entries) = copying {
+        return add_entries(found, entries, column);
     }
     if let Some(place) = copying.place(column) {
         found.push(place)?;

@@ -1,5 +1,5 @@
 -- What is carried up is shown.
-use Rattle.std.proofs.Common.{ℕ, ◌≡◌, ◌+◌, ◌-◌, ◌==◌, nat_lt, nat_le, Bool, true, false, cond, not, ◌&&◌, ◌||◌, List, [], ◌∷◌, ◌++◌, map, flat_map, length, get_or, position, refl, sym, ap, ◌∙◌, arith, Option, Some, None, slice_get}
+use Rattle.std.proofs.Common.{ℕ, zero, suc, ◌≡◌, ◌+◌, ◌-◌, ◌<◌, ◌==◌, nat_lt, nat_le, Bool, true, false, cond, not, ◌&&◌, ◌||◌, List, [], ◌∷◌, ◌++◌, map, flat_map, length, get_or, position, refl, sym, ap, ◌∙◌, arith, Option, Some, None, slice_get}
 use Rattle.std.specs.List.{list_any, list_all, cons_option}
 use Rattle.std.proofs.lemmas.Bool.{eqb-true}
 use Rattle.std.proofs.lemmas.Bool.Decides.{nat_tests}
@@ -13,14 +13,15 @@ use Rattle.vx_plan_nodes.specs.Plan.{Route, by_hash, by_range, Part, one, any, a
 use Rattle.vx_plan_nodes.specs.Parts.{kind_part}
 use Rattle.vx_plan_nodes.specs.Phases.{first_columns}
 use Rattle.vx_plan_nodes.specs.Types.{width}
-use Rattle.vx_plan_nodes.specs.Describe.{Copying, whole_rows, columns_kept, left_of, right_of, no_columns, source, place, described, described_both}
-use Rattle.vx_check_rules.specs.Rules.{numbers_eq, route_eq, part_gives, has, contains, within, is_front, cons_both, entry_at, entry_both, copied, if_some, if_order, unless_one, sizes_match, not_replicated, inputs_match, order_given, first_rows_known, shows, orders, covers, numbers_below, keys_of, routed_alike, goes_on}
+use Rattle.vx_plan_nodes.specs.Describe.{Copying, whole_rows, columns_kept, entries_kept, kept_column, left_of, right_of, no_columns, source, place, described, described_both}
+use Rattle.vx_plan_nodes.specs.Describe as describe
+use Rattle.vx_check_rules.specs.Rules.{numbers_eq, route_eq, part_gives, has, contains, within, is_front, cons_both, entry_at, entry_both, copied_among, if_some, if_order, unless_one, sizes_match, not_replicated, inputs_match, order_given, first_rows_known, shows, orders, covers, numbers_below, keys_of, routed_alike, goes_on}
 use Rattle.vx_check_rules.specs.Refusal.{size_mismatch, replicated_input, inputs_not_matched, order_needed, part_not_shown, order_not_shown, key_not_shown, first_rows_open, first_failure, node_tests}
 use Rattle.vx_check_rules.specs.Behaviour.{sources, places, order_sources, entry_then, front_order, Way, Sorted, Keyed, way, sorted_by, order_after, order_over, if_so, own, bare, meet, behaviour, each_has, gives, sorts, is_column, has_copy, has_key, keys_give, shown_part, shown_order, shown_key, routed_at, part_up, first_part, first_order, kept_keys, first_pair, together, keys_up, node_part, node_order, node_keys}
 use Rattle.vx_check_rules.specs.Carried.{CopiesBack, OrdersCarried, KeysCarried, PartsCarried, with_claim, carried, CarriedIsShown}
 use Rattle.vx_check_rules.proofs.Bools.{or-left, or-right, all-more, any-more}
 use Rattle.vx_check_rules.proofs.ColumnFacts.{list_all-ext}
-use Rattle.vx_check_rules.proofs.Exact.{sources-kept, slice-at, orders-exactly, parts-exactly, key-whole, key-first, limit-key, join-keys, all-first}
+use Rattle.vx_check_rules.proofs.Exact.{slice-at, key-entries, orders-exactly, parts-exactly, key-whole, key-first, limit-key, join-keys, all-first}
 
 -- ---- columns
 
@@ -32,6 +33,20 @@ kept-back cols c d e =
     let w = position-Some (λ k. c == k) cols d 0 e in
     let is : c ≡ get_or cols d 0 = eqb-true c (get_or cols d 0) w.1 in
     slice-at cols d w.0 ∙ ap Some (sym is)
+
+column-is : (c : ℕ) (o : Option ℕ) → describe.is_column c o ≡ true → o ≡ Some c
+column-is c None h = cc
+column-is c (Some k) h = ap Some (sym (eqb-true c k h))
+
+entry-at : (ks : List (Option ℕ)) (d : ℕ) → d < length ks → source (entries_kept ks) d ≡ get_or ks d None
+entry-at [] d h = absurd (omega arith)
+entry-at (k ∷ ks) zero h = refl
+entry-at (k ∷ ks) (suc d) h = entry-at ks d (omega arith)
+
+entries-back : (ks : List (Option ℕ)) (c d : ℕ) → position (describe.is_column c) ks ≡ Some d → source (entries_kept ks) d ≡ Some c
+entries-back ks c d e =
+    let w = position-Some (describe.is_column c) ks d None e in
+    entry-at ks d w.0 ∙ column-is c (get_or ks d None) w.1
 
 left-back : (w c d : ℕ) → cond (nat_lt c w) (Some c) None ≡ Some d → cond (nat_lt d w) (Some d) None ≡ Some c
 left-back w c d e = by (nat_lt c w) refl e
@@ -56,6 +71,7 @@ right-back w c d e = by (nat_lt c 64) e
 pub copies-back : CopiesBack
 copies-back whole_rows c d e = cc
 copies-back (columns_kept cols) c d e = kept-back cols c d e
+copies-back (entries_kept ks) c d e = entries-back ks c d e
 copies-back (left_of w) c d e = left-back w c d e
 copies-back (right_of w) c d e = right-back w c d e
 copies-back no_columns c d e = cc
@@ -203,15 +219,6 @@ node-keys-carried catalog p = all-carried (behaviour catalog p).keyed (behaviour
 by-exact : (catalog : ℕ → Relation) (p : Plan) → ((x : List ℕ) → keys_of catalog p x ≡ shown_key (behaviour catalog p) x) → list_all (keys_of catalog p) (node_keys catalog p) ≡ true
 by-exact catalog p exact = list_all-ext (keys_of catalog p) (shown_key (behaviour catalog p)) (node_keys catalog p) exact ∙ node-keys-carried catalog p
 
--- of one list of keys
-one-list : (test : List ℕ → Bool) (keys : List (List ℕ)) → list_all test keys ≡ true → list_all test (keys ++ []) ≡ true
-one-list test keys h = list_all-append test keys [] ∙ and-both (list_all test keys) true h refl
-
-projected : (cols : List ℕ) (keys : List (List ℕ)) → list_all (λ x. if_some (copied cols x) (covers keys)) (kept_keys (columns_kept cols) keys) ≡ true
-projected cols keys =
-    kept-pass (columns_kept cols) (covers keys) (λ x. if_some (copied cols x) (covers keys)) keys
-    (λ key x e h. ap (λ o. if_some o (covers keys)) (sym (sources-kept cols x) ∙ places-back (columns_kept cols) key x e) ∙ h) (covers-each keys)
-
 pub places-whole : (cs : List ℕ) → places whole_rows cs ≡ Some cs
 places-whole [] = refl
 places-whole (c ∷ cs) = ap (cons_both (Some c)) (places-whole cs)
@@ -227,10 +234,10 @@ distinct-first n =
     (and-both _ _ (all-first (contains (first_columns n)) n ∙ within-same (first_columns n)) (sym (all-first (contains (numbers_below n)) n) ∙ within-same (numbers_below n))) refl
 
 unary-keys-carried : (op : Unary) (catalog : ℕ → Relation) (n : ℕ) (c : Claim) (p : Plan) → list_all (keys_of catalog (unary n c op p)) (node_keys catalog (unary n c op p)) ≡ true
-unary-keys-carried (select cs) catalog n c p = by-exact catalog (unary n c (select cs) p) (key-whole (claim p).keys)
+unary-keys-carried (select fs) catalog n c p = by-exact catalog (unary n c (select fs) p) (key-whole (claim p).keys)
 unary-keys-carried (sort false cols) catalog n c p = by-exact catalog (unary n c (sort false cols) p) (key-whole (claim p).keys)
 unary-keys-carried (sort true cols) catalog n c p = refl
-unary-keys-carried (project cols) catalog n c p = one-list (λ x. if_some (copied cols x) (covers (claim p).keys)) (kept_keys (columns_kept cols) (claim p).keys) (projected cols (claim p).keys)
+unary-keys-carried (project es) catalog n c p = by-exact catalog (unary n c (project es) p) (key-entries (map kept_column es) (claim p).keys)
 unary-keys-carried (distinct cols) catalog n c p = distinct-first (length cols)
 unary-keys-carried (group plain by aggregates) catalog n c p = by-exact catalog (unary n c (group plain by aggregates) p) (key-first (length by))
 unary-keys-carried (group partial by aggregates) catalog n c p = refl
@@ -379,8 +386,8 @@ claim-passes : (catalog : ℕ → Relation) (p : Plan) (c : Claim) → sizes_mat
     → first_failure (node_tests catalog (with_claim c p)) ≡ None
 claim-passes catalog (scan n d r true z) c s o i g f h k l = tests-pass _ _ _ _ _ _ _ _ s o i g f h k l
 claim-passes catalog (scan n d r false z) c s o i g f h k l = tests-pass _ _ _ _ _ _ _ _ s o i g f h k l
-claim-passes catalog (unary n d (select cs) p) c s o i g f h k l = tests-pass _ _ _ _ _ _ _ _ s o i g f h k l
-claim-passes catalog (unary n d (project cols) p) c s o i g f h k l = tests-pass _ _ _ _ _ _ _ _ s o i g f h k l
+claim-passes catalog (unary n d (select fs) p) c s o i g f h k l = tests-pass _ _ _ _ _ _ _ _ s o i g f h k l
+claim-passes catalog (unary n d (project es) p) c s o i g f h k l = tests-pass _ _ _ _ _ _ _ _ s o i g f h k l
 claim-passes catalog (unary n d (distinct cols) p) c s o i g f h k l = tests-pass _ _ _ _ _ _ _ _ s o i g f h k l
 claim-passes catalog (unary n d (sort of_parts cols) p) c s o i g f h k l = tests-pass _ _ _ _ _ _ _ _ s o i g f h k l
 claim-passes catalog (unary n d (group phase by aggregates) p) c s o i g f h k l = tests-pass _ _ _ _ _ _ _ _ s o i g f h k l

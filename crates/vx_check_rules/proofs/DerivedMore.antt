@@ -32,8 +32,8 @@ all-eight a b c d e f g h ha hb hc hd he hf hg hh =
 -- the first rows of a limit's input
 pub first-more : (catalog : ℕ → Relation) (p : Plan) → first_rows_known catalog p ≡ true → first_rows_known_derived catalog p ≡ true
 first-more catalog (scan n c r m z) h = h
-first-more catalog (unary n c (select cs) p) h = h
-first-more catalog (unary n c (project cols) p) h = h
+first-more catalog (unary n c (select fs) p) h = h
+first-more catalog (unary n c (project es) p) h = h
 first-more catalog (unary n c (distinct cols) p) h = h
 first-more catalog (unary n c (sort of_parts cols) p) h = h
 first-more catalog (unary n c (group phase by aggregates) p) h = h

@@ -67,8 +67,8 @@ routed-same w e f h (routed r cols) kept l m = within-same w e f h cols kept l m
 -- rows that have to meet
 pub meets-same : (w : ℕ) (e f : Equality) → SameBelow w e f → (op : Unary) (q : Part) → names_within w op ≡ true → all_below w (part_columns q) ≡ true
     → meet_equally e (described op).meets q ≡ unary_meets_equally f op q
-meets-same w e f h (select cs) q n l = refl
-meets-same w e f h (project cols) q n l = refl
+meets-same w e f h (select fs) q n l = refl
+meets-same w e f h (project es) q n l = refl
 meets-same w e f h (distinct cols) q n l = routed-same w e f h q cols l n
 meets-same w e f h (sort of_parts cols) q n l = refl
 meets-same w e f h (group plain by aggregates) q n l = routed-same w e f h q by l n

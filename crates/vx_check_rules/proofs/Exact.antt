@@ -1,6 +1,6 @@
 -- The behaviours say what the rule table says.
-use Rattle.std.proofs.Common.{ℕ, zero, suc, ◌≡◌, ◌+◌, ◌-◌, ◌<◌, ◌==◌, nat_lt, nat_le, Bool, true, false, cond, ◌&&◌, ◌||◌, List, [], ◌∷◌, ◌++◌, map, length, get_or, refl, sym, ap, ◌∙◌, arith, Option, Some, None, slice_get}
-use Rattle.std.specs.List.{list_any, list_all}
+use Rattle.std.proofs.Common.{ℕ, zero, suc, ◌≡◌, ◌+◌, ◌-◌, ◌<◌, ◌==◌, nat_lt, nat_le, Bool, true, false, cond, ◌&&◌, ◌||◌, List, [], ◌∷◌, ◌++◌, map, filter_map, length, get_or, refl, sym, ap, ◌∙◌, arith, Option, Some, None, slice_get}
+use Rattle.std.specs.List.{list_any, list_all, cons_option}
 use Rattle.std.proofs.lemmas.Bool.Decides.{nat_tests}
 use Rattle.std.proofs.lemmas.List.Folds.{list_any-append, list_all-append, list_all-map}
 use Rattle.vx_rows_values.proofs.Booleans.{and-left, and-right}
@@ -11,8 +11,8 @@ use Rattle.vx_plan_nodes.specs.Plan.{Route, Part, one, any, all, routed, Claim, 
 use Rattle.vx_plan_nodes.specs.Parts.{kind_part}
 use Rattle.vx_plan_nodes.specs.Phases.{first_columns}
 use Rattle.vx_plan_nodes.specs.Types.{width}
-use Rattle.vx_plan_nodes.specs.Describe.{Copying, whole_rows, columns_kept, left_of, right_of, no_columns, source, keys_kept, key_of_first, paired_on, matched_on, described}
-use Rattle.vx_check_rules.specs.Rules.{part_gives, has, contains, within, is_front, cons_both, if_some, entry_both, if_order, unless_one, through, copied, copied_order, left_columns, right_columns, routed_within, routed_alike, alike_shows, join_shows, semi_join_shows, both_have, kind_shows, unary_shows, keeps_apart, shows, sizes_match, not_replicated, inputs_match, order_given, first_rows_known, part_shown, order_shown, covers, numbers_below, shifted, goes_on, orders, keys_of, keys_shown, join_keys}
+use Rattle.vx_plan_nodes.specs.Describe.{Copying, whole_rows, columns_kept, entries_kept, kept_column, left_of, right_of, no_columns, source, keys_kept, key_of_first, paired_on, matched_on, described}
+use Rattle.vx_check_rules.specs.Rules.{part_gives, has, contains, within, is_front, cons_both, if_some, entry_both, if_order, unless_one, through, copied, copied_from, copied_among, copied_order, copied_order_from, left_columns, right_columns, routed_within, routed_alike, alike_shows, join_shows, semi_join_shows, both_have, kind_shows, unary_shows, keeps_apart, shows, sizes_match, not_replicated, inputs_match, order_given, first_rows_known, part_shown, order_shown, covers, numbers_below, shifted, goes_on, orders, keys_of, keys_shown, join_keys}
 use Rattle.vx_check_rules.specs.Refusal.{size_mismatch, part_not_shown, inputs_not_matched, replicated_input, order_not_shown, order_needed, key_not_shown, first_rows_open, first_failure}
 use Rattle.vx_check_rules.specs.Behaviour.{sources, order_sources, Way, way, sorted_by, keyed_by, if_so, own, bare, over, ways_over, ways_if_fit, keyed_after, keyed_held, behaviour, fits, each_has, gives, sorts, is_column, has_copy, has_key, keys_give, shown_part, shown_order, shown_key}
 use Rattle.vx_check_rules.specs.Exactly.{FitsExactly, PartsExactly, OrdersExactly, KeysExactly, VerdictsExactly}
@@ -28,6 +28,10 @@ sources-whole (c ∷ cs) = ap (cons_both (Some c)) (sources-whole cs)
 pub sources-kept : (cols cs : List ℕ) → sources (columns_kept cols) cs ≡ copied cols cs
 sources-kept cols [] = refl
 sources-kept cols (c ∷ cs) = ap (cons_both (slice_get cols c)) (sources-kept cols cs)
+
+pub sources-entries : (ks : List (Option ℕ)) (cs : List ℕ) → sources (entries_kept ks) cs ≡ copied_from ks cs
+sources-entries ks [] = refl
+sources-entries ks (c ∷ cs) = ap (cons_both (source (entries_kept ks) c)) (sources-entries ks cs)
 
 cons-cond : (a b : Bool) (c : ℕ) (cs : List ℕ) → cons_both (cond a (Some c) None) (cond b (Some cs) None) ≡ cond (a && b) (Some (c ∷ cs)) None
 cons-cond true true c cs = refl
@@ -53,6 +57,10 @@ pub order-copied : (cols : List ℕ) (order : List OrderEntry) → order_sources
 order-copied cols [] = refl
 order-copied cols (e ∷ order) = ap (entry_both (slice_get cols e.column) e) (order-copied cols order)
 
+pub order-entries : (ks : List (Option ℕ)) (order : List OrderEntry) → order_sources (entries_kept ks) order ≡ copied_order_from ks order
+order-entries ks [] = refl
+order-entries ks (e ∷ order) = ap (entry_both (source (entries_kept ks) e.column) e) (order-entries ks order)
+
 sorts-whole : (below order : List OrderEntry) → sorts (sorted_by whole_rows below) order ≡ is_front order below
 sorts-whole below order = ap (λ o. if_order o (λ given. is_front given below)) (order-whole_rows order)
 
@@ -64,11 +72,16 @@ order-kept : (cols : List ℕ) (below order : List OrderEntry)
 order-kept cols below order =
     sym (or-false (sorts (sorted_by (columns_kept cols) below) order) ∙ ap (λ o. if_order o (λ given. is_front given below)) (order-copied cols order))
 
+order-from : (ks : List (Option ℕ)) (below order : List OrderEntry)
+    → if_order (copied_order_from ks order) (λ o. is_front o below) ≡ list_any (λ s. sorts s order) (sorted_by (entries_kept ks) below ∷ [])
+order-from ks below order =
+    sym (or-false (sorts (sorted_by (entries_kept ks) below) order) ∙ ap (λ o. if_order o (λ given. is_front given below)) (order-entries ks order))
+
 unary-orders : (op : Unary) (catalog : ℕ → Relation) (n : ℕ) (c : Claim) (p : Plan) (order : List OrderEntry)
     → orders catalog (unary n c op p) order ≡ shown_order (behaviour catalog (unary n c op p)) order
-unary-orders (select cs) catalog n c p order = order-whole (claim p).order order
+unary-orders (select fs) catalog n c p order = order-whole (claim p).order order
 unary-orders (sort of_parts given) catalog n c p order = order-whole given order
-unary-orders (project cols) catalog n c p order = order-kept cols (claim p).order order
+unary-orders (project es) catalog n c p order = order-from (map kept_column es) (claim p).order order
 unary-orders (distinct cols) catalog n c p order = order-kept cols (claim p).order order
 unary-orders (group plain by aggregates) catalog n c p order = order-kept by (claim p).order order
 unary-orders (group partial by aggregates) catalog n c p order = order-kept by (claim p).order order
@@ -135,6 +148,9 @@ each-bare q x = and-true (part_gives q x)
 own-kept : (cols : List ℕ) (p : Plan) (q : Part) → gives (way (columns_kept cols) (own p ∷ [])) q ≡ unless_one (through (has p) (copied cols)) q
 own-kept cols p q = gives-through (columns_kept cols) (own p ∷ []) (has p) (copied cols) (each-own p) (sources-kept cols) q ∙ sym (through-unless (has p) (copied cols) q)
 
+own-entries : (ks : List (Option ℕ)) (p : Plan) (q : Part) → gives (way (entries_kept ks) (own p ∷ [])) q ≡ unless_one (through (has p) (copied_from ks)) q
+own-entries ks p q = gives-through (entries_kept ks) (own p ∷ []) (has p) (copied_from ks) (each-own p) (sources-entries ks) q ∙ sym (through-unless (has p) (copied_from ks) q)
+
 bare-whole : (p q : Part) → gives (way whole_rows (bare p ∷ [])) q ≡ unless_one (part_gives p) q
 bare-whole p q = gives-whole (bare p ∷ []) (part_gives p) (each-bare p) q
 
@@ -147,9 +163,10 @@ if-there a b w q had e is = rw e (here a w q had is)
 
 unary-parts : (op : Unary) (p : Plan) (q : Part) → (is_one (size p) || keeps_apart op p) ≡ true
     → (is_one (size p) || unless_one (unary_shows op p) q) ≡ (is_one (size p) || shown_part (over (described op) p) q)
-unary-parts (select cs) p q e = here (is_one (size p)) (way whole_rows (own p ∷ [])) q (unless_one (has p) q) (gives-whole (own p ∷ []) (has p) (each-own p) q)
+unary-parts (select fs) p q e = here (is_one (size p)) (way whole_rows (own p ∷ [])) q (unless_one (has p) q) (gives-whole (own p ∷ []) (has p) (each-own p) q)
 unary-parts (sort of_parts cols) p q e = here (is_one (size p)) (way whole_rows (own p ∷ [])) q (unless_one (has p) q) (gives-whole (own p ∷ []) (has p) (each-own p) q)
-unary-parts (project cols) p q e = here (is_one (size p)) (way (columns_kept cols) (own p ∷ [])) q (unless_one (through (has p) (copied cols)) q) (own-kept cols p q)
+unary-parts (project es) p q e =
+    here (is_one (size p)) (way (entries_kept (map kept_column es)) (own p ∷ [])) q (unless_one (through (has p) (copied_from (map kept_column es))) q) (own-entries (map kept_column es) p q)
 unary-parts (distinct cols) p q e =
     if-there (is_one (size p)) (is_one (size p) || (has p all || routed_within (claim p).part cols)) (way (columns_kept cols) (own p ∷ [])) q (unless_one (through (has p) (copied cols)) q) e (own-kept cols p q)
 unary-parts (group plain by aggregates) p q e =
@@ -161,9 +178,9 @@ unary-parts (limit m) p q e = here (is_one (size p)) (way whole_rows (own p ∷ 
 
 -- the way of an operator over one input gives what the operator shows
 pub unary-gives : (op : Unary) (p : Plan) (q : Part) → gives (way (described op).copying (own p ∷ [])) q ≡ unless_one (unary_shows op p) q
-unary-gives (select cs) p q = gives-whole (own p ∷ []) (has p) (each-own p) q
+unary-gives (select fs) p q = gives-whole (own p ∷ []) (has p) (each-own p) q
 unary-gives (sort of_parts cols) p q = gives-whole (own p ∷ []) (has p) (each-own p) q
-unary-gives (project cols) p q = own-kept cols p q
+unary-gives (project es) p q = own-entries (map kept_column es) p q
 unary-gives (distinct cols) p q = own-kept cols p q
 unary-gives (group plain by aggregates) p q = own-kept by p q
 unary-gives (group partial by aggregates) p q = own-kept by p q
@@ -302,9 +319,9 @@ again-if : (a b : Bool) (w : Way) → (a || b) ≡ (a || list_any (λ x. true) (
 again-if a b w = or-again a b ∙ ap (λ x. a || x) (sym (fits-if (a || b) w))
 
 unary-fits : (op : Unary) (p : Plan) → (is_one (size p) || keeps_apart op p) ≡ (is_one (size p) || fits (over (described op) p))
-unary-fits (select cs) p = refl
+unary-fits (select fs) p = refl
 unary-fits (sort of_parts cols) p = refl
-unary-fits (project cols) p = refl
+unary-fits (project es) p = refl
 unary-fits (distinct cols) p = again-if (is_one (size p)) (has p all || routed_within (claim p).part cols) (way (columns_kept cols) (own p ∷ []))
 unary-fits (group plain by aggregates) p = again-if (is_one (size p)) (has p all || routed_within (claim p).part by) (way (columns_kept by) (own p ∷ []))
 unary-fits (group partial by aggregates) p = refl
@@ -344,37 +361,25 @@ key-whole keys cols = sym (or-false (covers keys cols && true) ∙ and-true (cov
 key-one : (k : Copying) (keys : List (List ℕ)) (cols : List ℕ) → has_key k keys cols ≡ list_any (λ k. keys_give k cols) (keyed_by ((k, keys) ∷ []) ∷ [])
 key-one k keys cols = sym (or-false (has_key k keys cols && true) ∙ and-true (has_key k keys cols))
 
--- those of kept columns, where all columns are kept ones
-record Copied (cols xs : List ℕ) : Type 0 where
-  from : List ℕ
-  are : copied cols xs ≡ Some from
-  same : (c : ℕ) → has_copy (columns_kept cols) xs c ≡ contains from c
-
 pub slice-at : (xs : List ℕ) (i : ℕ) → i < length xs → slice_get xs i ≡ Some (get_or xs i 0)
 slice-at [] i h = absurd (omega arith)
 slice-at (x ∷ xs) zero h = refl
 slice-at (x ∷ xs) (suc i) h = slice-at xs i (omega arith)
 
-all-copied : (cols xs : List ℕ) → within xs (numbers_below (length cols)) ≡ true → Copied cols xs
-all-copied cols [] h = record { from = []; are = refl; same = λ c. refl }
-all-copied cols (x ∷ xs) h =
-    let l : nat_lt x (length cols) ≡ true = sym (contains-below (length cols) x) ∙ and-left (contains (numbers_below (length cols)) x) (within xs (numbers_below (length cols))) h in
-    let at : slice_get cols x ≡ Some (get_or cols x 0) = slice-at cols x (grind (arith, nat_tests, l)) in
-    let rest = all-copied cols xs (and-right (contains (numbers_below (length cols)) x) (within xs (numbers_below (length cols))) h) in
-    record {
-      from = get_or cols x 0 ∷ rest.from;
-      are = ap (λ o. cons_both o (copied cols xs)) at ∙ ap (cons_both (Some (get_or cols x 0))) rest.are;
-      same = λ c. ap (λ o. is_column o c || has_copy (columns_kept cols) xs c) at ∙ ap (λ b. (c == get_or cols x 0) || b) (rest.same c);
-    }
+-- those of entries that keep columns
+copied-copies : (ks : List (Option ℕ)) (xs : List ℕ) (c : ℕ) → has_copy (entries_kept ks) xs c ≡ contains (copied_among ks xs) c
+copied-copies ks [] c = refl
+copied-copies ks (x ∷ xs) c = by (source (entries_kept ks) x) (copied-copies ks xs c)
+  where
+    by : (o : Option ℕ) → has_copy (entries_kept ks) xs c ≡ contains (copied_among ks xs) c → (is_column o c || has_copy (entries_kept ks) xs c) ≡ contains (cons_option o (copied_among ks xs)) c
+    by None e = e
+    by (Some d) e = ap (λ b. (c == d) || b) e
 
-key-kept : (cols : List ℕ) (keys : List (List ℕ)) (xs : List ℕ) → within xs (numbers_below (length cols)) ≡ true
-    → if_some (copied cols xs) (covers keys) ≡ list_any (λ k. keys_give k xs) (keyed_by ((columns_kept cols, keys) ∷ []) ∷ [])
-key-kept cols keys xs h =
-    let all = all-copied cols xs h in
-    ap (λ o. if_some o (covers keys)) all.are
-    ∙ (sym (list_any-ext (λ key. list_all (has_copy (columns_kept cols) xs) key) (λ key. list_all (contains all.from) key) keys
-    (λ key. list_all-ext (has_copy (columns_kept cols) xs) (contains all.from) key all.same))
-    ∙ key-one (columns_kept cols) keys xs)
+pub key-entries : (ks : List (Option ℕ)) (keys : List (List ℕ)) (xs : List ℕ) → covers keys (copied_among ks xs) ≡ list_any (λ k. keys_give k xs) (keyed_by ((entries_kept ks, keys) ∷ []) ∷ [])
+key-entries ks keys xs =
+    sym (list_any-ext (λ key. list_all (has_copy (entries_kept ks) xs) key) (λ key. list_all (contains (copied_among ks xs)) key) keys
+    (λ key. list_all-ext (has_copy (entries_kept ks) xs) (contains (copied_among ks xs)) key (copied-copies ks xs)))
+    ∙ key-one (entries_kept ks) keys xs
 
 -- those behind a left input's columns
 behind : (w c x : ℕ) → is_column (cond (nat_le w x) (Some (x - w)) None) c ≡ ((w + c) == x)
@@ -453,10 +458,10 @@ limit-key false keys cols = key-whole keys cols
 
 unary-key : (op : Unary) (catalog : ℕ → Relation) (n : ℕ) (c : Claim) (p : Plan) (cols : List ℕ) → within cols (numbers_below (width catalog (unary n c op p))) ≡ true
     → keys_of catalog (unary n c op p) cols ≡ shown_key (behaviour catalog (unary n c op p)) cols
-unary-key (select cs) catalog n c p cols e = key-whole (claim p).keys cols
+unary-key (select fs) catalog n c p cols e = key-whole (claim p).keys cols
 unary-key (sort false kept) catalog n c p cols e = key-whole (claim p).keys cols
 unary-key (sort true kept) catalog n c p cols e = refl
-unary-key (project kept) catalog n c p cols e = key-kept kept (claim p).keys cols e
+unary-key (project es) catalog n c p cols e = key-entries (map kept_column es) (claim p).keys cols
 unary-key (distinct kept) catalog n c p cols e =
     (ap (λ b. within (numbers_below (length kept)) cols && b) e ∙ and-true (within (numbers_below (length kept)) cols)) ∙ key-first (length kept) cols
 unary-key (group plain by aggregates) catalog n c p cols e = key-first (length by) cols

@@ -208,8 +208,8 @@ key-at w ks keys i k same l h e = go ks i (ap (list_all (all_below w)) same ∙ 
 
 -- of a projection, by its operator
 pub projected-is : (catalog : ℕ → Relation) (n : ℕ) (c : Claim) (op : Unary) (p : Plan) (key : List ℕ) → key_below catalog (unary n c op p) key ≡ projected_below catalog op p key
-projected-is catalog n c (select cs) p key = refl
-projected-is catalog n c (project cols) p key = refl
+projected-is catalog n c (select fs) p key = refl
+projected-is catalog n c (project es) p key = refl
 projected-is catalog n c (distinct cols) p key = refl
 projected-is catalog n c (sort of_parts cols) p key = refl
 projected-is catalog n c (group phase by aggregates) p key = refl
@@ -217,8 +217,8 @@ projected-is catalog n c (limit m) p key = refl
 
 -- of a limit, by its operator
 pub first-is : (catalog : ℕ → Relation) (n : ℕ) (c : Claim) (op : Unary) (p : Plan) → first_rows_known_derived catalog (unary n c op p) ≡ first_known_below catalog op p
-first-is catalog n c (select cs) p = refl
-first-is catalog n c (project cols) p = refl
+first-is catalog n c (select fs) p = refl
+first-is catalog n c (project es) p = refl
 first-is catalog n c (distinct cols) p = refl
 first-is catalog n c (sort of_parts cols) p = refl
 first-is catalog n c (group phase by aggregates) p = refl

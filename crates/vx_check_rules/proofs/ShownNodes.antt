@@ -1,5 +1,5 @@
 -- The orders that a typed node has are of its columns.
-use Rattle.std.proofs.Common.{◌≡◌, ◌≤◌, ℕ, ◌+◌, nat_lt, Bool, true, false, List, [], ◌∷◌, map, length, get_or, refl, ap, sym, ◌∙◌, subst, arith, true≢false}
+use Rattle.std.proofs.Common.{◌≡◌, ◌≤◌, ℕ, ◌+◌, nat_lt, Bool, true, false, List, [], ◌∷◌, map, length, get_or, refl, ap, sym, ◌∙◌, subst, arith, true≢false, Option}
 use Rattle.std.proofs.lemmas.Bool.{and_parts}
 use Rattle.std.proofs.lemmas.Bool.Decides.{nat_tests}
 use Rattle.vx_rows_values.specs.Lists.{is_some_list}
@@ -12,7 +12,7 @@ use Rattle.vx_plan_nodes.specs.Plan.{by_range, routed, Claim, claim, Size, Unary
 use Rattle.vx_plan_nodes.specs.Phases.{phase_fits}
 use Rattle.vx_plan_nodes.specs.Typed.{are_columns, is_unary, typed}
 use Rattle.vx_plan_nodes.specs.Types.{types_of, width}
-use Rattle.vx_plan_nodes.specs.Describe.{Copying, whole_rows, columns_kept, left_of, right_of, no_columns, OrderAfter, described}
+use Rattle.vx_plan_nodes.specs.Describe.{Copying, whole_rows, columns_kept, entries_kept, kept_column, left_of, right_of, no_columns, OrderAfter, described}
 use Rattle.vx_plan_facts.specs.Determined.{Columns}
 use Rattle.vx_plan_facts.specs.Equal.{Equality}
 use Rattle.vx_plan_facts.specs.FactsView.{facts_of}
@@ -32,8 +32,8 @@ use Rattle.vx_check_rules.proofs.NamedNodes.{order-below, merge-below}
 -- the order of an output by its description
 pub unary-order-by : (w : ℕ) (op : Unary) (e : Equality) (det : Columns → Columns) (below : List OrderEntry)
     → unary_order w op e det below ≡ order_by w (described op).copying (described op).order e det below
-unary-order-by w (select cs) e det below = refl
-unary-order-by w (project cols) e det below = refl
+unary-order-by w (select fs) e det below = refl
+unary-order-by w (project es) e det below = refl
 unary-order-by w (distinct cols) e det below = refl
 unary-order-by w (sort of_parts order) e det below = refl
 unary-order-by w (group plain by aggregates) e det below = refl
@@ -46,6 +46,7 @@ pub whole-by : (k : Copying) → is_whole k ≡ true → (w : ℕ) (after : Orde
     → order_by w k after e det below ≡ order_after after below
 whole-by whole_rows h w after e det below = refl
 whole-by (columns_kept cols) h w after e det below = absurd (true≢false (sym h))
+whole-by (entries_kept ks) h w after e det below = absurd (true≢false (sym h))
 whole-by (left_of v) h w after e det below = absurd (true≢false (sym h))
 whole-by (right_of v) h w after e det below = absurd (true≢false (sym h))
 whole-by no_columns h w after e det below = absurd (true≢false (sym h))
@@ -54,12 +55,16 @@ pub carried-by : (k : Copying) → is_whole k ≡ false → (w : ℕ) (after : O
     → order_by w k after e det below ≡ front_copies w k e (short det below)
 carried-by whole_rows h w after e det below = absurd (true≢false h)
 carried-by (columns_kept cols) h w after e det below = refl
+carried-by (entries_kept ks) h w after e det below = refl
 carried-by (left_of v) h w after e det below = refl
 carried-by (right_of v) h w after e det below = refl
 carried-by no_columns h w after e det below = refl
 
 kept-whole : {A : Type 0} (cols : List ℕ) → is_whole (columns_kept cols) ≡ true → A
 kept-whole cols e = absurd (true≢false (sym e))
+
+entries-whole : {A : Type 0} (ks : List (Option ℕ)) → is_whole (entries_kept ks) ≡ true → A
+entries-whole ks e = absurd (true≢false (sym e))
 
 longer-below : (v w : ℕ) (cols : List ℕ) → v ≤ w → all_below v cols ≡ true → all_below w cols ≡ true
 longer-below v w [] l h = refl
@@ -84,8 +89,8 @@ sorted-columns catalog n c of_parts order p (s, same, typed_x) =
 module _ (catalog : List Relation) (k : rust_known.KnownColumns) where
   sorted-below : (n : ℕ) (c : Claim) (op : Unary) (p : Plan) → IsKnownTyped catalog k (unary n c op p) → IsKnownOf (relation_at catalog) k p
       → is_whole (described op).copying ≡ true → all_below (width (relation_at catalog) (unary n c op p)) (order_columns (order_after (described op).order (claim p).order)) ≡ true
-  sorted-below n c (select cs) p h under whole = order-below (relation_at catalog) k p under
-  sorted-below n c (project cols) p h under whole = kept-whole cols whole
+  sorted-below n c (select fs) p h under whole = order-below (relation_at catalog) k p under
+  sorted-below n c (project es) p h under whole = entries-whole (map kept_column es) whole
   sorted-below n c (distinct cols) p h under whole = kept-whole cols whole
   sorted-below n c (sort of_parts order) p h under whole = sorted-columns catalog n c of_parts order p h.typed
   sorted-below n c (group plain by aggregates) p h under whole = kept-whole by whole

@@ -5,11 +5,11 @@ use Rattle.vx_rows_values.specs.declared.value.ColType.{ColType}
 use Rattle.vx_rows_values.specs.Types.{type_at}
 use Rattle.vx_catalog_relations.specs.Relation.{Relation}
 use Rattle.vx_plan_nodes.specs.Plan.{Unary, select, project, distinct, sort, group, limit, Binary, union, join, semi_join, Plan, scan, unary, binary, exchange}
-use Rattle.vx_plan_nodes.specs.Types.{aggregate_type, unary_types, unary_width, binary_types, binary_width, types_of, width}
+use Rattle.vx_plan_nodes.specs.Types.{entry_type, aggregate_type, unary_types, unary_width, binary_types, binary_width, types_of, width}
 
 unary_types-width : (op : Unary) (types : List ColType) → length (unary_types op types) ≡ unary_width op (length types)
-unary_types-width (select cs) types = refl
-unary_types-width (project cols) types = length-map cols (type_at types)
+unary_types-width (select fs) types = refl
+unary_types-width (project es) types = length-map es (entry_type types)
 unary_types-width (distinct cols) types = length-map cols (type_at types)
 unary_types-width (sort of_parts cols) types = refl
 unary_types-width (group phase by aggregates) types =

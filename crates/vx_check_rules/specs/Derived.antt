@@ -165,9 +165,9 @@ goes_on_derived catalog k p = goes_on_with catalog k p (claim p).part (claim p).
 
 -- the orders that a node has by the table
 abbrev pub unary_order : ℕ → Unary → Equality → (Columns → Columns) → List OrderEntry → List OrderEntry
-unary_order w (select cs) e det below = below
+unary_order w (select fs) e det below = below
 unary_order w (sort of_parts order) e det below = order
-unary_order w (project cols) e det below = front_copies w (described (project cols)).copying e (short det below)
+unary_order w (project es) e det below = front_copies w (described (project es)).copying e (short det below)
 unary_order w (distinct cols) e det below = front_copies w (described (distinct cols)).copying e (short det below)
 unary_order w (group phase by aggregates) e det below = front_copies w (described (group phase by aggregates)).copying e (short det below)
 unary_order w (limit m) e det below = below
@@ -202,8 +202,8 @@ members w s = filter s (first_columns w)
 
 -- of a projection: the input columns that these are copies of determine a key that the input claims
 abbrev pub key_below : (ℕ → Relation) → Plan → List ℕ → Bool
-key_below catalog (unary n c (project cols) p) key =
-    list_any (list_all (determined catalog p (sources_in (width catalog (unary n c (project cols) p)) (described (project cols)).copying (set_of key)))) (claim p).keys
+key_below catalog (unary n c (project es) p) key =
+    list_any (list_all (determined catalog p (sources_in (width catalog (unary n c (project es) p)) (described (project es)).copying (set_of key)))) (claim p).keys
 key_below catalog p key = false
 
 -- K8: what a key determines holds one that the table shows

@@ -1,5 +1,5 @@
 -- What the second table's tests ask for at a node of whose columns is known, and what is still known after them.
-use Rattle.std.specs.Prelude.{◌≡◌, ◌&&◌, ℕ, Bool, true, false, List, length}
+use Rattle.std.specs.Prelude.{◌≡◌, ◌&&◌, ℕ, Bool, true, false, List, map, length}
 use Rattle.std.specs.List.{list_all, list_any}
 use Rattle.vx_rows_values.specs.declared.order.OrderEntry.{OrderEntry}
 use Rattle.vx_rows_values.specs.Order.{order_columns}
@@ -14,7 +14,7 @@ use Rattle.vx_plan_facts.specs.Asking.{Reaches}
 use Rattle.vx_plan_facts.specs.Determined.{Columns, sources_in, determined}
 use Rattle.vx_plan_facts.specs.Equal.{Equality, equal_at}
 use Rattle.vx_plan_facts.specs.Following.{set_of, short, order_follows}
-use Rattle.vx_plan_nodes.specs.Describe.{Copying, whole_rows, columns_kept, OrderAfter}
+use Rattle.vx_plan_nodes.specs.Describe.{Copying, whole_rows, entries_kept, kept_column, OrderAfter}
 use Rattle.vx_check_rules.specs.Behaviour.{order_after}
 use Rattle.vx_check_rules.specs.Derived.{is_total_derived, front_copies}
 
@@ -92,8 +92,8 @@ pub record AreJoined (catalog : ℕ → Relation) (k : rust_known.KnownColumns) 
 
 -- the input columns that those of a projection's key are copies of determine a key that the input claims
 abbrev pub projected_below : (ℕ → Relation) → Unary → Plan → List ℕ → Bool
-projected_below catalog (project cols) p key =
-    list_any (list_all (determined catalog p (sources_in (length cols) (columns_kept cols) (set_of key)))) (claim p).keys
+projected_below catalog (project es) p key =
+    list_any (list_all (determined catalog p (sources_in (length es) (entries_kept (map kept_column es)) (set_of key)))) (claim p).keys
 projected_below catalog op p key = false
 
 -- a key of columns of the output of an operator over a known input

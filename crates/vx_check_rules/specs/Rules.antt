@@ -1,9 +1,10 @@
 -- The rule table (our own): what a node may claim, from size names, claims and columns alone, and at a scan from what the catalog declares. Every rule is a test that computes.
-use Rattle.std.specs.Prelude.{ℕ, zero, suc, ◌+◌, ◌-◌, ◌==◌, nat_lt, nat_le, Bool, true, false, cond, not, ◌&&◌, ◌||◌, List, [], ◌∷◌, map, length, Option, Some, None, slice_get}
+use Rattle.std.specs.Prelude.{ℕ, zero, suc, ◌+◌, ◌-◌, ◌==◌, nat_lt, nat_le, Bool, true, false, cond, not, ◌&&◌, ◌||◌, List, [], ◌∷◌, map, filter_map, length, Option, Some, None, slice_get}
 use Rattle.std.specs.List.{list_all, list_any}
 use Rattle.vx_rows_values.specs.declared.order.OrderEntry.{OrderEntry}
 use Rattle.vx_rows_values.specs.Order.{order_columns, entry_eq}
 use Rattle.vx_plan_nodes.specs.Plan.{Route, by_hash, by_range, Part, one, any, all, routed, Unary, select, project, distinct, sort, group, limit, by_merging, Binary, union, join, semi_join, ExchangeKind, route_to, round, broadcast, gather, Plan, scan, unary, binary, exchange, claim, size, size_eq, is_one, Claim, plain, partial, final, concat, left_order, right_order}
+use Rattle.vx_plan_nodes.specs.Describe.{entries_kept, kept_column, source}
 use Rattle.vx_catalog_relations.specs.Relation.{Relation}
 use Rattle.vx_plan_nodes.specs.Types.{width}
 
@@ -64,6 +65,14 @@ abbrev pub copied : List ℕ → List ℕ → Option (List ℕ)
 copied kept [] = Some []
 copied kept (c ∷ cs) = cons_both (slice_get kept c) (copied kept cs)
 
+-- the input columns that these output columns copy, where each of them is an entry that keeps one; and those that some of them copy
+abbrev pub copied_from : List (Option ℕ) → List ℕ → Option (List ℕ)
+copied_from ks [] = Some []
+copied_from ks (c ∷ cs) = cons_both (source (entries_kept ks) c) (copied_from ks cs)
+
+abbrev pub copied_among : List (Option ℕ) → List ℕ → List ℕ
+copied_among ks cols = filter_map (source (entries_kept ks)) cols
+
 -- the test of the columns, if there are any to test
 abbrev pub if_some : Option (List ℕ) → (List ℕ → Bool) → Bool
 if_some None test = false
@@ -82,6 +91,11 @@ entry_both _ _ _ = None
 abbrev pub copied_order : List ℕ → List OrderEntry → Option (List OrderEntry)
 copied_order kept [] = Some []
 copied_order kept (e ∷ order) = entry_both (slice_get kept e.column) e (copied_order kept order)
+
+-- and of those that they copy as entries
+abbrev pub copied_order_from : List (Option ℕ) → List OrderEntry → Option (List OrderEntry)
+copied_order_from ks [] = Some []
+copied_order_from ks (e ∷ order) = entry_both (source (entries_kept ks) e.column) e (copied_order_from ks order)
 
 -- the test of the order, if there is one to test
 abbrev pub if_order : Option (List OrderEntry) → (List OrderEntry → Bool) → Bool
@@ -177,9 +191,9 @@ first_rows_known catalog _ = true
 
 -- the parts that an operator shows of its input's
 abbrev pub unary_shows : Unary → Plan → Part → Bool
-unary_shows (select cs) p q = has p q
+unary_shows (select fs) p q = has p q
 unary_shows (sort of_parts cols) p q = has p q
-unary_shows (project cols) p q = through (has p) (copied cols) q
+unary_shows (project es) p q = through (has p) (copied_from (map kept_column es)) q
 unary_shows (distinct cols) p q = through (has p) (copied cols) q
 unary_shows (group phase by aggregates) p q = through (has p) (copied by) q
 unary_shows (limit m) p q = has p q
@@ -237,9 +251,9 @@ part_shown catalog p = is_one (size p) || unless_one (shows catalog p) (claim p)
 
 -- the orders that an operator shows
 abbrev pub unary_orders : Unary → List OrderEntry → List OrderEntry → Bool
-unary_orders (select cs) below order = is_front order below
+unary_orders (select fs) below order = is_front order below
 unary_orders (sort of_parts given) below order = is_front order given
-unary_orders (project cols) below order = if_order (copied_order cols order) (λ o. is_front o below)
+unary_orders (project es) below order = if_order (copied_order_from (map kept_column es) order) (λ o. is_front o below)
 unary_orders (distinct cols) below order = if_order (copied_order cols order) (λ o. is_front o below)
 unary_orders (group phase by aggregates) below order = if_order (copied_order by order) (λ o. is_front o below)
 unary_orders (limit m) below order = is_front order below
@@ -274,9 +288,9 @@ covers keys x = list_any (λ k. within k x) keys
 
 -- the keys that an operator shows, as sets of columns
 abbrev pub unary_keys : Unary → List (List ℕ) → List ℕ → Bool
-unary_keys (select cs) keys x = covers keys x
+unary_keys (select fs) keys x = covers keys x
 unary_keys (sort of_parts cols) keys x = not of_parts && covers keys x
-unary_keys (project cols) keys x = if_some (copied cols x) (covers keys)
+unary_keys (project es) keys x = covers keys (copied_among (map kept_column es) x)
 unary_keys (distinct cols) keys x = within (numbers_below (length cols)) x && within x (numbers_below (length cols))
 unary_keys (group plain by aggregates) keys x = within (numbers_below (length by)) x
 unary_keys (group partial by aggregates) keys x = false

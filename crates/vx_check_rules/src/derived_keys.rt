@@ -28,7 +28,7 @@ use crate::nodes::{claimed_keys, claimed_order, has_one_worker};
 use crate::orders::is_order_total;
 use vx_catalog_relations::Catalog;
 use vx_plan_facts::{ColumnSet, KnownColumns};
-use vx_plan_nodes::{Copying, KeptColumns, TypedNode, Unary};
+use vx_plan_nodes::{Copying, TypedNode, Unary};
 
 // Whether all columns of one of the keys are in the set.
 fn is_key_within(keys: &[Vec<usize>], set: &ColumnSet) -> bool
@@ -131,8 +131,8 @@ fn is_projected_below(
     ensures kept { StaysKnown known.old known.new (plan_of input.now) }
 {
     match operator {
-        Unary::Project(kept) => {
-            let copying = Copying::Kept(KeptColumns::Outputs(kept.as_slice()));
+        Unary::Project(_) => {
+            let copying = operator.described().copying;
             let found = known.determined(input, &sources_of(copying, key));
             is_key_within(claimed_keys(input), &found)
         }

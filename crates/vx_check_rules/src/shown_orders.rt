@@ -43,6 +43,7 @@ fn is_whole(copying: Copying<'_>) -> bool
     match copying {
         Copying::WholeRows => true,
         Copying::Kept(_) => false,
+        Copying::Entries(_) => false,
         Copying::Left(_) => false,
         Copying::Right(_) => false,
         Copying::NoColumns => false,

@@ -22,8 +22,8 @@ equal_needed names [] = codes " needs all rows at one worker"
 equal_needed names (c ∷ cols) = codes " needs rows that are equal in " ++ (list_text names (c ∷ cols) ++ codes " at one worker")
 
 abbrev pub unary_needs : List Name → Unary → List ℕ
-unary_needs names (select cs) = []
-unary_needs names (project cols) = []
+unary_needs names (select fs) = []
+unary_needs names (project es) = []
 unary_needs names (distinct cols) = equal_needed names cols
 unary_needs names (sort of_parts cols) = []
 unary_needs names (group phase by aggregates) = equal_needed names by

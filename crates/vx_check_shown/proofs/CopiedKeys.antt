@@ -9,7 +9,7 @@ use Rattle.vx_plan_nodes.specs.Typed.{are_columns}
 use Rattle.vx_plan_nodes.specs.Plan.{select, project, distinct, sort, group, limit, plain, partial, final, union, join, semi_join, Plan, scan, unary, binary, exchange}
 use Rattle.vx_plan_nodes.specs.Phases.{first_columns}
 use Rattle.vx_plan_nodes.specs.Types.{width}
-use Rattle.vx_plan_nodes.specs.Describe.{Copying, whole_rows, columns_kept, right_of, source, key_of_first, keys_kept}
+use Rattle.vx_plan_nodes.specs.Describe.{Copying, whole_rows, entries_kept, kept_column, right_of, source, key_of_first, keys_kept}
 use Rattle.vx_plan_facts.specs.Asking.{Reaches}
 use Rattle.vx_plan_facts.specs.Equal.{Equality, each_itself, both_equal, equal_at}
 use Rattle.vx_plan_facts.specs.FactsView.{facts_of}
@@ -82,13 +82,13 @@ module _ (catalog : ℕ → Relation) (k : rust_known.KnownColumns) where
   keyed-equal : (p : Plan) → IsKnownOf catalog k p → (lefts rights : List (List ℕ)) (d x : ℕ) → d < width catalog p → by_keyed d x (keyed_from catalog p lefts rights) ≡ true
       → equal_at catalog p d x ≡ true
   keyed-equal (scan n c r m z) h lefts rights d x l e = whole-equal (scan n c r m z) h d x l (one-keyed d x whole_rows (catalog r).keys e)
-  keyed-equal (unary n c (select cs) p) h lefts rights d x l e = whole-equal (unary n c (select cs) p) h d x l (one-keyed d x whole_rows lefts e)
-  keyed-equal (unary n c (project cols) p) h lefts rights d x l e =
-      let top : Plan = unary n c (project cols) p in
-      let copying : Copying = columns_kept cols in
+  keyed-equal (unary n c (select fs) p) h lefts rights d x l e = whole-equal (unary n c (select fs) p) h d x l (one-keyed d x whole_rows lefts e)
+  keyed-equal (unary n c (project es) p) h lefts rights d x l e =
+      let top : Plan = unary n c (project es) p in
+      let copying : Copying = entries_kept (map kept_column es) in
       let under = equal_at catalog p in
       or-right (d == x) (both_equal under (source copying d) (source copying x))
-      (kept-equal (width catalog top) (width catalog p) copying under (known-same catalog k p (known-under catalog k n c (project cols) p h))
+      (kept-equal (width catalog top) (width catalog p) copying under (known-same catalog k p (known-under catalog k n c (project es) p h))
       (known-left catalog (map facts_of k.facts.items) top h.known).reaches d x l (one-keyed d x copying lefts e))
   keyed-equal (unary n c (distinct cols) p) h lefts rights d x l e = whole-equal (unary n c (distinct cols) p) h d x l (one-keyed d x whole_rows (first_columns (length cols) ∷ []) e)
   keyed-equal (unary n c (sort true cols) p) h lefts rights d x l e = absurd (true≢false (sym e))

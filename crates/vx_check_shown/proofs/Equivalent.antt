@@ -6,7 +6,7 @@ use Rattle.vx_catalog_relations.specs.Relation.{Relation}
 use Rattle.vx_plan_nodes.specs.Plan.{column, constant, equal, unequal, below, at_most, above, at_least, Test, Side, Condition, Unary, select, project, distinct, sort, group, limit, Binary, union, join, semi_join, Plan, scan, unary, binary, exchange}
 use Rattle.vx_plan_nodes.specs.Types.{width}
 use Rattle.vx_plan_nodes.specs.Describe.{Copying, source, left_of, right_of, described}
-use Rattle.vx_plan_facts.specs.Equal.{Equality, each_itself, both_equal, lifted, with_pair, with_test, with_conditions, with_pairs, unary_equal, binary_equal, equal_at}
+use Rattle.vx_plan_facts.specs.Equal.{Equality, each_itself, both_equal, lifted, with_pair, with_test, with_conditions, comparisons, with_pairs, unary_equal, binary_equal, equal_at}
 use Rattle.vx_plan_facts.proofs.Tests.{or-cases, or-left, or-right}
 
 pub record IsEquivalence (e : Equality) : Type 0 where
@@ -188,8 +188,8 @@ joined-too w e f is it =
 -- ---- nodes
 
 unary-too : (op : Unary) (e : Equality) → IsEquivalence e → IsEquivalence (unary_equal op e)
-unary-too (select cs) e is = conditions-too cs e is
-unary-too (project cols) e is = lifted-too (described (project cols)).copying e is
+unary-too (select fs) e is = conditions-too (comparisons fs) e is
+unary-too (project es) e is = lifted-too (described (project es)).copying e is
 unary-too (distinct cols) e is = lifted-too (described (distinct cols)).copying e is
 unary-too (sort of_parts order) e is = lifted-too (described (sort of_parts order)).copying e is
 unary-too (group phase by aggregates) e is = lifted-too (described (group phase by aggregates)).copying e is

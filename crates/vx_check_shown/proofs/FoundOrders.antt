@@ -52,10 +52,10 @@ module _ (s : Scope) (cat : IsCatalog s.catalog) where
   had-below (scan n c r m z) ok q below h =
       let rel = relation_at s.catalog r in
       and-left (all_below (length rel.types) (order_columns rel.order)) (are_distinct (order_columns rel.order)) (declared-typed s r cat (and-left (nat_lt r (length s.catalog)) _ ok))
-  had-below (unary n c (select cs) p) ok q below h = and-right _ (all_below (width (relation_at s.catalog) p) (order_columns below)) h
-  had-below (unary n c (project cols) p) ok q below h =
+  had-below (unary n c (select fs) p) ok q below h = and-right _ (all_below (width (relation_at s.catalog) p) (order_columns below)) h
+  had-below (unary n c (project es) p) ok q below h =
       let C : ℕ → Relation = relation_at s.catalog in
-      copies-below (width C (unary n c (project cols) p)) (described (project cols)).copying (equal_at C p) (short (determined C p) below)
+      copies-below (width C (unary n c (project es) p)) (described (project es)).copying (equal_at C p) (short (determined C p) below)
   had-below (unary n c (distinct cols) p) ok q below h =
       let C : ℕ → Relation = relation_at s.catalog in
       copies-below (width C (unary n c (distinct cols) p)) (described (distinct cols)).copying (equal_at C p) (short (determined C p) below)

@@ -1,5 +1,5 @@
 -- The order that a node shows: each other one that is shown follows from it.
-use Rattle.std.proofs.Common.{◌≡◌, ◌∙◌, ℕ, ◌<◌, ◌==◌, nat_lt, Bool, true, false, cond, not, ◌&&◌, ◌||◌, ⊎_elim, List, [], ◌∷◌, length, Option, Some, None, slice_get, refl, sym, ap, subst, true≢false, eqb-true, arith}
+use Rattle.std.proofs.Common.{◌≡◌, ◌∙◌, ℕ, ◌<◌, ◌==◌, nat_lt, Bool, true, false, cond, not, ◌&&◌, ◌||◌, ⊎_elim, List, [], ◌∷◌, map, length, Option, Some, None, refl, sym, ap, subst, true≢false, eqb-true, arith}
 use Rattle.vx_rows_values.specs.declared.order.OrderEntry.{OrderEntry}
 use Rattle.vx_rows_values.specs.Order.{order_columns, entry_eq}
 use Rattle.vx_rows_values.proofs.Booleans.{and-left, and-right, and-both}
@@ -8,7 +8,7 @@ use Rattle.vx_catalog_relations.specs.Catalog.{relation_at, all_below, are_disti
 use Rattle.vx_plan_nodes.specs.Plan.{by_hash, by_range, Part, one, any, all, routed, Claim, claim, Unary, select, project, distinct, sort, group, limit, plain, partial, final, Binary, union, join, semi_join, ExchangeKind, route_to, round, broadcast, gather, concat, Plan, scan, unary, binary, exchange, size, is_one}
 use Rattle.vx_plan_nodes.specs.Typed.{Scope, typed}
 use Rattle.vx_plan_nodes.specs.Types.{width, well_formed}
-use Rattle.vx_plan_nodes.specs.Describe.{Copying, columns_kept, source, described}
+use Rattle.vx_plan_nodes.specs.Describe.{Copying, columns_kept, entries_kept, kept_column, source, described}
 use Rattle.vx_plan_facts.specs.Determined.{Columns, determined}
 use Rattle.vx_plan_facts.specs.Equal.{Equality, both_equal, equal_at}
 use Rattle.vx_plan_facts.specs.Following.{short, order_follows}
@@ -17,9 +17,11 @@ use Rattle.vx_plan_facts.specs.Naming.{names_within}
 use Rattle.vx_plan_facts.proofs.NamedColumns.{project-within, distinct-within, group-within}
 use Rattle.vx_plan_facts.proofs.Tests.{or-cases, or-left, or-right}
 use Rattle.vx_plan_facts.proofs.WellTyped.{typed-well-formed}
-use Rattle.vx_check_rules.specs.Rules.{is_front, entry_at, entry_both, copied_order, if_order, unary_orders, goes_on, order_given, orders}
+use Rattle.vx_check_rules.specs.Rules.{is_front, entry_at, entry_both, if_order, unary_orders, goes_on, order_given, orders}
+use Rattle.vx_check_rules.specs.Behaviour.{order_sources}
 use Rattle.vx_check_rules.specs.Derived.{goes_on_with, unary_order, binary_order, front_copies, needed_follows, order_given_derived, order_derived}
 use Rattle.vx_check_rules.proofs.CopySteps.{copies-below}
+use Rattle.vx_check_rules.proofs.Exact.{order-copied, order-entries}
 use Rattle.vx_check_rules.proofs.OrderSteps.{short-below as shortened-below}
 use Rattle.vx_check_rules.proofs.Shortening.{Closes}
 use Rattle.vx_check_shown.specs.Standing.{first_equal}
@@ -58,15 +60,15 @@ none-copied None e os h = absurd (true≢false (sym h))
 none-copied (Some x) e None h = absurd (true≢false (sym h))
 none-copied (Some x) e (Some ys) h = absurd (true≢false (sym h))
 
--- an order of which the kept columns begin an order copies that
-copies-of : (kept : List ℕ) (order xs : List OrderEntry) → if_order (copied_order kept order) (λ ys. is_front ys xs) ≡ true → AreCopies (columns_kept kept) order xs
-copies-of kept [] xs h = tt
-copies-of kept (c ∷ order) [] h = none-copied (slice_get kept c.column) c (copied_order kept order) h
-copies-of kept (c ∷ order) (z ∷ zs) h = go (slice_get kept c.column) (copied_order kept order) refl h (copies-of kept order zs)
+-- an order of which the columns that it copies begin an order copies that
+copies-of : (k : Copying) (order xs : List OrderEntry) → if_order (order_sources k order) (λ ys. is_front ys xs) ≡ true → AreCopies k order xs
+copies-of k [] xs h = tt
+copies-of k (c ∷ order) [] h = none-copied (source k c.column) c (order_sources k order) h
+copies-of k (c ∷ order) (z ∷ zs) h = go (source k c.column) (order_sources k order) refl h (copies-of k order zs)
   where
-    go : (o : Option ℕ) (os : Option (List OrderEntry)) → slice_get kept c.column ≡ o → if_order (entry_both o c os) (λ ys. is_front ys (z ∷ zs)) ≡ true
-        → (if_order os (λ ys. is_front ys zs) ≡ true → AreCopies (columns_kept kept) order zs)
-        → (slice_get kept c.column ≡ Some z.column) × (c.falling ≡ z.falling) × AreCopies (columns_kept kept) order zs
+    go : (o : Option ℕ) (os : Option (List OrderEntry)) → source k c.column ≡ o → if_order (entry_both o c os) (λ ys. is_front ys (z ∷ zs)) ≡ true
+        → (if_order os (λ ys. is_front ys zs) ≡ true → AreCopies k order zs)
+        → (source k c.column ≡ Some z.column) × (c.falling ≡ z.falling) × AreCopies k order zs
     go None os is k rest = absurd (true≢false (sym k))
     go (Some x) None is k rest = absurd (true≢false (sym k))
     go (Some x) (Some ys) is k rest =
@@ -88,12 +90,12 @@ module _ (s : Scope) (n : ℕ) (c : Claim) (op : Unary) (p : Plan) (h : typed s 
   input-formed = typed-well-formed s p (and-left (typed s p) _ h)
 
   -- an order of copies of what begins the input's order
-  carried-follows : (kept : List ℕ) (order : List OrderEntry) → (described op).copying ≡ columns_kept kept
-      → ((a b : ℕ) → both_equal (equal_at rel p) (source (columns_kept kept) a) (source (columns_kept kept) b) ≡ true → equal_at rel node a b ≡ true)
+  carried-follows : (copying : Copying) (order : List OrderEntry) → (described op).copying ≡ copying
+      → ((a b : ℕ) → both_equal (equal_at rel p) (source copying a) (source copying b) ≡ true → equal_at rel node a b ≡ true)
       → ((w : ℕ) → names_within w op ≡ true → (d : ℕ) → source_within w (source (described op).copying d) ≡ true)
-      → all_below (width rel node) (order_columns order) ≡ true → if_order (copied_order kept order) (λ ys. is_front ys (claim p).order) ≡ true
-      → Follows rel node (front_copies (width rel node) (columns_kept kept) (equal_at rel p) (short (determined rel p) (claim p).order)) order
-  carried-follows kept order is lifts within l begins =
+      → all_below (width rel node) (order_columns order) ≡ true → if_order (order_sources copying order) (λ ys. is_front ys (claim p).order) ≡ true
+      → Follows rel node (front_copies (width rel node) copying (equal_at rel p) (short (determined rel p) (claim p).order)) order
+  carried-follows copying order is lifts within l begins =
       let P : Copying → Type 0 = λ k. ((a b : ℕ) → both_equal (equal_at rel p) (source k a) (source k b) ≡ true → equal_at rel node a b ≡ true) → AreCopies k order (claim p).order
       → Follows rel node (front_copies (width rel node) k (equal_at rel p) (short (determined rel p) (claim p).order)) order in
       let at : P (described op).copying = λ lifts' copies.
@@ -101,29 +103,34 @@ module _ (s : Scope) (n : ℕ) (c : Claim) (op : Unary) (p : Plan) (h : typed s 
       (closes-at rel p input-formed) (closes-at rel node formed) (equal-equivalence rel p) lifts'
       (goes-up rel node p (described op).copying (λ t d. refl) formed input-formed (copies-reach s n c op p h within))
       order (claim p).order copies l (order-below rel p input-formed) in
-      subst P is at lifts (copies-of kept order (claim p).order begins)
+      subst P is at lifts (copies-of copying order (claim p).order begins)
 
 -- what the first table shows
 unary-front : (s : Scope) (n : ℕ) (c : Claim) (op : Unary) (p : Plan) → typed s (unary n c op p) ≡ true
     → (order : List OrderEntry) → all_below (width (relation_at s.catalog) (unary n c op p)) (order_columns order) ≡ true → unary_orders op (claim p).order order ≡ true
     → Follows (relation_at s.catalog) (unary n c op p)
     (unary_order (width (relation_at s.catalog) (unary n c op p)) op (equal_at (relation_at s.catalog) p) (determined (relation_at s.catalog) p) (claim p).order) order
-unary-front s n c (select cs) p h order l k =
+unary-front s n c (select fs) p h order l k =
     let rel : ℕ → Relation = relation_at s.catalog in
-    front rel (unary n c (select cs) p) (typed-well-formed s (unary n c (select cs) p) h) (claim p).order order
+    front rel (unary n c (select fs) p) (typed-well-formed s (unary n c (select fs) p) h) (claim p).order order
     (order-below rel p (typed-well-formed s p (and-left (typed s p) _ h))) l k
 unary-front s n c (sort of_parts given) p h order l k =
     front (relation_at s.catalog) (unary n c (sort of_parts given) p) (typed-well-formed s (unary n c (sort of_parts given) p) h) given order (sorted-below s n c of_parts given p h) l k
-unary-front s n c (project cols) p h order l k =
-    carried-follows s n c (project cols) p h cols order refl (λ a b e. or-right (a == b) _ e) (λ w m d. project-within w (project cols) cols refl m d) l k
+unary-front s n c (project es) p h order l k =
+    carried-follows s n c (project es) p h (entries_kept (map kept_column es)) order refl (λ a b e. or-right (a == b) _ e) (λ w m d. project-within w (project es) es refl m d) l
+    (ap (λ o. if_order o (λ ys. is_front ys (claim p).order)) (order-entries (map kept_column es) order) ∙ k)
 unary-front s n c (distinct cols) p h order l k =
-    carried-follows s n c (distinct cols) p h cols order refl (λ a b e. or-right (a == b) _ e) (λ w m d. distinct-within w (distinct cols) cols refl m d) l k
+    carried-follows s n c (distinct cols) p h (columns_kept cols) order refl (λ a b e. or-right (a == b) _ e) (λ w m d. distinct-within w (distinct cols) cols refl m d) l
+    (ap (λ o. if_order o (λ ys. is_front ys (claim p).order)) (order-copied cols order) ∙ k)
 unary-front s n c (group plain by aggregates) p h order l k =
-    carried-follows s n c (group plain by aggregates) p h by order refl (λ a b e. or-right (a == b) _ e) (λ w m d. group-within w (group plain by aggregates) plain by aggregates refl m d) l k
+    carried-follows s n c (group plain by aggregates) p h (columns_kept by) order refl (λ a b e. or-right (a == b) _ e) (λ w m d. group-within w (group plain by aggregates) plain by aggregates refl m d) l
+    (ap (λ o. if_order o (λ ys. is_front ys (claim p).order)) (order-copied by order) ∙ k)
 unary-front s n c (group partial by aggregates) p h order l k =
-    carried-follows s n c (group partial by aggregates) p h by order refl (λ a b e. or-right (a == b) _ e) (λ w m d. group-within w (group partial by aggregates) partial by aggregates refl m d) l k
+    carried-follows s n c (group partial by aggregates) p h (columns_kept by) order refl (λ a b e. or-right (a == b) _ e) (λ w m d. group-within w (group partial by aggregates) partial by aggregates refl m d) l
+    (ap (λ o. if_order o (λ ys. is_front ys (claim p).order)) (order-copied by order) ∙ k)
 unary-front s n c (group final by aggregates) p h order l k =
-    carried-follows s n c (group final by aggregates) p h by order refl (λ a b e. or-right (a == b) _ e) (λ w m d. group-within w (group final by aggregates) final by aggregates refl m d) l k
+    carried-follows s n c (group final by aggregates) p h (columns_kept by) order refl (λ a b e. or-right (a == b) _ e) (λ w m d. group-within w (group final by aggregates) final by aggregates refl m d) l
+    (ap (λ o. if_order o (λ ys. is_front ys (claim p).order)) (order-copied by order) ∙ k)
 unary-front s n c (limit m) p h order l k =
     let rel : ℕ → Relation = relation_at s.catalog in
     front rel (unary n c (limit m) p) (typed-well-formed s (unary n c (limit m) p) h) (claim p).order order
@@ -133,10 +140,10 @@ unary-front s n c (limit m) p h order l k =
 unary-below : (s : Scope) (n : ℕ) (c : Claim) (op : Unary) (p : Plan) → typed s (unary n c op p) ≡ true
     → all_below (width (relation_at s.catalog) (unary n c op p))
     (order_columns (unary_order (width (relation_at s.catalog) (unary n c op p)) op (equal_at (relation_at s.catalog) p) (determined (relation_at s.catalog) p) (claim p).order)) ≡ true
-unary-below s n c (select cs) p h = order-below (relation_at s.catalog) p (typed-well-formed s p (and-left (typed s p) _ h))
+unary-below s n c (select fs) p h = order-below (relation_at s.catalog) p (typed-well-formed s p (and-left (typed s p) _ h))
 unary-below s n c (sort of_parts order) p h = sorted-below s n c of_parts order p h
-unary-below s n c (project cols) p h =
-    copies-below (length cols) (columns_kept cols) (equal_at (relation_at s.catalog) p) (short (determined (relation_at s.catalog) p) (claim p).order)
+unary-below s n c (project es) p h =
+    copies-below (length es) (entries_kept (map kept_column es)) (equal_at (relation_at s.catalog) p) (short (determined (relation_at s.catalog) p) (claim p).order)
 unary-below s n c (distinct cols) p h =
     copies-below (length cols) (columns_kept cols) (equal_at (relation_at s.catalog) p) (short (determined (relation_at s.catalog) p) (claim p).order)
 unary-below s n c (group plain by aggregates) p h =

@@ -7,10 +7,10 @@ use Rattle.vx_rows_values.specs.Lists.{is_some_list}
 use Rattle.vx_rows_values.proofs.Booleans.{and-left, and-right, and-both}
 use Rattle.vx_catalog_relations.specs.Relation.{Relation}
 use Rattle.vx_catalog_relations.specs.Catalog.{all_below, are_distinct}
-use Rattle.vx_plan_nodes.specs.Plan.{Claim, claim, select, project, distinct, sort, group, limit, Plan, scan, unary, binary, exchange}
+use Rattle.vx_plan_nodes.specs.Plan.{Claim, claim, Entry, select, project, distinct, sort, group, limit, Plan, scan, unary, binary, exchange}
 use Rattle.vx_plan_nodes.specs.Phases.{columns_from, first_columns}
 use Rattle.vx_plan_nodes.specs.Types.{width}
-use Rattle.vx_plan_nodes.specs.Describe.{Copying, source, columns_kept}
+use Rattle.vx_plan_nodes.specs.Describe.{Copying, source, entries_kept, kept_column}
 use Rattle.vx_plan_facts.specs.Equal.{Equality, both_equal, lifted, equal_at}
 use Rattle.vx_plan_facts.specs.Fixed.{fixed_at}
 use Rattle.vx_plan_facts.specs.Facts.{Facts}
@@ -227,15 +227,15 @@ keys-in v s t h (key ∷ keys) b k =
     all (c ∷ cs) l m =
         and-both (t c) (list_all t cs) (h c (ltb-true c v (and-left (nat_lt c v) (all_below v cs) l)) (and-left (s c) (list_all s cs) m)) (all cs (and-right (nat_lt c v) (all_below v cs) l) (and-right (s c) (list_all s cs) m))
 
-projected-named : (catalog : ℕ → Relation) (k : rust_known.KnownColumns) (n : ℕ) (c : Claim) (cols : List ℕ) (p : Plan) → IsKnownOf catalog k (unary n c (project cols) p) → (x named : List ℕ)
-    → all_below (width catalog (unary n c (project cols) p)) x ≡ true → IsNamed (width catalog (unary n c (project cols) p)) (equal_at catalog (unary n c (project cols) p)) x named
-    → key_below catalog (unary n c (project cols) p) x ≡ true → key_below catalog (unary n c (project cols) p) named ≡ true
-projected-named catalog k n c cols p h x named below is t =
-    let top : Plan = unary n c (project cols) p in
+projected-named : (catalog : ℕ → Relation) (k : rust_known.KnownColumns) (n : ℕ) (c : Claim) (es : List Entry) (p : Plan) → IsKnownOf catalog k (unary n c (project es) p) → (x named : List ℕ)
+    → all_below (width catalog (unary n c (project es) p)) x ≡ true → IsNamed (width catalog (unary n c (project es) p)) (equal_at catalog (unary n c (project es) p)) x named
+    → key_below catalog (unary n c (project es) p) x ≡ true → key_below catalog (unary n c (project es) p) named ≡ true
+projected-named catalog k n c es p h x named below is t =
+    let top : Plan = unary n c (project es) p in
     let w : ℕ = width catalog top in
     let v : ℕ = width catalog p in
-    let under = known-under catalog k n c (project cols) p h in
-    let copying : Copying = columns_kept cols in
+    let under = known-under catalog k n c (project es) p h in
+    let copying : Copying = entries_kept (map kept_column es) in
     let det = determined catalog p in
     let closes = known-closes catalog k p under in
     let s = sources_in w copying (set_of x) in
@@ -247,8 +247,8 @@ projected-named catalog k n c cols p h x named below is t =
 below-named : (catalog : ℕ → Relation) (k : rust_known.KnownColumns) (p : Plan) → IsKnownOf catalog k p → (x named : List ℕ) → all_below (width catalog p) x ≡ true
     → IsNamed (width catalog p) (equal_at catalog p) x named → key_below catalog p x ≡ true → key_below catalog p named ≡ true
 below-named catalog k (scan n c r m z) h x named below is t = t
-below-named catalog k (unary n c (select cs) p) h x named below is t = t
-below-named catalog k (unary n c (project cols) p) h x named below is t = projected-named catalog k n c cols p h x named below is t
+below-named catalog k (unary n c (select fs) p) h x named below is t = t
+below-named catalog k (unary n c (project es) p) h x named below is t = projected-named catalog k n c es p h x named below is t
 below-named catalog k (unary n c (distinct cols) p) h x named below is t = t
 below-named catalog k (unary n c (sort of_parts cols) p) h x named below is t = t
 below-named catalog k (unary n c (group phase by aggregates) p) h x named below is t = t

@@ -10,7 +10,7 @@ use Rattle.vx_plan_nodes.specs.Plan.{column, constant, equal, unequal, below, at
 use Rattle.vx_plan_nodes.specs.Phases.{phase_fits, both_closed}
 use Rattle.vx_plan_nodes.specs.Types.{width, part_columns, names_columns, well_formed}
 use Rattle.vx_plan_nodes.specs.Describe.{Copying, whole_rows, left_of, right_of, source, described}
-use Rattle.vx_plan_facts.specs.Equal.{Equality, both_equal, lifted, with_pair, with_test, with_conditions, with_pairs, unary_equal, binary_equal}
+use Rattle.vx_plan_facts.specs.Equal.{Equality, both_equal, lifted, with_pair, with_test, with_conditions, comparisons, with_pairs, unary_equal, binary_equal}
 use Rattle.vx_plan_facts.specs.Naming.{pair_within, IsTypedOver}
 use Rattle.vx_plan_facts.proofs.Tests.{or-left, or-right}
 use Rattle.vx_plan_facts.proofs.WellTyped.{typed-well-formed}
@@ -87,9 +87,9 @@ whole-is : (a y : ℕ) → Some a ≡ Some y → a ≡ y
 whole-is a y h = cc
 
 pub unary-lifts : (op : Unary) (e : Equality) → Lifts (described op).copying e (unary_equal op e)
-unary-lifts (select cs) e a b y z s t h =
-    conditions-keep cs e a b (subst (λ u. e u b ≡ true) (sym (whole-is a y s)) (subst (λ u. e y u ≡ true) (sym (whole-is b z t)) h))
-unary-lifts (project cols) e a b y z s t h = lifted-lifts (described (project cols)).copying e a b y z s t h
+unary-lifts (select fs) e a b y z s t h =
+    conditions-keep (comparisons fs) e a b (subst (λ u. e u b ≡ true) (sym (whole-is a y s)) (subst (λ u. e y u ≡ true) (sym (whole-is b z t)) h))
+unary-lifts (project es) e a b y z s t h = lifted-lifts (described (project es)).copying e a b y z s t h
 unary-lifts (distinct cols) e a b y z s t h = lifted-lifts (described (distinct cols)).copying e a b y z s t h
 unary-lifts (sort of_parts cols) e a b y z s t h = lifted-lifts (described (sort of_parts cols)).copying e a b y z s t h
 unary-lifts (group phase by aggregates) e a b y z s t h = lifted-lifts (described (group phase by aggregates)).copying e a b y z s t h

@@ -49,8 +49,8 @@ module _ (catalog : List Relation) (k : rust_known.KnownColumns) where
   sorted-below : (n : ℕ) (c : Claim) (op : Unary) (p : Plan) → HasInput (relation_at catalog) k (unary n c op p) p (described op).copying (described op).order
       → (below : List OrderEntry) → all_below (width (relation_at catalog) p) (order_columns below) ≡ true
       → is_whole (described op).copying ≡ true → all_below (width (relation_at catalog) (unary n c op p)) (order_columns (order_after (described op).order below)) ≡ true
-  sorted-below n c (select cs) p h below l whole = l
-  sorted-below n c (project cols) p h below l whole = kept-whole cols whole
+  sorted-below n c (select fs) p h below l whole = l
+  sorted-below n c (project es) p h below l whole = absurd (true≢false (sym whole))
   sorted-below n c (distinct cols) p h below l whole = kept-whole cols whole
   sorted-below n c (sort of_parts order) p h below l whole = h.sorted_below whole
   sorted-below n c (group plain by aggregates) p h below l whole = kept-whole by whole

@@ -62,8 +62,8 @@ opens-bare keys puts (binary n c op p q) = refl
 opens-bare keys puts (exchange n c k m p) = opens-bare keys puts p
 
 fits-bare : (op : Unary) (p : Plan) → phase_fits op (bare p) ≡ phase_fits op p
-fits-bare (select cs) p = ap not (open-bare p)
-fits-bare (project cols) p = ap not (open-bare p)
+fits-bare (select fs) p = ap not (open-bare p)
+fits-bare (project es) p = ap not (open-bare p)
 fits-bare (distinct cols) p = ap not (open-bare p)
 fits-bare (sort false order) p = ap not (open-bare p)
 fits-bare (sort true order) p = open-bare p

@@ -11,18 +11,18 @@ use Rattle.vx_rows_values.specs.Lists.{is_some_list}
 use Rattle.vx_rows_values.proofs.Booleans.{and-left, and-right, and-both}
 use Rattle.vx_catalog_relations.specs.Relation.{Relation}
 use Rattle.vx_catalog_relations.specs.Catalog.{relation_at, all_below, are_distinct}
-use Rattle.vx_plan_nodes.specs.Plan.{Route, by_hash, by_range, Part, one, any, all, routed, column, constant, Test, equal, unequal, below, at_most, above, at_least, Side, Condition, Unary, select, project, distinct, sort, group, limit, plain, partial, final, Binary, union, join, semi_join, ExchangeKind, route_to, round, broadcast, gather, concat, Plan, scan, unary, binary, exchange, size, is_one}
+use Rattle.vx_plan_nodes.specs.Plan.{Route, by_hash, by_range, Part, one, any, all, routed, column, constant, Test, equal, unequal, below, at_most, above, at_least, Side, Condition, Entry, copy_of, made_by, Unary, select, project, distinct, sort, group, limit, plain, partial, final, Binary, union, join, semi_join, ExchangeKind, route_to, round, broadcast, gather, concat, Plan, scan, unary, binary, exchange, size, is_one}
 use Rattle.vx_plan_nodes.specs.Parts.{kind_part}
-use Rattle.vx_plan_nodes.specs.Describe.{Copying, whole_rows, columns_kept, left_of, right_of, source, described, described_both}
-use Rattle.vx_plan_nodes.specs.Types.{unary_types, binary_types, aggregate_type, types_of, width}
-use Rattle.vx_plan_nodes.specs.Typed.{Scope, type_eq, types_eq, are_columns, range_type, bounds_at, is_size, is_routed, is_part, is_side, is_condition, is_unary, is_pair, is_binary, is_kind, typed}
+use Rattle.vx_plan_nodes.specs.Describe.{Copying, whole_rows, columns_kept, entries_kept, kept_column, left_of, right_of, source, described, described_both}
+use Rattle.vx_plan_nodes.specs.Types.{entry_type, unary_types, binary_types, aggregate_type, types_of, width}
+use Rattle.vx_plan_nodes.specs.Typed.{Scope, type_eq, types_eq, are_columns, range_type, bounds_at, is_size, is_routed, is_part, is_side, is_condition, is_filter, is_unary, is_pair, is_binary, is_kind, typed}
 use Rattle.vx_plan_nodes.specs.Phases.{phase_fits, both_closed, first_columns}
 use Rattle.vx_plan_nodes.proofs.ErasedFacts.{type-right}
-use Rattle.vx_plan_facts.specs.Equal.{Equality, each_itself, both_equal, lifted, with_pair, with_test, with_conditions, with_pairs, unary_equal, binary_equal, equal_at}
+use Rattle.vx_plan_facts.specs.Equal.{Equality, each_itself, both_equal, lifted, with_pair, with_test, with_conditions, comparisons, with_pairs, unary_equal, binary_equal, equal_at}
 use Rattle.vx_plan_facts.specs.Determined.{column_in}
 use Rattle.vx_plan_facts.specs.Following.{equal_lists}
 use Rattle.vx_plan_facts.proofs.Tests.{or-cases}
-use Rattle.vx_plan_facts.proofs.NamedColumns.{types-width}
+use Rattle.vx_plan_facts.proofs.NamedColumns.{types-width, comparisons-typed}
 use Rattle.vx_check_rules.specs.Rules.{route_eq}
 use Rattle.vx_check_rules.specs.Behaviour.{routed_at}
 use Rattle.vx_check_shown.specs.ShownPart.{stand_in, stand_ins, part_carried, common_column, common_columns, is_all, routed_in_common, part_of_union, part_of_join, part_of_both, apart, part_apart, part_over, shown_part}
@@ -62,6 +62,15 @@ carries-kept cols ts rest c y h = kept-type (type_at ts) cols rest c y h
 carries-alone : (cols : List ℕ) (ts : List ColType) → Carries (columns_kept cols) ts (map (type_at ts) cols)
 carries-alone cols ts = subst (Carries (columns_kept cols) ts) (append-nil (map (type_at ts) cols)) (carries-kept cols ts [])
 
+entry-type : (ts : List ColType) (es : List Entry) (c y : ℕ) → source (entries_kept (map kept_column es)) c ≡ Some y → type_at (map (entry_type ts) es) c ≡ type_at ts y
+entry-type ts [] c y h = cc
+entry-type ts (copy_of x ∷ es) zero y h = let s : x ≡ y = cc in ap (type_at ts) s
+entry-type ts (made_by m ∷ es) zero y h = cc
+entry-type ts (x ∷ es) (suc c) y h = entry-type ts es c y h
+
+carries-entries : (es : List Entry) (ts : List ColType) → Carries (entries_kept (map kept_column es)) ts (map (entry_type ts) es)
+carries-entries es ts c y h = entry-type ts es c y h
+
 type-left : (ts us : List ColType) (c : ℕ) → c < length ts → type_at (ts ++ us) c ≡ type_at ts c
 type-left [] us c h = absurd (omega (arith, h))
 type-left (t ∷ ts) us zero h = refl
@@ -93,8 +102,8 @@ carries-right w ts us wide c y h = go (nat_le w c) refl h
     go false l h = cc
 
 carries-unary : (op : Unary) (ts : List ColType) → Carries (described op).copying ts (unary_types op ts)
-carries-unary (select cs) ts = carries-whole ts
-carries-unary (project cols) ts = carries-alone cols ts
+carries-unary (select fs) ts = carries-whole ts
+carries-unary (project es) ts = carries-entries es ts
 carries-unary (distinct cols) ts = carries-alone cols ts
 carries-unary (sort of_parts cols) ts = carries-whole ts
 carries-unary (group plain by aggregates) ts = carries-kept by ts (map (aggregate_type ts) aggregates)
@@ -153,8 +162,8 @@ either-types : (e f : Equality) (ts : List ColType) → EqualTypes e ts → Equa
 either-types e f ts same alike a b h = ⊎_elim (λ l. same a b l) (λ r. alike a b r) (or-cases (e a b) (f a b) h)
 
 unary-types : (op : Unary) (e : Equality) (ts : List ColType) → is_unary ts op ≡ true → EqualTypes e ts → EqualTypes (unary_equal op e) (unary_types op ts)
-unary-types (select cs) e ts h same = conditions-types cs e ts (and-right (is_some_list cs) (list_all (is_condition ts) cs) h) same
-unary-types (project cols) e ts h same = lifted-types (described (project cols)).copying e ts _ (carries-unary (project cols) ts) same
+unary-types (select fs) e ts h same = conditions-types (comparisons fs) e ts (comparisons-typed ts fs (and-right (is_some_list fs) (list_all (is_filter ts) fs) h)) same
+unary-types (project es) e ts h same = lifted-types (described (project es)).copying e ts _ (carries-unary (project es) ts) same
 unary-types (distinct cols) e ts h same = lifted-types (described (distinct cols)).copying e ts _ (carries-unary (distinct cols) ts) same
 unary-types (sort of_parts cols) e ts h same = lifted-types (described (sort of_parts cols)).copying e ts _ (carries-unary (sort of_parts cols) ts) same
 unary-types (group phase by aggregates) e ts h same = lifted-types (described (group phase by aggregates)).copying e ts _ (carries-unary (group phase by aggregates) ts) same

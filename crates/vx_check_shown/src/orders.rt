@@ -66,7 +66,8 @@ fn is_whole(copying: Copying<'_>) -> bool
 {
     match copying {
         Copying::WholeRows => true,
-        Copying::Kept(_) | Copying::Left(_) | Copying::Right(_) | Copying::NoColumns => false,
+        Copying::Kept(_) | Copying::Entries(_) => false,
+        Copying::Left(_) | Copying::Right(_) | Copying::NoColumns => false,
     }
 }
 

@@ -15,7 +15,7 @@ use std::alloc::{AllocError, Global};
 use vx_check_options::Lists;
 use vx_check_rules::copy_of;
 use vx_plan_facts::KnownColumns;
-use vx_plan_nodes::{Copying, KeptColumns, TypedNode, Unary};
+use vx_plan_nodes::{Copying, TypedNode, Unary};
 
 // Of so many output columns the first that stands for this input column, if there is one.
 fn stand_in(
@@ -98,8 +98,8 @@ fn stand_ins_over(
     ensures { IfOk result (λ v. list_all (all_below outputs) (map (λ k. k.items) v.items) ≡ true) }
 {
     match operator {
-        Unary::Project(kept) => {
-            let copying = Copying::Kept(KeptColumns::Outputs(kept.as_slice()));
+        Unary::Project(_) => {
+            let copying = operator.described().copying;
             all_stand_ins(alloc, copying, outputs, input, known, keys)
         }
         Unary::Select(_) => Ok(Vec::new(alloc)),

@@ -1,3 +1,4 @@
+pub mod CallFacts
 pub mod ColumnFacts
 pub mod OwnFacts
 pub mod WordFacts

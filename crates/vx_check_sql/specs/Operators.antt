@@ -7,12 +7,13 @@ use Rattle.vx_rows_values.specs.Values.{Name}
 use Rattle.vx_rows_values.specs.Types.{type_at}
 use Rattle.vx_rows_values.specs.Test.{test_text}
 use Rattle.vx_catalog_relations.specs.Relation.{Relation}
-use Rattle.vx_plan_nodes.specs.Plan.{Side, column, constant, Condition, Aggregate, least, greatest, sum, count_rows, Unary, select, project, distinct, sort, group, limit, Binary, union, join, semi_join}
+use Rattle.vx_plan_nodes.specs.Plan.{Side, column, constant, Condition, Filter, comparing, computing, Entry, copy_of, made_by, Aggregate, least, greatest, sum, count_rows, Unary, select, project, distinct, sort, group, limit, Binary, union, join, semi_join}
 use Rattle.vx_check.specs.Explain.{separated}
 use Rattle.vx_check_sql.specs.declared.dialect.Dialect.{Dialect}
 use Rattle.vx_check_sql.specs.declared.dialect.Dialect.TheVariants.{Sqlite, Postgres, ClickHouse}
 use Rattle.vx_check_sql.specs.declared.words.Alias.{Alias}
 use Rattle.vx_check_sql.specs.Words.{identifier, value_sql, column_name, column_of}
+use Rattle.vx_check_sql.specs.Expressions.{expression_sql}
 
 -- ---- columns
 
@@ -37,6 +38,15 @@ all_columns m n types = outputs n 0 (columns_from m 0 types)
 -- these columns of node m as the first of node n
 unfoldable pub kept_columns : (m n : Alias) → List ℕ → List ℕ
 kept_columns m n cols = outputs n 0 (map (column_name m) cols)
+
+-- what a column of a projection is
+abbrev pub made_sql : Dialect → (m : Alias) → Entry → List ℕ
+made_sql d m (copy_of c) = column_name m c
+made_sql d m (made_by e) = expression_sql d m true e
+
+-- columns of a projection of node m as the first of node n
+unfoldable pub made_columns : Dialect → (m n : Alias) → List Entry → List ℕ
+made_columns d m n es = outputs n 0 (map (made_sql d m) es)
 
 -- ---- scans
 
@@ -65,6 +75,11 @@ side_sql d m (constant v) = value_sql d v
 
 unfoldable pub condition_sql : Dialect → Alias → Condition → List ℕ
 condition_sql d m c = column_name m c.left ++ (codes " " ++ (test_text c.test ++ (codes " " ++ side_sql d m c.right)))
+
+-- an expression that is a condition is a number, and holds where that is not 0
+unfoldable pub filter_sql : Dialect → Alias → Filter → List ℕ
+filter_sql d m (comparing c) = condition_sql d m c
+filter_sql d m (computing e) = expression_sql d m true e ++ codes " <> 0"
 
 -- a sum is a number of 64 bits: in PostgreSQL an error where it is not
 abbrev pub sum_before : Dialect → List ℕ
@@ -113,8 +128,8 @@ limit_sql m order n = order_sql m order ++ (codes " LIMIT " ++ decimal n)
 
 -- what the SELECT gives
 unfoldable pub unary_columns : Dialect → (m n : Alias) → List ColType → Unary → List ℕ
-unary_columns d m n types (select cs) = all_columns m n types
-unary_columns d m n types (project cols) = kept_columns m n cols
+unary_columns d m n types (select fs) = all_columns m n types
+unary_columns d m n types (project es) = made_columns d m n es
 unary_columns d m n types (distinct cols) = codes "DISTINCT " ++ kept_columns m n cols
 unary_columns d m n types (sort of_parts keys) = all_columns m n types
 unary_columns d m n types (group phase by aggregates) = group_columns d m n by aggregates
@@ -122,8 +137,8 @@ unary_columns d m n types (limit rows) = all_columns m n types
 
 -- of which rows, and in which groups
 unfoldable pub unary_clause : Dialect → Alias → (order : List OrderEntry) → Unary → List ℕ
-unary_clause d m order (select cs) = codes " WHERE " ++ separated (codes " AND ") false (map (condition_sql d m) cs)
-unary_clause d m order (project cols) = []
+unary_clause d m order (select fs) = codes " WHERE " ++ separated (codes " AND ") false (map (filter_sql d m) fs)
+unary_clause d m order (project es) = []
 unary_clause d m order (distinct cols) = []
 unary_clause d m order (sort of_parts keys) = []
 unary_clause d m order (group phase by aggregates) = grouping_sql m by

@@ -1,18 +1,19 @@
 //! Lists of the columns that a SELECT gives.
 
 ghost use Rattle.std.specs.Prelude.{◌≡◌, ◌++◌, ◌<◌, ◌+◌, ◌^◌, map, length, string_bytes, codes, OnOk, false};
-ghost use Rattle.vx_plan_nodes.specs.Outline.{aggregate_of, outline_of, columns};
+ghost use Rattle.vx_plan_nodes.specs.Outline.{aggregate_of, entry_of, outline_of, columns};
 ghost use Rattle.vx_check.specs.Explain.{separated};
 ghost use Rattle.vx_check_sql.specs.Words.{column_name};
-ghost use Rattle.vx_check_sql.specs.Operators.{outputs, all_columns, kept_columns, collation, relation_column, relation_columns, sum_before, sum_after, count_sql, aggregate_sql, group_columns, equal_left, left_or_right, right_columns, join_columns};
+ghost use Rattle.vx_check_sql.specs.Operators.{outputs, all_columns, kept_columns, made_sql, made_columns, collation, relation_column, relation_columns, sum_before, sum_after, count_sql, aggregate_sql, group_columns, equal_left, left_or_right, right_columns, join_columns};
 ghost use Rattle.vx_check_sql.specs.Statement.{result_columns};
 
 use crate::dialect::Dialect;
+use crate::expressions::push_expression;
 use crate::words::{Alias, push_column_name, push_identifier};
 use std::alloc::{AllocError, Global};
 use vx_catalog_relations::Relation;
 use vx_check::push_between;
-use vx_plan_nodes::{Aggregate, Name, Projected, TypedNode};
+use vx_plan_nodes::{Aggregate, Entry, Name, Projected, TypedNode};
 use vx_rows_values::ColType;
 
 /// The types of the columns of a node's output.
@@ -68,7 +69,7 @@ fn push_kept(text: &mut String, from: Alias, to: Alias, columns: &[usize]) -> Re
     Ok(())
 }
 
-/// Adds the columns of a projection.
+/// Adds the columns that a distinct keeps.
 #[tactic(auto, unfolding(crate::specs::Operators::kept_columns))]
 pub fn push_projected(
     text: &mut String,
@@ -81,6 +82,40 @@ pub fn push_projected(
     for (i, column) in kept.iter().enumerate() {
         push_between(text, ", ", i > 0)?;
         push_column_name(text, from, column.column)?;
+        push_as(text, to, i)?;
+    }
+    Ok(())
+}
+
+// Adds what a column of a projection of the node `from` is.
+fn push_made(
+    text: &mut String,
+    dialect: Dialect,
+    from: Alias,
+    entry: &Entry,
+) -> Result<(), AllocError>
+    ensures { OnOk result (string_bytes text.new ≡ string_bytes text.old ++ made_sql dialect from (entry_of entry.now)) }
+{
+    match entry {
+        Entry::Kept(kept) => push_column_name(text, from, kept.column),
+        Entry::Made(expression) => push_expression(text, dialect, from, true, expression),
+    }
+}
+
+/// Adds the columns of a projection.
+#[tactic(auto, unfolding(crate::specs::Operators::made_columns))]
+pub fn push_made_columns(
+    text: &mut String,
+    dialect: Dialect,
+    from: Alias,
+    to: Alias,
+    entries: &[Entry],
+) -> Result<(), AllocError>
+    ensures { OnOk result (string_bytes text.new ≡ string_bytes text.old ++ made_columns dialect from to (map entry_of entries.now)) }
+{
+    for (i, entry) in entries.iter().enumerate() {
+        push_between(text, ", ", i > 0)?;
+        push_made(text, dialect, from, entry)?;
         push_as(text, to, i)?;
     }
     Ok(())

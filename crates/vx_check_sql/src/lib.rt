@@ -3,6 +3,8 @@
 
 mod columns;
 mod dialect;
+mod expressions;
+mod functions;
 mod operators;
 mod own_names;
 mod statement;

@@ -1,22 +1,24 @@
 //! What each operator is in SQL.
 
 ghost use Rattle.std.specs.Prelude.{◌≡◌, ◌++◌, ◌+◌, ◌<◌, ◌^◌, map, length, string_bytes, codes, decimal, OnOk, false, true};
-ghost use Rattle.vx_plan_nodes.specs.Outline.{side_of, condition_of, unary_of, binary_of};
+ghost use Rattle.vx_plan_nodes.specs.Outline.{side_of, condition_of, filter_of, unary_of, binary_of};
 ghost use Rattle.vx_check.specs.Explain.{separated};
 ghost use Rattle.vx_check_sql.specs.Words.{column_name};
-ghost use Rattle.vx_check_sql.specs.Operators.{all_columns, scan_sql, side_sql, condition_sql, grouping_sql, entry_sql, order_sql, limit_sql, unary_columns, unary_clause, pair_sql, join_word, column_of_both, side_of_both, condition_of_both, matching_sql, semi_join_word, semi_join_clause, binary_columns, binary_word, binary_clause};
+ghost use Rattle.vx_check_sql.specs.Operators.{all_columns, scan_sql, side_sql, condition_sql, filter_sql, grouping_sql, entry_sql, order_sql, limit_sql, unary_columns, unary_clause, pair_sql, join_word, column_of_both, side_of_both, condition_of_both, matching_sql, semi_join_word, semi_join_clause, binary_columns, binary_word, binary_clause};
 
 use crate::columns::{
-    push_all, push_group_columns, push_join_columns, push_projected, push_relation_columns,
+    push_all, push_group_columns, push_join_columns, push_made_columns, push_projected,
+    push_relation_columns,
 };
 use crate::dialect::Dialect;
+use crate::expressions::push_expression;
 use crate::words::{
     Alias, push_column_name, push_column_of, push_identifier, push_number, push_value,
 };
 use std::alloc::AllocError;
 use vx_catalog_relations::Relation;
 use vx_check::push_between;
-use vx_plan_nodes::{Binary, Condition, Side, Unary};
+use vx_plan_nodes::{Binary, Condition, Filter, Side, Unary};
 use vx_rows_values::{ColType, OrderEntry};
 
 /// Adds a scan of a relation.
@@ -66,17 +68,35 @@ fn push_condition(
     push_side(text, dialect, from, &condition.right)
 }
 
-fn push_conditions(
+#[tactic(auto, unfolding(crate::specs::Operators::filter_sql))]
+fn push_filter(
     text: &mut String,
     dialect: Dialect,
     from: Alias,
-    conditions: &[Condition],
+    filter: &Filter,
 ) -> Result<(), AllocError>
-    ensures { OnOk result (string_bytes text.new ≡ string_bytes text.old ++ separated (codes " AND ") false (map (condition_sql dialect from) (map condition_of conditions.now))) }
+    ensures { OnOk result (string_bytes text.new ≡ string_bytes text.old ++ filter_sql dialect from (filter_of filter.now)) }
 {
-    for (i, condition) in conditions.iter().enumerate() {
+    match filter {
+        Filter::Compared(condition) => push_condition(text, dialect, from, condition),
+        Filter::Computed(expression) => {
+            push_expression(text, dialect, from, true, expression)?;
+            text.push_str(" <> 0")
+        }
+    }
+}
+
+fn push_filters(
+    text: &mut String,
+    dialect: Dialect,
+    from: Alias,
+    filters: &[Filter],
+) -> Result<(), AllocError>
+    ensures { OnOk result (string_bytes text.new ≡ string_bytes text.old ++ separated (codes " AND ") false (map (filter_sql dialect from) (map filter_of filters.now))) }
+{
+    for (i, filter) in filters.iter().enumerate() {
         push_between(text, " AND ", i > 0)?;
-        push_condition(text, dialect, from, condition)?;
+        push_filter(text, dialect, from, filter)?;
     }
     Ok(())
 }
@@ -166,7 +186,7 @@ pub fn push_unary_columns(
 {
     match operator {
         Unary::Select(_) => push_all(text, from, to, types),
-        Unary::Project(kept) => push_projected(text, from, to, kept.as_slice()),
+        Unary::Project(entries) => push_made_columns(text, dialect, from, to, entries.as_slice()),
         Unary::Distinct(kept) => {
             text.push_str("DISTINCT ")?;
             push_projected(text, from, to, kept.as_slice())
@@ -198,9 +218,9 @@ pub fn push_unary_clause(
     ensures { OnOk result (string_bytes text.new ≡ string_bytes text.old ++ unary_clause dialect from order.now (unary_of operator.now)) }
 {
     match operator {
-        Unary::Select(conditions) => {
+        Unary::Select(filters) => {
             text.push_str(" WHERE ")?;
-            push_conditions(text, dialect, from, conditions.as_slice())
+            push_filters(text, dialect, from, filters.as_slice())
         }
         Unary::Project(_) | Unary::Distinct(_) | Unary::Sort(_, _) => Ok(()),
         Unary::Group(_, by, _) => push_grouping(text, from, by.as_slice()),

@@ -1,9 +1,10 @@
 -- What a run of a job comes to, in terms of the plan, the database and the setup that the job was made of.
-use Rattle.std.proofs.Common.{◌≡◌, ◌⊎◌, ℕ, ◌<◌, List, Ok, Err, Result, IfOk, refl, sym, ◌∙◌, subst, inl, inr}
+use Rattle.std.proofs.Common.{◌≡◌, ◌⊎◌, ℕ, ◌<◌, List, Option, Some, None, Ok, Err, Result, IfOk, IfErr, refl, sym, ◌∙◌, subst, inl, inr}
 use Rattle.std.specs.List.{All}
 use Rattle.std.specs.Result.{IsErrAnd}
 use Rattle.vx_catalog.specs.Database.{Database}
 use Rattle.vx_rows_values.specs.Values.{Row}
+use Rattle.vx_plan_nodes.specs.Names.{TypedPlanView}
 use Rattle.vx_plan_nodes.specs.Plan.{Plan}
 use Rattle.vx_plan_nodes.specs.TypedView.{plan as whole_plan, resolved_of}
 use Rattle.vx_worker.specs.Fragment.{RunModel}
@@ -20,9 +21,10 @@ use Rattle.vx_exec_runs.specs.Setup.{SetupRefusal}
 use Rattle.vx_exec_setup.specs.Setup.{SetupView}
 use Rattle.vx_exec.specs.Job.{sizes_of, model_of}
 use Rattle.vx_exec_runs.specs.Promise.{Reports}
-use Rattle.vx_exec.specs.Promise.{CrewPromise, PromiseOnceSet, WhereSet}
+use Rattle.vx_exec.specs.Promise.{CrewPromise, PromiseOnceSet, WhereSet, WhereSized}
 use Rattle.vx_exec.specs.Runs.{ComesTo, NamesFirst, IsFirstReported, IsScheduled, IsInRounds, Scheduled, InRounds, IsCountedInRounds, CountedInRounds}
-use Rattle.vx_exec_runs.specs.Runs.{IsSetUp, IsWhole, RunFails, for_fault}
+use Rattle.vx_exec.specs.Setup.{IsUnknownFault}
+use Rattle.vx_exec_runs.specs.Runs.{HasSizes, IsSetUp, IsWhole, RunFails, for_setup, for_function, for_fault, unknown_in}
 use Rattle.vx_exec_setup.specs.declared.fault.RunFault.{RunFault}
 use Rattle.vx_exec_setup.specs.declared.fault.RunFault.TheVariants as fault
 use Rattle.vx_exec.specs.declared.job.Job.{Job}
@@ -33,11 +35,37 @@ use Rattle.vx_exec_runs.specs.declared.outcome.RunOutcome.TheVariants as run_out
 ok-is : (s t : Sizes) → ◌≡◌ {A = Result Sizes SetupRefusal} (Ok s) (Ok t) → s ≡ t
 ok-is s t e = cc
 
+-- a job is one of this plan over this database, whose sizes are those of this setup
+pub record IsSizedJobOf (j : Job) (p : TypedPlan) (db : Database) (setup : SetupView) : Type 0 where
+  pub plan : j.plan.now ≡ p
+  pub database : j.database.now ≡ db
+  pub set : HasSizes (resolved_of p) db setup (sizes_of j)
+
 -- a job is one of this plan over this database, set up like this
 pub record IsJobOf (j : Job) (p : TypedPlan) (db : Database) (setup : SetupView) : Type 0 where
   pub plan : j.plan.now ≡ p
   pub database : j.database.now ≡ db
   pub set : IsSetUp (resolved_of p) db setup (sizes_of j)
+
+-- what holds of a fault holds of it when it is handed on
+pub refused-by : {X : Type 0} (P : RunFault → Type 0) (r : Result X RunFault) (e : RunFault) → IsErrAnd r (λ y. y ≡ e) → P e → IfErr r P
+refused-by P (Ok x) e handed h = absurd handed
+refused-by P (Err y) e handed h = subst P (sym handed) h
+
+-- what is set up has its sizes
+pub sized : {p : TypedPlanView} {db : Database} {setup : SetupView} {s : Sizes} → IsSetUp p db setup s → HasSizes p db setup s
+sized set = record { same = set.same; sizes = set.sizes }
+
+sized-job : {j : Job} {p : TypedPlan} {db : Database} {setup : SetupView} → IsJobOf j p db setup → IsSizedJobOf j p db setup
+sized-job made = record { plan = made.plan; database = made.database; set = sized made.set }
+
+-- a job with the sizes of a setup is set up where its plan's functions are the program's
+pub job-known : {j : Job} {p : TypedPlan} {db : Database} {setup : SetupView} → IsSizedJobOf j p db setup → unknown_in (resolved_of p) ≡ None → IsJobOf j p db setup
+job-known made known = record {
+  plan = made.plan;
+  database = made.database;
+  set = record { same = made.set.same; sizes = made.set.sizes; known = known };
+}
 
 -- where it was made of this plan under another name
 pub made-of : {p q : TypedPlan} {db : Database} {setup : SetupView} (j : Job) → q ≡ p → j.plan.now ≡ q → j.database.now ≡ db → IsSetUp (resolved_of q) db setup (sizes_of j) → IsJobOf j p db setup
@@ -47,13 +75,42 @@ made-of {p} {q} {db} {setup} j same plan database set = record {
   set = subst (λ z. IsSetUp (resolved_of z) db setup (sizes_of j)) same set;
 }
 
--- why there is none
+pub sized-of : {p q : TypedPlan} {db : Database} {setup : SetupView} (j : Job) → q ≡ p → j.plan.now ≡ q → j.database.now ≡ db → HasSizes (resolved_of q) db setup (sizes_of j)
+    → IsSizedJobOf j p db setup
+sized-of {p} {q} {db} {setup} j same plan database set = record {
+  plan = plan ∙ same;
+  database = database;
+  set = subst (λ z. HasSizes (resolved_of z) db setup (sizes_of j)) same set;
+}
+
+-- why there is none with the sizes of the setup
+pub record NoSizedJobOf (p : TypedPlan) (db : Database) (setup : SetupView) (e : RunFault) : Type 0 where
+  pub refused : RunFails (resolved_of p) db setup e
+  pub memory : (s : Sizes) → HasSizes (resolved_of p) db setup s → e ≡ fault.NoMemory
+
+-- why there is none that is set up
 pub record NoJobOf (p : TypedPlan) (db : Database) (setup : SetupView) (e : RunFault) : Type 0 where
   pub refused : RunFails (resolved_of p) db setup e
   pub memory : (s : Sizes) → IsSetUp (resolved_of p) db setup s → e ≡ fault.NoMemory
 
+pub not-sized : {p : TypedPlan} {db : Database} {setup : SetupView} {e : RunFault} → NoSizedJobOf p db setup e → NoJobOf p db setup e
+not-sized none = record { refused = none.refused; memory = λ s set. none.memory s (sized set) }
+
+-- a number is not both some and none
+not-none : (unknown : Option ℕ) (n : ℕ) → unknown ≡ Some n → unknown ≡ None → ⊥
+not-none unknown n some none = (cc)
+
+-- where the sizes are right, and a function is not the program's or memory was refused
+pub not-known : (p : TypedPlan) (db : Database) (setup : SetupView) (s : Sizes) (e : RunFault) → HasSizes (resolved_of p) db setup s → IsUnknownFault (unknown_in (resolved_of p)) e
+    → NoJobOf p db setup e
+not-known p db setup s e has (inl memory) = record { refused = for_setup has.same (inl memory); memory = λ z set. memory }
+not-known p db setup s e has (inr unknown) = record {
+  refused = for_function s has unknown.0 unknown.1 unknown.2;
+  memory = λ z set. absurd (not-none (unknown_in (resolved_of p)) unknown.0 unknown.2 set.known);
+}
+
 -- what holds of a job holds of the plan, the database and the sizes that it was made of
-of-job : (P : TypedPlan → Database → Sizes → Type 0) {j : Job} {p : TypedPlan} {db : Database} {setup : SetupView} → IsJobOf j p db setup → (s : Sizes) → IsSetUp (resolved_of p) db setup s
+of-job : (P : TypedPlan → Database → Sizes → Type 0) {j : Job} {p : TypedPlan} {db : Database} {setup : SetupView} → IsSizedJobOf j p db setup → (s : Sizes) → HasSizes (resolved_of p) db setup s
     → P j.plan.now j.database.now (sizes_of j) → P p db s
 of-job P {j} {p} {db} {setup} made s set h =
     subst (λ z. P p db z) (ok-is (sizes_of j) s (sym made.set.sizes ∙ set.sizes))
@@ -61,8 +118,18 @@ of-job P {j} {p} {db} {setup} made s set h =
 
 module _ {p : TypedPlan} {db : Database} {setup : SetupView} (hash : List ℕ → Row → ℕ → ℕ) where
   -- so what holds in the setting of a job holds in that to which the setup comes
+  pub where-sized : {j : Job} (P : RunModel → Plan → Type 0) → IsSizedJobOf j p db setup → P (model_of hash j) (whole_plan j.plan.now) → WhereSized hash p db setup P
+  where-sized P made h = λ s set. of-job (λ q b z. P (run_model hash q b z) (whole_plan q)) made s set h
+
   pub where-set : {j : Job} (P : RunModel → Plan → Type 0) → IsJobOf j p db setup → P (model_of hash j) (whole_plan j.plan.now) → WhereSet hash p db setup P
-  where-set P made h = λ s set. of-job (λ q b z. P (run_model hash q b z) (whole_plan q)) made s set h
+  where-set P made h = λ s set. where-sized P (sized-job made) h s (sized set)
+
+  -- where there is no job with its sizes, and the sizes are right, memory was refused
+  pub nothing-sized : (P : RunModel → Plan → Result RunOutcome RunFault → Type 0) (r : Result RunOutcome RunFault) (e : RunFault) → IsErrAnd r (λ y. y ≡ e) → NoSizedJobOf p db setup e
+      → ((W : RunModel) (q : Plan) → P W q (Err fault.NoMemory)) → WhereSized hash p db setup (λ W q. P W q r)
+  nothing-sized P (Ok x) e handed none h = absurd handed
+  nothing-sized P (Err y) e handed none h = λ s set.
+      subst (λ z. P (run_model hash p db s) (whole_plan p) (Err z)) (sym (handed ∙ none.memory s set)) (h (run_model hash p db s) (whole_plan p))
 
   -- where there is no job, and the setup is right, memory was refused
   pub nothing-ran : (P : RunModel → Plan → Result RunOutcome RunFault → Type 0) (r : Result RunOutcome RunFault) (e : RunFault) → IsErrAnd r (λ y. y ≡ e) → NoJobOf p db setup e
@@ -91,7 +158,7 @@ module _ {p : TypedPlan} {db : Database} {setup : SetupView} (hash : List ℕ �
 
     -- a run keeps its promise by what the workers of its job come to
     pub promise-kept : {j : Job} (r : Result RunOutcome RunFault) → IsJobOf j p db setup → PromiseOnceSet hash Other j.plan.now j.database.now (sizes_of j) r → CrewPromise hash Other p db setup r
-    promise-kept {j} r made run = set-promise r (sizes_of j) made.set (of-job (λ q b z. PromiseOnceSet hash Other q b z r) made (sizes_of j) made.set run)
+    promise-kept {j} r made run = set-promise r (sizes_of j) made.set (of-job (λ q b z. PromiseOnceSet hash Other q b z r) (sized-job made) (sizes_of j) (sized made.set) run)
 
     -- and where there is no job
     pub promise-refused : (r : Result RunOutcome RunFault) (e : RunFault) → IsErrAnd r (λ y. y ≡ e) → NoJobOf p db setup e → CrewPromise hash Other p db setup r

@@ -2,6 +2,7 @@ pub mod Model
 pub mod LeafTypes
 pub mod Job
 pub mod Part
+pub mod Setup
 pub mod Bounds
 pub mod Inputs
 pub mod Crew

@@ -18,7 +18,7 @@ ghost use Rattle.vx_exec_steps.specs.Crews.{producer_duty, root_duty, duties_bel
 ghost use Rattle.vx_exec_steps.specs.Ready.{Ready};
 ghost use Rattle.vx_plan_nodes.specs.Workers.{worker_group_at};
 ghost use Rattle.vx_exec.specs.Job.{model_of};
-ghost use Rattle.vx_exec.specs.Part.{IsPartOf};
+ghost use Rattle.vx_exec.specs.Part.{HasKnown, IsPartOf};
 ghost use Rattle.vx_exec.specs.Crew.{duty, IsNew};
 
 use crate::job::Job;
@@ -107,6 +107,7 @@ fn workers_of(
     alloc: Global,
     job: &Job<'_>,
 ) -> Result<Vec<Worker<Operator, Destination>>, AllocError>
+    requires { HasKnown job.now }
     ensures duties { IfOk result (λ v. (hash : List ℕ → Row → ℕ → ℕ)
         → map duty v.items ≡ root_duty (model_of hash job.now) (plan job.now.plan.now) ∷ duties_below (model_of hash job.now) (plan job.now.plan.now)) }
     ensures new { IfOk result (λ v. All (IsNew job.now) v.items) }
@@ -123,6 +124,7 @@ impl Crew {
 
     /// All workers of a job, none of which made a step.
     pub fn new(alloc: Global, job: &Job<'_>) -> Result<Crew, AllocError>
+        requires { HasKnown job.now }
         ensures ready { IfOk result (λ c. (hash : List ℕ → Row → ℕ → ℕ)
             → Ready OperatorStands operator_op DestinationStands task_of post_of bounds_of hash (scan_morsels (model_of hash job.now)) (model_of hash job.now) (plan job.now.plan.now) c.workers.items (board_of c)) }
         ensures new { IfOk result (λ c. All (IsNew job.now) c.workers.items) }

@@ -39,6 +39,7 @@ pub struct Job<'j> {
     ghost named: { length layout.worker_groups.items ≡ (scope plan.now).sizes },
     ghost within: { AreWithin (record { worker_groups = layout.worker_groups.items; packet = packet; morsel = morsel }) },
     ghost room: { IsWithin 1 max_slack slack },
+    ghost crew: { layout.workers ≡ crew_size (worker_group_at layout.worker_groups.items) (whole_plan plan.now) },
     ghost few_workers: { crew_size (worker_group_at layout.worker_groups.items) (whole_plan plan.now) ≤ max_workers },
 }
 
@@ -60,6 +61,7 @@ impl<'j> Job<'j> {
         requires named { length layout.worker_groups.items ≡ (scope plan.now).sizes }
         requires within { AreWithin (record { worker_groups = layout.worker_groups.items; packet = packet; morsel = morsel }) }
         requires room { IsWithin 1 max_slack slack }
+        requires crew { layout.workers ≡ crew_size (worker_group_at layout.worker_groups.items) (whole_plan plan.now) }
         requires few { crew_size (worker_group_at layout.worker_groups.items) (whole_plan plan.now) ≤ max_workers }
         ensures plan { result.plan.now ≡ plan.now }
         ensures database { result.database.now ≡ database.now }
@@ -106,6 +108,13 @@ impl<'j> Job<'j> {
         ensures spans { result.now.spans.items ≡ spans_of (worker_group_at self.now.layout.worker_groups.items) (whole_plan self.now.plan.now) 0 1 }
     {
         &self.layout
+    }
+
+    /// How many workers the plan has.
+    pub(crate) fn crew_size(&self) -> u32
+        ensures { result ≡ crew_size (worker_group_at self.now.layout.worker_groups.items) (whole_plan self.now.plan.now) }
+    {
+        self.layout.workers()
     }
 
     /// The packets by which a producer may run ahead of a consumer, where workers are threads.

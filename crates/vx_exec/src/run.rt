@@ -1,7 +1,7 @@
 //! Runs in one thread.
 
 ghost use Rattle.std.specs.Prelude.{◌≡◌, ◌<◌, ◌≤◌, true, length, List, IfOk};
-ghost use Rattle.std.specs.List.{slice_index_or};
+ghost use Rattle.std.specs.List.{All, slice_index_or};
 ghost use Rattle.vx_rows_values.specs.declared.value.ColType.{ColType};
 ghost use Rattle.vx_catalog.specs.Database.{rows_at};
 ghost use Rattle.vx_plan_nodes.specs.TypedView.{plan as whole_plan};
@@ -18,23 +18,24 @@ ghost use Rattle.vx_exec_operators.specs.declared.operator.Operator.{Operator as
 ghost use Rattle.vx_exec_operators.specs.declared.destination.Destination.{Destination as ADestination};
 ghost use Rattle.vx_exec.specs.Job.{model_of, sizes_of};
 ghost use Rattle.vx_exec_setup.specs.Counts.{is_wanted, counts_in};
-ghost use Rattle.vx_exec.specs.Runs.{CountedInRounds, fault_reported, ComesTo, IsBadStepOf, NamesFirst, Scheduled, InRounds};
+ghost use Rattle.vx_exec.specs.Runs.{CountedInRounds, fault_reported, ComesTo, NamesFirst, Scheduled, InRounds};
+ghost use Rattle.vx_exec.specs.Part.{HasKnown};
 ghost use Rattle.vx_exec_runs.specs.Promise.{NothingElse};
 ghost use Rattle.vx_exec_runs.specs.Runs.{IsWhole};
 ghost use Rattle.vx_exec_steps.specs.Schedules.{HoldsRounds};
-ghost use Rattle.vx_exec.specs.Promise.{CrewPromise, PromiseOnceSet, WhereSet};
+ghost use Rattle.vx_exec.specs.Promise.{CrewPromise, PromiseOnceSet, SchedulePromise, WhereSet, WhereSized};
 
 use crate::counting::keep_counts;
 use crate::crew::Crew;
 use crate::job::Job;
-use crate::setup::job_of;
+use crate::setup::{job_of, sized_job, test_functions};
 use std::alloc::Global;
 use vx_catalog::Database;
 use vx_check_rules::CheckedPlan;
 use vx_exec_operators::{Destination, Operator};
 use vx_exec_runs::RunOutcome;
 use vx_exec_setup::{RunCounts, RunFault, Setup};
-use vx_exec_steps::{RunState, judge_rounds, judge_schedule};
+use vx_exec_steps::{RunState, bad_step, judge_rounds, judge_schedule};
 use vx_ops::{Code, Fault};
 use vx_plan_nodes::Router;
 use vx_rows_views::Rows;
@@ -97,6 +98,7 @@ fn run_job<R: Router>(
 ) -> Result<RunOutcome, RunFault>
     requires allowed { is_allowed job.now.plan.now ≡ true }
     requires root { is_root_allowed job.now.plan.now ≡ true }
+    requires known { HasKnown job.now }
     ensures run { PromiseOnceSet (R.route_of router.now) NothingElse job.now.plan.now job.now.database.now (sizes_of job.now) result }
     ensures rounds { InRounds (R.route_of router.now) (model_of (R.route_of router.now) job.now) (whole_plan job.now.plan.now) limit result }
     ensures counted { is_wanted counts.old ≡ true
@@ -120,8 +122,9 @@ fn schedule_job<R: Router>(
 ) -> Result<RunOutcome, RunFault>
     requires allowed { is_allowed job.now.plan.now ≡ true }
     requires root { is_root_allowed job.now.plan.now ≡ true }
-    ensures run { PromiseOnceSet (R.route_of router.now) (IsBadStepOf steps.now) job.now.plan.now job.now.database.now (sizes_of job.now) result }
-    ensures named { NamesFirst steps.now (model_of (R.route_of router.now) job.now) (whole_plan job.now.plan.now) result }
+    requires known { HasKnown job.now }
+    requires named { All (λ s. s < crew_size (worker_group_at job.now.layout.worker_groups.items) (whole_plan job.now.plan.now)) steps.now }
+    ensures run { PromiseOnceSet (R.route_of router.now) NothingElse job.now.plan.now job.now.database.now (sizes_of job.now) result }
     ensures scheduled { Scheduled (R.route_of router.now) (model_of (R.route_of router.now) job.now) (whole_plan job.now.plan.now) steps.now result }
     ensures ends { HoldsRounds (rounds_needed (rows_at job.now.database.now) (worker_group_at job.now.layout.worker_groups.items) (whole_plan job.now.plan.now))
         (crew_size (worker_group_at job.now.layout.worker_groups.items) (whole_plan job.now.plan.now)) steps.now → IfOk result IsWhole }
@@ -129,10 +132,8 @@ fn schedule_job<R: Router>(
     job.meets();
     let crew = Crew::new(alloc, job)?;
     let (mut workers, mut links) = crew.into_parts();
-    match judge_schedule(&mut workers, job, router, &mut links, steps) {
-        Err(index) => return Err(RunFault::BadStep { index }),
-        Ok(verdict) => return answer_of(workers, verdict),
-    }
+    let verdict = judge_schedule(&mut workers, job, router, &mut links, steps);
+    answer_of(workers, verdict)
 }
 
 /// A run of a plan over a database: at most `limit` rounds, in each of which every worker makes one step, in number order. Once all
@@ -160,6 +161,7 @@ pub fn run_rounds<R: Router>(
 
 /// A run of a plan over a database by a schedule: one step of the worker with each of these numbers, in this order.
 /// The root's worker is 0; then come the producers of each exchange, by place, the exchanges in preorder of their nodes.
+/// Behind the tests of the setup, the first step that names no worker is refused, and then a function that the program does not have.
 /// A schedule that holds as many rounds as `rounds_needed` of `vx_exec_layout` says, with any steps between, is enough: its answer is not Unfinished.
 pub fn run_scheduled<R: Router>(
     alloc: Global,
@@ -169,12 +171,16 @@ pub fn run_scheduled<R: Router>(
     router: &R,
     steps: &[u32],
 ) -> Result<RunOutcome, RunFault>
-    ensures promise { CrewPromise (R.route_of router.now) (IsBadStepOf steps.now) (typed_plan plan.now) database.now setup.now result }
-    ensures named { WhereSet (R.route_of router.now) (typed_plan plan.now) database.now setup.now (λ W p. NamesFirst steps.now W p result) }
+    ensures promise { SchedulePromise (R.route_of router.now) steps.now (typed_plan plan.now) database.now setup.now result }
+    ensures named { WhereSized (R.route_of router.now) (typed_plan plan.now) database.now setup.now (λ W p. NamesFirst steps.now W p result) }
     ensures scheduled { WhereSet (R.route_of router.now) (typed_plan plan.now) database.now setup.now (λ W p. Scheduled (R.route_of router.now) W p steps.now result) }
     ensures ends { WhereSet (R.route_of router.now) (typed_plan plan.now) database.now setup.now
         (λ W p. HoldsRounds (rounds_needed W.db W.sizes p) (crew_size W.sizes p) steps.now → IfOk result IsWhole) }
 {
-    let job = job_of(alloc, plan.plan(), database, setup)?;
+    let job = sized_job(alloc, plan.plan(), database, setup)?;
+    if let Some(index) = bad_step(steps, job.crew_size() as usize) {
+        return Err(RunFault::BadStep { index });
+    }
+    test_functions(alloc, job.plan())?;
     schedule_job(alloc, &job, router, steps)
 }

@@ -1,12 +1,14 @@
 //! The tests of a run's setup, before its first step.
 
-ghost use Rattle.std.specs.Prelude.{◌≡◌, nat_le, map, string_bytes, IfOk, IfErr};
+ghost use Rattle.std.specs.Prelude.{◌≡◌, nat_le, map, string_bytes, None, IfOk, IfErr};
 ghost use Rattle.vx_plan_nodes.specs.TypedView.{names_in, scope, resolved_of, plan as plan_of_typed};
 ghost use Rattle.vx_exec_runs.specs.Sizes.{Sizes};
 ghost use Rattle.vx_exec.specs.Job.{sizes_of};
+ghost use Rattle.vx_exec.specs.Part.{HasKnown};
+ghost use Rattle.vx_exec.specs.Setup.{IsUnknownFault};
 ghost use Rattle.vx_exec_setup.specs.Setup.{first_missing, first_out_of_range};
 ghost use Rattle.vx_exec_runs.specs.Setup.{tested, no_name, too_many_workers, size_missing, size_out_of_range, refusal_of, sizes_set, Gives};
-ghost use Rattle.vx_exec_runs.specs.Runs.{IsSetUp, RunFails};
+ghost use Rattle.vx_exec_runs.specs.Runs.{HasSizes, IsSetUp, RunFails, unknown_in};
 ghost use Rattle.vx_rows_values.specs.Limits.{max_workers};
 
 use crate::job::Job;
@@ -14,7 +16,7 @@ use std::alloc::{AllocError, Global};
 use vx_catalog::Database;
 use vx_exec_layout::Layout;
 use vx_exec_setup::{RunFault, Setup, is_within};
-use vx_plan_nodes::TypedPlan;
+use vx_plan_nodes::{TypedPlan, first_unknown};
 use vx_rows_values::limits::{MAX_MORSEL_ROWS, MAX_PACKET_ROWS, MAX_SLACK, MAX_WORKERS};
 
 // This fault, if a test failed.
@@ -89,18 +91,18 @@ fn job_in<'j>(
     Ok(Job::new(alloc, plan, layout, database, packet, morsel, slack))
 }
 
-/// A plan over a database, set up to run. The first test that fails is the answer, in this order: the database has the
-/// plan's catalog; each declared size name has an entry; each declared size name has 1 to 64 workers; a packet has 1 to
-/// 4,096 rows; a morsel has 1 to 1,000,000 rows; the slack is 1 to 1,024 packets; the plan has at most 256 workers.
-pub fn job_of<'j>(
+/// A plan over a database, with the sizes of its run. The first test that fails is the answer, in this order: the database has the
+/// plan's catalog; each declared size name has an entry; each declared size name has 1 to 64 workers; a packet has 1 to 4,096 rows; a
+/// morsel has 1 to 1,000,000 rows; the slack is 1 to 1,024 packets; the plan has at most 256 workers.
+pub(crate) fn sized_job<'j>(
     alloc: Global,
     plan: &'j TypedPlan,
     database: &'j Database,
     setup: &Setup,
 ) -> Result<Job<'j>, RunFault>
-    ensures set { IfOk result (λ j. IsSetUp (resolved_of plan.now) database.now setup.now (sizes_of j)) }
+    ensures sized { IfOk result (λ j. HasSizes (resolved_of plan.now) database.now setup.now (sizes_of j)) }
     ensures refused { IfErr result (RunFails (resolved_of plan.now) database.now setup.now) }
-    ensures memory { (s : Sizes) → IsSetUp (resolved_of plan.now) database.now setup.now s → IfErr result (λ e. e ≡ RunFault.NoMemory) }
+    ensures memory { (s : Sizes) → HasSizes (resolved_of plan.now) database.now setup.now s → IfErr result (λ e. e ≡ RunFault.NoMemory) }
     ensures plan { IfOk result (λ j. j.plan.now ≡ plan.now) }
     ensures database { IfOk result (λ j. j.database.now ≡ database.now) }
 {
@@ -108,4 +110,36 @@ pub fn job_of<'j>(
         return Err(RunFault::OtherCatalog);
     }
     job_in(alloc, plan, database, setup)
+}
+
+/// Refuses a plan that names a function which the program does not have for the types of its operands, or whose answer has another
+/// type than the plan says. It looks at the plan alone.
+pub(crate) fn test_functions(alloc: Global, plan: &TypedPlan) -> Result<(), RunFault>
+    ensures known { IfOk result (λ _. unknown_in (resolved_of plan.now) ≡ None) }
+    ensures unknown { IfErr result (λ e. IsUnknownFault (unknown_in (resolved_of plan.now)) e) }
+{
+    match first_unknown(alloc, plan.root())? {
+        Some(node) => Err(RunFault::BadFunction { node }),
+        None => Ok(()),
+    }
+}
+
+/// A plan over a database, set up to run. The first test that fails is the answer: those of the sizes, and then whether the program
+/// has each function that the plan names.
+pub fn job_of<'j>(
+    alloc: Global,
+    plan: &'j TypedPlan,
+    database: &'j Database,
+    setup: &Setup,
+) -> Result<Job<'j>, RunFault>
+    ensures set { IfOk result (λ j. IsSetUp (resolved_of plan.now) database.now setup.now (sizes_of j)) }
+    ensures known { IfOk result HasKnown }
+    ensures refused { IfErr result (RunFails (resolved_of plan.now) database.now setup.now) }
+    ensures memory { (s : Sizes) → IsSetUp (resolved_of plan.now) database.now setup.now s → IfErr result (λ e. e ≡ RunFault.NoMemory) }
+    ensures plan { IfOk result (λ j. j.plan.now ≡ plan.now) }
+    ensures database { IfOk result (λ j. j.database.now ≡ database.now) }
+{
+    let job = sized_job(alloc, plan, database, setup)?;
+    test_functions(alloc, plan)?;
+    Ok(job)
 }

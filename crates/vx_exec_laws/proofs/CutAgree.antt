@@ -187,8 +187,8 @@ module _ (S : RunModel) (giv : Given S.catalog S.db S.sizes (goes S)) (some_rows
 
   are-given : (n : ℕ) (c : Claim) (op : Unary) (p : Plan) → Fine S (unary n c op p) → (ts : ℕ → Trace) → RunOf S (Ends S) p ts
       → (x y : Output S (unary n c op p) ts) → AreOneOrApart S (unary n c op p) ts x y → (a b : Row) → Occurs a x.out.rows → Occurs b y.out.rows → AreGiven S.catalog op a b
-  are-given n c (select cs) p f ts run x y alike a b oa ob = tt
-  are-given n c (project cols) p f ts run x y alike a b oa ob = tt
+  are-given n c (select fs) p f ts run x y alike a b oa ob = tt
+  are-given n c (project es) p f ts run x y alike a b oa ob = tt
   are-given n c (distinct cols) p f ts run x y alike a b oa ob = tt
   are-given n c (sort of_parts order) p f ts run x y alike a b oa ob = tt
   are-given n c (group plain by aggregates) p f ts run x y alike a b oa ob =

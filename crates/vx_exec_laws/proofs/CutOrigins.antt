@@ -8,7 +8,7 @@ use Rattle.vx_rows_values.specs.Order.{sort_on}
 use Rattle.vx_rows_values.specs.Bags.{count}
 use Rattle.vx_plan_nodes.specs.Plan.{JoinMethod, Size, Claim, Unary, select, project, distinct, sort, group, plain, partial, final, Aggregate, Phase, Binary, union, join, ExchangeKind, route_to, round, broadcast, gather, concat, target, Plan, scan, unary, binary, exchange, size, size_eq, limit, semi_join, Condition}
 use Rattle.vx_plan_nodes.specs.Parts.{kind_part}
-use Rattle.vx_plan_nodes.specs.Serial.{passes, firsts, matches, joined_with, join_rows, aggregate_of, of_key, group_keys, group_row, group_fits, group_rows, unary_rows, is_matched, matched_rows}
+use Rattle.vx_plan_nodes.specs.Serial.{filters_hold, filters_fit, entries_row, entries_fit, firsts, matches, joined_with, join_rows, aggregate_of, of_key, group_keys, group_row, group_fits, group_rows, unary_rows, is_matched, matched_rows}
 use Rattle.vx_plan_nodes.specs.Streams.{Streams, workers}
 use Rattle.vx_plan_nodes.specs.Routes.{Routing, Sends}
 use Rattle.vx_plan_nodes.specs.Numbering.{is_fit}
@@ -69,12 +69,12 @@ group-comes by aggregates xs ys e =
     (λ key k. let tail : Row = map (λ g. aggregate_of g (of_key by key xs)) aggregates in (k.0, k.1, (tail, ap (λ z. z ++ tail) k.2))) (group_keys by xs) keys)
 
 each-comes : (op : Unary) (xs ys : List Row) → unary_rows op xs ≡ Some ys → AllByRecursion (Comes op xs) ys
-each-comes (select cs) xs ys e =
-    subst (AllByRecursion (Comes (select cs) xs)) (some-is (filter (passes cs) xs) ys e)
-    (each-filter (λ row. Occurs row xs) (Comes (select cs) xs) (passes cs) (λ x t o. (x, o, refl)) xs (each-occurs xs))
-each-comes (project cols) xs ys e =
-    subst (AllByRecursion (Comes (project cols) xs)) (some-is (map (pick cols) xs) ys e)
-    (each-map (λ row. Occurs row xs) (Comes (project cols) xs) (pick cols) (λ x o. (x, o, refl)) xs (each-occurs xs))
+each-comes (select fs) xs ys e =
+    subst (AllByRecursion (Comes (select fs) xs)) (some-of (list_all (filters_fit fs) xs) (filter (filters_hold fs) xs) ys e).1
+    (each-filter (λ row. Occurs row xs) (Comes (select fs) xs) (filters_hold fs) (λ x t o. (x, o, refl)) xs (each-occurs xs))
+each-comes (project es) xs ys e =
+    subst (AllByRecursion (Comes (project es) xs)) (some-of (list_all (entries_fit es) xs) (map (entries_row es) xs) ys e).1
+    (each-map (λ row. Occurs row xs) (Comes (project es) xs) (entries_row es) (λ x o. (x, o, refl)) xs (each-occurs xs))
 each-comes (distinct cols) xs ys e =
     subst (AllByRecursion (Comes (distinct cols) xs)) (some-is (firsts (map (pick cols) xs)) ys e)
     (each-firsts (Comes (distinct cols) xs) (map (pick cols) xs) (each-map (λ row. Occurs row xs) (Comes (distinct cols) xs) (pick cols) (λ x o. (x, o, refl)) xs (each-occurs xs)))

@@ -6,25 +6,25 @@ use Rattle.vx_rows_values.specs.declared.order.OrderEntry.{OrderEntry}
 use Rattle.vx_rows_values.specs.Values.{Row, value_at, pick}
 use Rattle.vx_rows_values.proofs.Compare.{row_eq-same}
 use Rattle.vx_catalog_relations.specs.Relation.{Relation, KeysHold}
-use Rattle.vx_plan_nodes.specs.Plan.{JoinMethod, Size, Claim, ExchangeKind, Unary, select, project, distinct, sort, group, plain, partial, final, union, join, Plan, scan, unary, binary, exchange, claim, limit, semi_join, Condition}
+use Rattle.vx_plan_nodes.specs.Plan.{JoinMethod, Size, Claim, ExchangeKind, Entry, Unary, select, project, distinct, sort, group, plain, partial, final, union, join, Plan, scan, unary, binary, exchange, claim, limit, semi_join, Condition}
 use Rattle.vx_plan_nodes.specs.Types.{width}
 use Rattle.vx_plan_nodes.specs.Phases.{first_columns}
-use Rattle.vx_plan_nodes.specs.Describe.{Copying, whole_rows, columns_kept, left_of, right_of, described}
-use Rattle.vx_plan_nodes.specs.Serial.{matches}
+use Rattle.vx_plan_nodes.specs.Describe.{Copying, whole_rows, columns_kept, kept_column, left_of, right_of, described}
+use Rattle.vx_plan_nodes.specs.Serial.{entries_row, matches}
 use Rattle.vx_plan_facts.specs.Equal.{equal_at}
 use Rattle.vx_plan_facts.specs.Fixed.{fixed_at}
 use Rattle.vx_plan_facts.specs.Determined.{Columns, by_input, by_inputs, sources_in, closure, determined, determined_aside}
 use Rattle.vx_plan_facts.specs.DeterminedFacts.{occurs, AgreeOn}
 use Rattle.vx_plan_facts.specs.Following.{set_of}
 use Rattle.vx_plan_facts.specs.RowFacts.{MeetsAt}
-use Rattle.vx_plan_facts.proofs.Columns.{HasCopies, whole-copies, kept-copies, kept-alone, left-copies, right-copies, value-left, value-right}
+use Rattle.vx_plan_facts.proofs.Columns.{HasCopies, whole-copies, kept-copies, kept-alone, entry-copies, left-copies, right-copies, value-left, value-right}
 use Rattle.vx_plan_facts.proofs.FollowFacts.{agree-each}
 use Rattle.vx_plan_facts.proofs.Meaning.{past-end, pick-agrees, agree-of, keys-same}
-use Rattle.vx_check_rules.specs.Rules.{copied, covers, within, contains, numbers_below, shifted, if_some, keys_of}
+use Rattle.vx_check_rules.specs.Rules.{copied_among, covers, within, contains, numbers_below, shifted, keys_of}
 use Rattle.vx_check_rules.specs.Derived.{members, key_below, key_derived, keys_shown_derived}
 use Rattle.vx_exec_laws.proofs.Bags.{and-left, and-right, and-both}
 use Rattle.vx_exec_laws.proofs.Parts.{or-cases, list_all-weaken}
-use Rattle.vx_exec_laws.proofs.Copies.{if_some-is, copied-alone}
+use Rattle.vx_exec_laws.proofs.Entries.{kept_of, picks-among}
 use Rattle.vx_exec_laws.proofs.Exchange.{filter-all}
 use Rattle.vx_exec_laws.proofs.Apart.{agree-all}
 use Rattle.vx_exec_laws.proofs.DerivedPairs.{input-pair, sources-pair, closure-pair}
@@ -56,8 +56,8 @@ pick-on x a b e = agree-each x a b (agree-of x a b e)
 
 -- a row of an operator over one input and the row of the input that it comes from
 abbrev pub StemOf : Unary → Row → Row → Type 0
-StemOf (select cs) a x = a ≡ x
-StemOf (project cols) a x = a ≡ pick cols x
+StemOf (select fs) a x = a ≡ x
+StemOf (project es) a x = a ≡ entries_row es x
 StemOf (distinct cols) a x = a ≡ pick cols x
 StemOf (sort of_parts order) a x = a ≡ x
 StemOf (group phase by aggregates) a x = (tail : Row) × (a ≡ pick by x ++ tail)
@@ -67,8 +67,8 @@ copies-of : (k : Copying) (x a b : Row) → a ≡ b → HasCopies k x b → HasC
 copies-of k x a b e h = let P : Row → Type 0 = λ r. HasCopies k x r in subst P (sym e) h
 
 pub stem-copies : (op : Unary) (a x : Row) → StemOf op a x → HasCopies (described op).copying x a
-stem-copies (select cs) a x e = copies-of whole_rows x a x e (whole-copies x)
-stem-copies (project cols) a x e = copies-of (columns_kept cols) x a (pick cols x) e (kept-alone cols x)
+stem-copies (select fs) a x e = copies-of whole_rows x a x e (whole-copies x)
+stem-copies (project es) a x e = copies-of (kept_of es) x a (entries_row es x) e (entry-copies es x)
 stem-copies (distinct cols) a x e = copies-of (columns_kept cols) x a (pick cols x) e (kept-alone cols x)
 stem-copies (sort of_parts order) a x e = copies-of whole_rows x a x e (whole-copies x)
 stem-copies (group plain by aggregates) a x e = copies-of (columns_kept by) x a (pick by x ++ e.0) e.1 (kept-copies by x e.0)
@@ -159,29 +159,30 @@ module _ (catalog : ℕ → Relation) where
   AreGiven op a b = Unit {0}
 
   -- columns that are copied tell rows if those that they are copies of do
-  project-tells : (cols : List ℕ) (p : Plan) (a b x y : Row) → Agreed catalog p x y → a ≡ pick cols x → b ≡ pick cols y → Tells (λ k. if_some (copied cols k) (covers (claim p).keys)) a b
-  project-tells cols p a b x y h ea eb k t g =
-      let w = if_some-is (copied cols k) (covers (claim p).keys) t in
-      let picks : pick k (pick cols x) ≡ pick k (pick cols y) = ap (pick k) (sym ea) ∙ (on-pick k a b g ∙ ap (pick k) eb) in
-      let same : x ≡ y = h.keyed (set_of w.0) (pick-on w.0 x y (sym (copied-alone cols k w.0 x w.1) ∙ (picks ∙ copied-alone cols k w.0 y w.1))) w.2 in
-      ea ∙ (ap (pick cols) same ∙ sym eb)
+  project-tells : (es : List Entry) (p : Plan) (a b x y : Row) → Agreed catalog p x y → a ≡ entries_row es x → b ≡ entries_row es y
+      → Tells (λ k. covers (claim p).keys (copied_among (map kept_column es) k)) a b
+  project-tells es p a b x y h ea eb k t g =
+      let cs : List ℕ = copied_among (map kept_column es) k in
+      let picks : pick k (entries_row es x) ≡ pick k (entries_row es y) = ap (pick k) (sym ea) ∙ (on-pick k a b g ∙ ap (pick k) eb) in
+      let same : x ≡ y = h.keyed (set_of cs) (pick-on cs x y (picks-among es k x y picks)) t in
+      ea ∙ (ap (entries_row es) same ∙ sym eb)
 
   -- and so do columns that determine a key of the input
-  below-tells : (n : ℕ) (c : Claim) (cols : List ℕ) (p : Plan) (a b x y : Row) → Agreed catalog p x y → a ≡ pick cols x → b ≡ pick cols y
-      → Tells (key_below catalog (unary n c (project cols) p)) a b
-  below-tells n c cols p a b x y h ea eb k t g =
-      let w : ℕ = width catalog (unary n c (project cols) p) in
-      let s : Columns = sources_in w (columns_kept cols) (set_of k) in
+  below-tells : (n : ℕ) (c : Claim) (es : List Entry) (p : Plan) (a b x y : Row) → Agreed catalog p x y → a ≡ entries_row es x → b ≡ entries_row es y
+      → Tells (key_below catalog (unary n c (project es) p)) a b
+  below-tells n c es p a b x y h ea eb k t g =
+      let w : ℕ = width catalog (unary n c (project es) p) in
+      let s : Columns = sources_in w (kept_of es) (set_of k) in
       let P : Row → Type 0 = λ i. AgreeOn (set_of k) i b in
-      let Q : Row → Type 0 = λ j. AgreeOn (set_of k) (pick cols x) j in
-      let on : AgreeOn s x y = sources-pair w (columns_kept cols) (pick cols x) (pick cols y) x y (kept-alone cols x) (kept-alone cols y) (set_of k) (subst Q eb (subst P ea g)) in
+      let Q : Row → Type 0 = λ j. AgreeOn (set_of k) (entries_row es x) j in
+      let on : AgreeOn s x y = sources-pair w (kept_of es) (entries_row es x) (entries_row es y) x y (entry-copies es x) (entry-copies es y) (set_of k) (subst Q eb (subst P ea g)) in
       let same : x ≡ y = h.keyed (determined catalog p s) (h.determined_in s on) t in
-      ea ∙ (ap (pick cols) same ∙ sym eb)
+      ea ∙ (ap (entries_row es) same ∙ sym eb)
 
   unary-shown : (op : Unary) (n : ℕ) (c : Claim) (p : Plan) (a b x y : Row) → MeetsAt catalog (unary n c op p) a → MeetsAt catalog (unary n c op p) b
       → Agreed catalog p x y → StemOf op a x → StemOf op b y → AreGiven op a b → Tells (keys_of catalog (unary n c op p)) a b
-  unary-shown (select cs) n c p a b x y ma mb h sa sb given k e g = whole-same a b x y sa sb (h.keyed (set_of k) (whole-on x y a b sa sb (set_of k) g) e)
-  unary-shown (project cols) n c p a b x y ma mb h sa sb given k e g = project-tells cols p a b x y h sa sb k e g
+  unary-shown (select fs) n c p a b x y ma mb h sa sb given k e g = whole-same a b x y sa sb (h.keyed (set_of k) (whole-on x y a b sa sb (set_of k) g) e)
+  unary-shown (project es) n c p a b x y ma mb h sa sb given k e g = project-tells es p a b x y h sa sb k e g
   unary-shown (distinct cols) n c p a b x y ma mb h sa sb given k e g =
       agree-all (length cols) k a b (and-left (within (numbers_below (length cols)) k) (within k (numbers_below (length cols))) e) ma.wide mb.wide (agree-of k a b (on-pick k a b g))
   unary-shown (sort of_parts order) n c p a b x y ma mb h sa sb given k e g =
@@ -195,8 +196,8 @@ module _ (catalog : ℕ → Relation) where
       (or-cases (nat_le m 1) (covers (claim p).keys k) e)
 
   unary-below : (op : Unary) (n : ℕ) (c : Claim) (p : Plan) (a b x y : Row) → Agreed catalog p x y → StemOf op a x → StemOf op b y → Tells (key_below catalog (unary n c op p)) a b
-  unary-below (select cs) n c p a b x y h sa sb k e g = absurd (true≢false (sym e))
-  unary-below (project cols) n c p a b x y h sa sb k e g = below-tells n c cols p a b x y h sa sb k e g
+  unary-below (select fs) n c p a b x y h sa sb k e g = absurd (true≢false (sym e))
+  unary-below (project es) n c p a b x y h sa sb k e g = below-tells n c es p a b x y h sa sb k e g
   unary-below (distinct cols) n c p a b x y h sa sb k e g = absurd (true≢false (sym e))
   unary-below (sort of_parts order) n c p a b x y h sa sb k e g = absurd (true≢false (sym e))
   unary-below (group phase by aggregates) n c p a b x y h sa sb k e g = absurd (true≢false (sym e))

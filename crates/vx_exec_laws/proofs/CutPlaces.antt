@@ -1,5 +1,5 @@
 -- Each row that a worker has given so far stands where the claimed part of its node says, by what is known of columns too.
-use Rattle.std.proofs.Common.{◌≡◌, ⊎_elim, ℕ, ◌<◌, ◌==◌, Bool, true, false, ◌&&◌, ◌||◌, List, [], ◌∷◌, ◌++◌, refl, sym, ap, ap₂, ◌∙◌, subst, true≢false, Option, Some, None}
+use Rattle.std.proofs.Common.{◌≡◌, ⊎_elim, ℕ, ◌<◌, ◌==◌, Bool, true, false, ◌&&◌, ◌||◌, List, [], ◌∷◌, ◌++◌, map, refl, sym, ap, ◌∙◌, subst, true≢false, Some}
 use Rattle.std.specs.List.{list_all, AllByRecursion}
 use Rattle.vx_rows_values.specs.declared.order.OrderEntry.{OrderEntry}
 use Rattle.vx_rows_values.specs.Values.{Row, pick}
@@ -7,7 +7,7 @@ use Rattle.vx_catalog_relations.specs.Catalog.{all_below}
 use Rattle.vx_plan_nodes.specs.Plan.{JoinMethod, Route, Part, one, any, all, routed, Size, Claim, Unary, select, project, distinct, sort, group, plain, partial, final, Binary, union, join, ExchangeKind, route_to, round, broadcast, gather, concat, target, Plan, scan, unary, binary, exchange, claim, size, is_one, limit, semi_join, Condition}
 use Rattle.vx_plan_nodes.specs.Parts.{kind_part}
 use Rattle.vx_plan_nodes.specs.Types.{width, well_formed, names_columns, part_columns}
-use Rattle.vx_plan_nodes.specs.Describe.{Copying, source, left_of, right_of, described, whole_rows}
+use Rattle.vx_plan_nodes.specs.Describe.{Copying, kept_column, left_of, right_of, described, whole_rows}
 use Rattle.vx_plan_nodes.specs.Streams.{workers}
 use Rattle.vx_plan_nodes.specs.Routes.{Routing}
 use Rattle.vx_plan_nodes.specs.Numbering.{is_fit}
@@ -17,11 +17,11 @@ use Rattle.vx_plan_facts.specs.FollowLaws.{Occurs}
 use Rattle.vx_plan_facts.specs.RowFacts.{HasEqual, MeetsAt, EachMeets, all_inputs_fit, inputs_fit}
 use Rattle.vx_plan_facts.proofs.Columns.{HasCopies, left-copies, right-copies, whole-copies}
 use Rattle.vx_plan_facts.proofs.EachRow.{each-has, each-of-had}
-use Rattle.vx_check_rules.specs.Rules.{route_eq, cons_both, part_gives, has, copied, if_some, left_columns, right_columns, routed_alike, unless_one, unary_shows, alike_shows, kind_shows, shows}
+use Rattle.vx_check_rules.specs.Rules.{route_eq, part_gives, has, copied, copied_from, if_some, left_columns, right_columns, routed_alike, unless_one, unary_shows, alike_shows, kind_shows, shows}
 use Rattle.vx_check_rules.specs.Behaviour.{sources}
 use Rattle.vx_check_rules.specs.Derived.{part_matches, stand_for, routed_as, routed_alike_equally, part_derived, part_shown_derived, allowed_derived, allowed_here_derived}
 use Rattle.vx_check_rules.specs.Claims.{Given}
-use Rattle.vx_check_rules.proofs.Exact.{sources-whole, sources-kept, sources-left, sources-right}
+use Rattle.vx_check_rules.proofs.Exact.{sources-whole, sources-kept, sources-entries, sources-left, sources-right}
 use Rattle.vx_worker.specs.Fragment.{goes, RunModel}
 use Rattle.vx_worker.specs.Trace.{Trace, Ends}
 use Rattle.vx_exec_laws.specs.RunOf.{RunOf}
@@ -29,6 +29,7 @@ use Rattle.vx_exec_laws.specs.CutRows.{Output}
 use Rattle.vx_exec_laws.proofs.Bags.{and-left, and-right, and-both}
 use Rattle.vx_exec_laws.proofs.Parts.{InRange, or-cases, route_eq-is, one-worker}
 use Rattle.vx_exec_laws.proofs.Copies.{if_some-is}
+use Rattle.vx_exec_laws.proofs.Entries.{copies-pick}
 use Rattle.vx_exec_laws.proofs.Join.{pick-left}
 use Rattle.vx_exec_laws.proofs.Places.{at_place, Placed, place-gives, place-one, had-place, given-below}
 use Rattle.vx_exec_laws.proofs.WellFormed.{well-under, well-both, names, named}
@@ -39,18 +40,6 @@ use Rattle.vx_exec_laws.proofs.CutPairs.{StemOf, stem-copies}
 use Rattle.vx_exec_laws.proofs.CutOrigins.{under, on-left, on-right, same-size, fit-left, fit-right, put-occurs, exchange-comes, unary-comes, union-comes, joined-comes, matched-so-far}
 
 -- ---- one row
-
--- columns and those that they are copies of have the same values
-cons-is : (o : Option ℕ) (os : Option (List ℕ)) (ds : List ℕ) → cons_both o os ≡ Some ds → (e : ℕ) × (es : List ℕ) × (o ≡ Some e) × (os ≡ Some es) × (ds ≡ e ∷ es)
-cons-is (Some e) (Some es) ds h = (e, es, refl, refl, cc)
-cons-is (Some e) None ds h = cc
-cons-is None os ds h = cc
-
-pub copies-pick : (k : Copying) (x a : Row) → HasCopies k x a → (cs ds : List ℕ) → sources k cs ≡ Some ds → pick cs a ≡ pick ds x
-copies-pick k x a h [] ds e = let none : [] ≡ ds = cc in ap (λ z. pick z x) none
-copies-pick k x a h (c ∷ cs) ds e =
-    let w = cons-is (source k c) (sources k cs) ds e in
-    ap₂ (λ v vs. v ∷ vs) (h c w.0 w.2) (copies-pick k x a h cs w.1 w.3) ∙ ap (λ z. pick z x) (sym w.4)
 
 -- a row stands at the worker w of n
 abbrev At : Routing → Part → (n w : ℕ) → Row → Type 0
@@ -108,8 +97,9 @@ by-part goes law b shown derived (routed r cols) n w single l row hs hd t = ⊎_
 -- a routed part that an operator shows: its input has it on the columns that are copied
 shown-source : (op : Unary) (p : Plan) (r : Route) (cols : List ℕ) → unary_shows op p (routed r cols) ≡ true
     → (ds : List ℕ) × (sources (described op).copying cols ≡ Some ds) × (has p (routed r ds) ≡ true)
-shown-source (select cs) p r cols h = (cols, sources-whole cols, h)
-shown-source (project kept) p r cols h = let k = if_some-is (copied kept cols) (λ cs. has p (routed r cs)) h in (k.0, sources-kept kept cols ∙ k.1, k.2)
+shown-source (select fs) p r cols h = (cols, sources-whole cols, h)
+shown-source (project es) p r cols h =
+    let k = if_some-is (copied_from (map kept_column es) cols) (λ cs. has p (routed r cs)) h in (k.0, sources-entries (map kept_column es) cols ∙ k.1, k.2)
 shown-source (distinct kept) p r cols h = let k = if_some-is (copied kept cols) (λ cs. has p (routed r cs)) h in (k.0, sources-kept kept cols ∙ k.1, k.2)
 shown-source (sort of_parts cs) p r cols h = (cols, sources-whole cols, h)
 shown-source (group plain by aggregates) p r cols h = let k = if_some-is (copied by cols) (λ cs. has p (routed r cs)) h in (k.0, sources-kept by cols ∙ k.1, k.2)

@@ -97,8 +97,8 @@ shows-all catalog p many h t =
     (or-cases (is_one (size p) || shows catalog p all) (part_derived catalog p all) (subst T is t))
 
 unary-all : (op : Unary) (p : Plan) → unary_shows op p all ≡ true → has p all ≡ true
-unary-all (select cs) p h = h
-unary-all (project cols) p h = h
+unary-all (select fs) p h = h
+unary-all (project es) p h = h
 unary-all (distinct cols) p h = h
 unary-all (sort of_parts order) p h = h
 unary-all (group plain by aggregates) p h = h
@@ -153,8 +153,8 @@ bags goes op other xs ys us vs s e f = go op other e f
         subst P (some-is m.out vs (sym m.is ∙ f)) m.same
 
     go : (op : Unary) → is_limit op ≡ false → unary_rows op xs ≡ Some us → unary_rows op ys ≡ Some vs → SameRows us vs
-    go (select cs) other e f = by (select cs) refl refl e f
-    go (project cols) other e f = by (project cols) refl refl e f
+    go (select fs) other e f = by (select fs) refl refl e f
+    go (project es) other e f = by (project es) refl refl e f
     go (distinct cols) other e f = by (distinct cols) refl refl e f
     go (sort of_parts order) other e f = by (sort of_parts order) refl refl e f
     go (group plain by_columns aggregates) other e f = by (group plain by_columns aggregates) refl refl e f

@@ -58,8 +58,8 @@ Stems catalog (exchange n c k m p) base row = Stems catalog p base row
 
 stems-occur : (catalog : ℕ → Relation) (p : Plan) → phased p ≡ true → is_open p ≡ false → (base : List Row) (row : Row) → Stems catalog p base row → Occurs row base
 stems-occur catalog (scan n c r m z) fit e base row h = h
-stems-occur catalog (unary n c (select cs) p) fit e base row h = h
-stems-occur catalog (unary n c (project cols) p) fit e base row h = h
+stems-occur catalog (unary n c (select fs) p) fit e base row h = h
+stems-occur catalog (unary n c (project es) p) fit e base row h = h
 stems-occur catalog (unary n c (distinct cols) p) fit e base row h = h
 stems-occur catalog (unary n c (sort false order) p) fit e base row h = h
 stems-occur catalog (unary n c (sort true order) p) fit e base row h = absurd (true≢false (sym (and-right (phased p) (is_open p) fit) ∙ e))
@@ -108,8 +108,8 @@ pieces-each w by aggregates wide (t ∷ pieces) base e among =
 
 pub gives-each : (catalog : ℕ → Relation) (p : Plan) (base xs : List Row) → Gives p base xs → AllByRecursion (Stems catalog p base) xs
 gives-each catalog (scan n c r m z) base xs h = same-each base xs h
-gives-each catalog (unary n c (select cs) p) base xs h = same-each base xs h
-gives-each catalog (unary n c (project cols) p) base xs h = same-each base xs h
+gives-each catalog (unary n c (select fs) p) base xs h = same-each base xs h
+gives-each catalog (unary n c (project es) p) base xs h = same-each base xs h
 gives-each catalog (unary n c (distinct cols) p) base xs h = same-each base xs h
 gives-each catalog (unary n c (sort false order) p) base xs h = same-each base xs h
 gives-each catalog (unary n c (sort true order) p) base xs h = gives-each catalog p base xs h
@@ -126,8 +126,8 @@ gives-each catalog (exchange n c k m p) base xs h = gives-each catalog p base xs
 
 pub listed-each : (catalog : ℕ → Relation) (p : Plan) (base : List Row) → AllByRecursion (Stems catalog p base) (listed p base)
 listed-each catalog (scan n c r m z) base = each-occurs base
-listed-each catalog (unary n c (select cs) p) base = each-occurs base
-listed-each catalog (unary n c (project cols) p) base = each-occurs base
+listed-each catalog (unary n c (select fs) p) base = each-occurs base
+listed-each catalog (unary n c (project es) p) base = each-occurs base
 listed-each catalog (unary n c (distinct cols) p) base = each-occurs base
 listed-each catalog (unary n c (sort false order) p) base = each-occurs base
 listed-each catalog (unary n c (sort true order) p) base = each-sort (Stems catalog p base) order (listed p base) (listed-each catalog p base)
@@ -158,8 +158,8 @@ none-pass f (x ∷ xs) never h = absurd (true≢false (sym (and-left (f x) (list
 
 pub open-keys : (catalog : ℕ → Relation) (p : Plan) → allowed_derived catalog p ≡ true → is_open p ≡ true → (claim p).keys ≡ []
 open-keys catalog (scan n c r m z) ok e = absurd (true≢false (sym e))
-open-keys catalog (unary n c (select cs) p) ok e = absurd (true≢false (sym e))
-open-keys catalog (unary n c (project cols) p) ok e = absurd (true≢false (sym e))
+open-keys catalog (unary n c (select fs) p) ok e = absurd (true≢false (sym e))
+open-keys catalog (unary n c (project es) p) ok e = absurd (true≢false (sym e))
 open-keys catalog (unary n c (distinct cols) p) ok e = absurd (true≢false (sym e))
 open-keys catalog (unary n c (sort false order) p) ok e = absurd (true≢false (sym e))
 open-keys catalog (unary n c (sort true order) p) ok e =
@@ -192,8 +192,8 @@ module _ (catalog : ℕ → Relation) (db : ℕ → List Row) (meets : (r : ℕ)
   open-pair : (p : Plan) → all_inputs_fit catalog p ≡ true → allowed_derived catalog p ≡ true → is_open p ≡ true → ClaimedKeysHold db p
       → (base : List Row) → serial db (spoken p) ≡ rows base → (a b : Row) → Stems catalog p base a → Stems catalog p base b → PairAt p a b
   open-pair (scan n c r m z) fit ok e keys base is a b sa sb = absurd (true≢false (sym e))
-  open-pair (unary n c (select cs) p) fit ok e keys base is a b sa sb = absurd (true≢false (sym e))
-  open-pair (unary n c (project cols) p) fit ok e keys base is a b sa sb = absurd (true≢false (sym e))
+  open-pair (unary n c (select fs) p) fit ok e keys base is a b sa sb = absurd (true≢false (sym e))
+  open-pair (unary n c (project es) p) fit ok e keys base is a b sa sb = absurd (true≢false (sym e))
   open-pair (unary n c (distinct cols) p) fit ok e keys base is a b sa sb = absurd (true≢false (sym e))
   open-pair (unary n c (sort false order) p) fit ok e keys base is a b sa sb = absurd (true≢false (sym e))
   open-pair (unary n c (sort true order) p) fit ok e keys base is a b sa sb =

@@ -22,6 +22,7 @@ use Rattle.vx_check_rules.specs.Behaviour.{order_sources, order_after}
 use Rattle.vx_check_rules.specs.Derived.{first_of, copy_of, copies_then, front_copies, rises_equally, unary_order}
 use Rattle.vx_check_rules.proofs.Exact.{order-whole_rows}
 use Rattle.vx_exec_laws.proofs.Bags.{and-left, and-right, and-both}
+use Rattle.vx_exec_laws.proofs.Entries.{kept_of}
 use Rattle.vx_exec_laws.proofs.OrderFacts.{rise, way-self, front-self}
 use Rattle.vx_exec_laws.proofs.Concat.{sorted-two, Rising}
 use Rattle.vx_exec_laws.proofs.Places.{Placed}
@@ -67,13 +68,13 @@ copies-given : (op : Unary) (w : ℕ) (k : Copying) (e : Equality) (f : Values) 
 copies-given op w k e f det below by = let r = front-stand w k e (short det below) in by r.0 r.1 r.2
 
 pub unary-given : (w : ℕ) (op : Unary) (e : Equality) (f : Values) (det : Columns → Columns) (below : List OrderEntry) → GivenBy op e f det below (unary_order w op e det below)
-unary-given w (select cs) e f det below =
+unary-given w (select fs) e f det below =
     record { sources_are = below; under = below; are_sources = order-whole_rows below; in_front = front-self below; in_order = λ v xs h u. u }
 unary-given w (sort of_parts order) e f det below =
     record { sources_are = order; under = below; are_sources = order-whole_rows order; in_front = front-self order; in_order = λ v xs h u. u }
 unary-given w (limit m) e f det below =
     record { sources_are = below; under = below; are_sources = order-whole_rows below; in_front = front-self below; in_order = λ v xs h u. u }
-unary-given w (project cols) e f det below = copies-given (project cols) w (columns_kept cols) e f det below
+unary-given w (project es) e f det below = copies-given (project es) w (kept_of es) e f det below
     (λ ys s b. record { sources_are = ys; under = ys; are_sources = s; in_front = front-self ys; in_order = λ v xs h u. begins-from v e f det xs h below ys b u })
 unary-given w (distinct cols) e f det below = copies-given (distinct cols) w (columns_kept cols) e f det below
     (λ ys s b. record { sources_are = ys; under = ys; are_sources = s; in_front = front-self ys; in_order = λ v xs h u. begins-from v e f det xs h below ys b u })

@@ -99,8 +99,8 @@ routed-meets goes e cols (routed r cs) n s stands t h p =
 
 pub meets-equally : (goes : Routing) (e : Equality) (op : Unary) (q : Part) (n : ℕ) (s : Streams) (stands : List Row → Type 0) → unary_meets_equally e op q ≡ true → EqualIn e n s
     → PartOf goes q n s stands → Meets goes (described op).meets n s × (part_gives q any ≡ true)
-meets-equally goes e (select cs) q n s stands t h p = absurd (true≢false (sym t))
-meets-equally goes e (project cols) q n s stands t h p = absurd (true≢false (sym t))
+meets-equally goes e (select fs) q n s stands t h p = absurd (true≢false (sym t))
+meets-equally goes e (project es) q n s stands t h p = absurd (true≢false (sym t))
 meets-equally goes e (distinct cols) q n s stands t h p = routed-meets goes e cols q n s stands t h p
 meets-equally goes e (sort of_parts order) q n s stands t h p = absurd (true≢false (sym t))
 meets-equally goes e (group plain by aggregates) q n s stands t h p = routed-meets goes e by q n s stands t h p

@@ -9,6 +9,7 @@ pub mod Exchange
 pub mod Join
 pub mod JoinOrder
 pub mod Widths
+pub mod Entries
 pub mod Binary
 pub mod SemiJoin
 pub mod Apart

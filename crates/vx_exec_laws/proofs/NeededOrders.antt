@@ -37,8 +37,8 @@ NeededSoFar S (binary n c op p q) ts run = NeededOf S op p q ts × NeededSoFar S
 NeededSoFar S (exchange n c k merge p) ts run = SortedSoFar S p run.0 merge × NeededSoFar S p run.0 run.1
 
 one-sorted : (n node : ℕ) (op : Unary) (h : Ledger) → OwnBlame (one_op n op) h (Own Unsorted node) → ⊥
-one-sorted n node (select cs) h b = b
-one-sorted n node (project cols) h b = b
+one-sorted n node (select fs) h b = b
+one-sorted n node (project es) h b = b
 one-sorted n node (distinct cols) h b = b
 one-sorted n node (sort of_parts order) h b = b
 one-sorted n node (group phase by aggregates) h b = b

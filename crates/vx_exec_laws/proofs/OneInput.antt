@@ -81,16 +81,16 @@ same-rows xs ys e = cc
 -- what is tested at a limit
 limit-known : (catalog : ℕ → Relation) (k : ℕ) (c : Claim) (op : Unary) (p : Plan) → first_rows_known catalog (unary k c op p) ≡ true → is_limit op ≡ true
     → (is_one (size p) && is_total_order catalog p) ≡ true
-limit-known catalog k c (select cs) p h e = absurd (true≢false (sym e))
-limit-known catalog k c (project cols) p h e = absurd (true≢false (sym e))
+limit-known catalog k c (select fs) p h e = absurd (true≢false (sym e))
+limit-known catalog k c (project es) p h e = absurd (true≢false (sym e))
 limit-known catalog k c (distinct cols) p h e = absurd (true≢false (sym e))
 limit-known catalog k c (sort of_parts order) p h e = absurd (true≢false (sym e))
 limit-known catalog k c (group phase by aggregates) p h e = absurd (true≢false (sym e))
 limit-known catalog k c (limit m) p h e = h
 
 limit-closed : (op : Unary) (p : Plan) → phase_fits op p ≡ true → is_limit op ≡ true → is_open p ≡ false
-limit-closed (select cs) p h e = absurd (true≢false (sym e))
-limit-closed (project cols) p h e = absurd (true≢false (sym e))
+limit-closed (select fs) p h e = absurd (true≢false (sym e))
+limit-closed (project es) p h e = absurd (true≢false (sym e))
 limit-closed (distinct cols) p h e = absurd (true≢false (sym e))
 limit-closed (sort of_parts order) p h e = absurd (true≢false (sym e))
 limit-closed (group phase by aggregates) p h e = absurd (true≢false (sym e))

@@ -7,30 +7,32 @@ use Rattle.vx_rows_values.specs.Order.{agree, sorted, sort_on}
 use Rattle.vx_rows_values.specs.Bags.{SameRows}
 use Rattle.vx_rows_values.specs.Keys.{HasKey}
 use Rattle.vx_catalog_relations.specs.Relation.{Relation, KeysHold}
-use Rattle.vx_plan_nodes.specs.Plan.{Route, Claim, Plan, unary, claim, Unary, select, project, distinct, sort, group, limit, plain, partial, final, Aggregate}
+use Rattle.vx_plan_nodes.specs.Plan.{Route, Claim, Plan, unary, claim, Unary, select, project, distinct, sort, group, limit, plain, partial, final, Aggregate, Entry}
 use Rattle.vx_plan_nodes.specs.Types.{unary_width}
 use Rattle.vx_plan_nodes.specs.Describe.{Copying, whole_rows, columns_kept, OrderAfter, order_kept, sorted_on, described}
 use Rattle.vx_plan_nodes.specs.Phases.{is_partial, is_final}
-use Rattle.vx_plan_nodes.specs.Serial.{passes, firsts, group_keys, group_row, group_fits, group_rows, unary_rows, aggregate_of, of_key}
+use Rattle.vx_plan_nodes.specs.Serial.{filters_hold, filters_fit, entries_row, entries_fit, where_fit, firsts, group_keys, group_row, group_fits, group_rows, unary_rows, aggregate_of, of_key}
 use Rattle.vx_plan_nodes.specs.Streams.{Streams, joined}
 use Rattle.vx_plan_nodes.specs.Routes.{Routing}
+use Rattle.vx_plan_facts.proofs.Columns.{entry-copies}
 use Rattle.vx_check_rules.specs.Rules.{copied, copied_order, covers, is_front, within, numbers_below, orders, unary_keys}
 use Rattle.vx_check_rules.specs.Behaviour.{sources, order_sources, Sorted, sorted_by, sorts, order_after}
 use Rattle.vx_check_rules.specs.Claims.{InItsStream}
 use Rattle.vx_check_rules.proofs.Exact.{sources-whole, sources-kept, order-whole_rows, order-copied, orders-exactly}
 use Rattle.vx_check_rules.proofs.Bools.{or-false}
-use Rattle.vx_exec_laws.proofs.Bags.{and-left, and-right, SameRows-trans}
+use Rattle.vx_exec_laws.proofs.Bags.{and-left, and-right, SameRows-trans, SameRows-all, stream-all}
 use Rattle.vx_exec_laws.proofs.Parts.{list_all-weaken}
 use Rattle.vx_exec_laws.proofs.Orders.{sorted-front, sorted-filter, sorted-take, list_all-filter, list_all-take}
 use Rattle.vx_exec_laws.proofs.Keys.{count-filter, covers-key}
 use Rattle.vx_exec_laws.proofs.Linear.{Linear, Linear-filter, Linear-map, Linear-sort, sort-total, linear-same, linear-joined}
-use Rattle.vx_exec_laws.proofs.Copies.{if_some-is, copied-alone, copied-pick}
+use Rattle.vx_exec_laws.proofs.Copies.{copied-alone, copied-pick}
+use Rattle.vx_exec_laws.proofs.Entries.{kept_of, copies-pick, entries-sorted, entries-wide, entries-key}
 use Rattle.vx_exec_laws.proofs.OrderFacts.{if_order-is}
-use Rattle.vx_exec_laws.proofs.Unary.{some-is, sort-all, sort-sorted, map-all, project-sorted, project-key}
+use Rattle.vx_exec_laws.proofs.Unary.{some-is, sort-all, sort-sorted, map-all, project-sorted}
 use Rattle.vx_exec_laws.proofs.Widths.{firsts-all, picks-wide, some-of, groups-wide}
 use Rattle.vx_exec_laws.proofs.JoinOrder.{wide}
 use Rattle.vx_exec_laws.proofs.Apart.{firsts-same, picks-same, firsts-joined, firsts-sorted, distinct-key}
-use Rattle.vx_exec_laws.proofs.Groups.{groups, groups-same, groups-joined, fits-joined, fits-same-rows, fits-split, groups-sorted, groups-key, keys-all}
+use Rattle.vx_exec_laws.proofs.Groups.{groups, groups-same, groups-joined, joined-all, fits-joined, fits-same-rows, fits-split, groups-sorted, groups-key, keys-all}
 
 -- ---- one list
 
@@ -93,12 +95,25 @@ group-keeps by aggregates = keeps-columns by (length by + length aggregates) (gr
     (λ order ds c xs h. groups-sorted by order ds aggregates c xs h)
     (λ xs. groups-wide by aggregates xs)
 
+-- by one that keeps some columns and computes others
+entries-keep : (es : List Entry) → Keeps (kept_of es) order_kept (λ w. length es) (unary_rows (project es))
+entries-keep es =
+    let is : (xs ys : List Row) → unary_rows (project es) xs ≡ Some ys → map (entries_row es) xs ≡ ys = λ xs ys e. (some-of (list_all (entries_fit es) xs) (map (entries_row es) xs) ys e).1 in
+    record {
+      stems = λ cs ds c test xs ys e h.
+          let P : List Row → Type 0 = λ l. list_all (λ row. test (pick cs row)) l ≡ true in
+          subst P (is xs ys e)
+          (map-all (λ row. test (pick cs row)) (entries_row es) xs
+          (copied-stems cs ds (entries_row es) (λ row. copies-pick (kept_of es) row (entries_row es row) (entry-copies es row) cs ds c) test xs h));
+      ordered = λ order ds below c front xs ys e h.
+          let P : List Row → Type 0 = λ l. sorted order l ≡ true in subst P (is xs ys e) (entries-sorted es order ds c xs (sorted-front ds below front xs h));
+      wide_as = λ w xs ys e h. let P : List Row → Type 0 = λ l. wide (length es) l ≡ true in subst P (is xs ys e) (entries-wide es xs);
+    }
+
 pub keeps : (op : Unary) → Keeps (described op).copying (described op).order (λ w. unary_width op w) (unary_rows op)
-keeps (select conditions) = keeps-whole order_kept (unary_rows (select conditions)) (filter (passes conditions)) (λ xs ys e. some-is _ _ e)
-    (λ q xs. list_all-filter q (passes conditions) xs) (λ order below front xs h. sorted-filter order (passes conditions) xs (sorted-front order below front xs h))
-keeps (project cols) = keeps-columns cols (length cols) (unary_rows (project cols)) (map (pick cols)) (λ xs ys e. some-is _ _ e)
-    (λ cs ds c test xs h. map-all (λ row. test (pick cs row)) (pick cols) xs (copied-stems cs ds (pick cols) (λ row. copied-alone cols cs ds row c) test xs h))
-    (λ order ds c xs h. project-sorted cols order ds c xs h) (λ xs. picks-wide cols xs)
+keeps (select fs) = keeps-whole order_kept (unary_rows (select fs)) (filter (filters_hold fs)) (λ xs ys e. (some-of (list_all (filters_fit fs) xs) (filter (filters_hold fs) xs) ys e).1)
+    (λ q xs. list_all-filter q (filters_hold fs) xs) (λ order below front xs h. sorted-filter order (filters_hold fs) xs (sorted-front order below front xs h))
+keeps (project es) = entries-keep es
 keeps (distinct cols) = keeps-columns cols (length cols) (unary_rows (distinct cols)) (λ xs. firsts (map (pick cols) xs)) (λ xs ys e. some-is _ _ e)
     (λ cs ds c test xs h. keys-all cols (λ row. test (pick cs row)) xs (copied-stems cs ds (pick cols) (λ row. copied-alone cols cs ds row c) test xs h))
     (λ order ds c xs h. firsts-sorted order (map (pick cols) xs) (project-sorted cols order ds c xs h)) (λ xs. firsts-all (λ row. length row == length cols) (map (pick cols) xs) (picks-wide cols xs))
@@ -138,8 +153,8 @@ Meets goes (Some cols) n s = (r : Route) × (cs : List ℕ) × (within cs cols �
 
 -- a limit, which depends on the list and not on its rows alone
 abbrev pub is_limit : Unary → Bool
-is_limit (select cs) = false
-is_limit (project cols) = false
+is_limit (select fs) = false
+is_limit (project es) = false
 is_limit (distinct cols) = false
 is_limit (sort of_parts order) = false
 is_limit (group phase by aggregates) = false
@@ -147,8 +162,8 @@ is_limit (limit n) = true
 
 -- what holds of limits and of all others holds of each operator
 pub by-limit : (P : Unary → Type 0) → ((n : ℕ) → P (limit n)) → ((op : Unary) → is_limit op ≡ false → P op) → (op : Unary) → P op
-by-limit P limits others (select cs) = others (select cs) refl
-by-limit P limits others (project cols) = others (project cols) refl
+by-limit P limits others (select fs) = others (select fs) refl
+by-limit P limits others (project es) = others (project es) refl
 by-limit P limits others (distinct cols) = others (distinct cols) refl
 by-limit P limits others (sort of_parts order) = others (sort of_parts order) refl
 by-limit P limits others (group phase by aggregates) = others (group phase by aggregates) refl
@@ -177,7 +192,28 @@ whole-by goes op f is same joins keyed = record {
   keyed = λ keys x e xs ys g h. let P : List Row → Type 0 = λ l. HasKey x l in subst P (some-is (f xs) ys (sym (is xs) ∙ g)) (keyed keys x e xs h);
 }
 
--- by a function that takes the rows one by one
+-- by a function that takes the rows one by one, where they all fit
+by-fitting-row : (goes : Routing) (op : Unary) (fits : Row → Bool) (f : List Row → List Row) → ((xs : List Row) → unary_rows op xs ≡ where_fit fits xs (f xs)) → Linear f
+    → ((keys : List (List ℕ)) (x : List ℕ) → unary_keys op keys x ≡ true → (xs : List Row) → KeysHold keys xs → HasKey x (f xs))
+    → Whole goes op
+by-fitting-row goes op fits f is lin keyed =
+    let there : (xs : List Row) → list_all fits xs ≡ true → unary_rows op xs ≡ Some (f xs) = λ xs t. is xs ∙ ap (λ b. cond b (Some (f xs)) None) t in
+    let both : (xs ys : List Row) → unary_rows op xs ≡ Some ys → (list_all fits xs ≡ true) × (f xs ≡ ys) = λ xs ys g. some-of (list_all fits xs) (f xs) ys (sym (is xs) ∙ g) in
+    record {
+      of_bags = λ xs ys zs s g.
+          let P : List Row → Type 0 = λ l. SameRows l (f ys) in
+          record { out = f ys; is = there ys (SameRows-all s fits (both xs zs g).0); same = subst P (both xs zs g).1 (linear-same lin s) };
+      joins = λ n s s' base m h run. record {
+        out = f base;
+        is = there base (SameRows-all h fits (joined-all fits n s (λ w l. (both (s w) (s' w) (run w l)).0)));
+        same = SameRows-trans (linear-joined lin n s s' (λ w l. (both (s w) (s' w) (run w l)).1)) (linear-same lin h);
+      };
+      splits = λ n s base out m h g w l.
+          let P : Option (List Row) → Type 0 = λ o. IsSome o in subst P (sym (there (s w) (stream-all n s base h fits (both base out g).0 w l))) refl;
+      keyed = λ keys x h xs ys g ks. let P : List Row → Type 0 = λ l. HasKey x l in subst P (both xs ys g).1 (keyed keys x h xs ks);
+    }
+
+-- where there is always one
 by-row : (goes : Routing) (op : Unary) (f : List Row → List Row) → ((xs : List Row) → unary_rows op xs ≡ Some (f xs)) → Linear f
     → ((keys : List (List ℕ)) (x : List ℕ) → unary_keys op keys x ≡ true → (xs : List Row) → KeysHold keys xs → HasKey x (f xs))
     → Whole goes op
@@ -185,10 +221,10 @@ by-row goes op f is lin keyed =
     whole-by goes op f is (λ xs ys s. linear-same lin s) (λ n s s' base m h run. SameRows-trans (linear-joined lin n s s' run) (linear-same lin h)) keyed
 
 pub whole : (goes : Routing) (op : Unary) → (is_partial op || is_final op) ≡ false → is_limit op ≡ false → Whole goes op
-whole goes (select cs) e f = by-row goes (select cs) (filter (passes cs)) (λ xs. refl) (Linear-filter (passes cs))
-    (λ keys x h xs ks row. let a = count-filter (agree x row) (passes cs) xs in let b = covers-key keys x h xs ks row in omega (arith, a, b))
-whole goes (project cols) e f = by-row goes (project cols) (map (pick cols)) (λ xs. refl) (Linear-map (pick cols))
-    (λ keys x h xs ks. let w = if_some-is (copied cols x) (covers keys) h in project-key cols x w.0 w.1 xs (covers-key keys w.0 w.2 xs ks))
+whole goes (select fs) e f = by-fitting-row goes (select fs) (filters_fit fs) (filter (filters_hold fs)) (λ xs. refl) (Linear-filter (filters_hold fs))
+    (λ keys x h xs ks row. let a = count-filter (agree x row) (filters_hold fs) xs in let b = covers-key keys x h xs ks row in omega (arith, a, b))
+whole goes (project es) e f = by-fitting-row goes (project es) (entries_fit es) (map (entries_row es)) (λ xs. refl) (Linear-map (entries_row es))
+    (λ keys x h xs ks. entries-key es keys x h xs ks)
 whole goes (distinct cols) e f = whole-by goes (distinct cols) (λ xs. firsts (map (pick cols) xs)) (λ xs. refl)
     (λ xs ys s. firsts-same (picks-same cols s)) (λ n s s' base m h run. firsts-joined goes m.0 m.1 cols n s s' base m.2 run h m.3)
     (λ keys x h xs ks. distinct-key cols x xs (and-left (within (numbers_below (length cols)) x) (within x (numbers_below (length cols))) h))

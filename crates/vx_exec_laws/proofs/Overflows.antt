@@ -25,7 +25,7 @@ use Rattle.vx_exec_laws.specs.DerivedFaults.{OverflowIsRealDerived}
 use Rattle.vx_plan_nodes.specs.Real.{IsReal}
 use Rattle.vx_ops.specs.declared.fault.Code.TheVariants.{Overflow}
 use Rattle.vx_ops.specs.declared.fault.Fault.TheVariants.{Own}
-use Rattle.vx_ops.specs.declared.fault.StreamState.TheVariants.{Failed}
+use Rattle.vx_ops.specs.declared.fault.StreamState.TheVariants.{Ended, Failed}
 use Rattle.vx_exec_laws.proofs.Bags.{total-ones, and-left, and-right}
 use Rattle.vx_exec_laws.proofs.Parts.{stream-most, some-workers, size_eq-is, one-worker}
 use Rattle.vx_exec_laws.proofs.Orders.{Dealt-one}
@@ -418,9 +418,16 @@ module _ (S : RunModel) (giv : Given S.catalog S.db S.sizes (goes S)) (some : 0 
       (λ o. own op ok o)
       (h.2.blame (Own Overflow node) (ap (λ (s : Stream). s.over) h.3 ∙ e))
     where
+      -- the operator gives no list of its whole input
+      no_list : (op : Unary) → Has (unary n c op p) → h.0.left.over ≡ Ended → unary_rows op h.0.left.rows ≡ None → Overflows S.db (unary n c op p)
+      no_list op ok ended none = ⊎_elim
+          (λ got. not-overflow n c op p got.0 ok got.1 w l (ap (unary_rows op) got.2 ∙ none))
+          (λ real. real-unary S.db n c op p real)
+          (complete p (table.inherited.input n c op p ok) ts run w l h.0.left.rows (record { reads = reads; reads_begin = begin; makes = abides-makes S w p reads h.0.left h.1 ended }))
+
       own : (op : Unary) → Has (unary n c op p) → OwnBlame (one_op n op) h.0 (Own Overflow node) → Overflows S.db (unary n c op p)
-      own (select cs) ok o = absurd o
-      own (project cols) ok o = absurd o
+      own (select fs) ok o = no_list (select fs) ok o.1 o.2
+      own (project es) ok o = no_list (project es) ok o.1 o.2
       own (distinct cols) ok o = absurd o
       own (sort of_parts order) ok o = absurd o
       own (limit m) ok o = absurd o

@@ -56,8 +56,8 @@ pub by-phase : (P : Unary → Phase → Type 0) → ((op : Unary) → (is_partia
     → ((order : List OrderEntry) → P (sort true order) (phase_of (sort true order)))
     → ((by : List ℕ) (aggregates : List Aggregate) → P (group final by aggregates) (phase_of (group final by aggregates)))
     → (op : Unary) → P op (phase_of op)
-by-phase P whole_ok partial_ok sort_ok final_ok (select cs) = whole_ok (select cs) refl
-by-phase P whole_ok partial_ok sort_ok final_ok (project cols) = whole_ok (project cols) refl
+by-phase P whole_ok partial_ok sort_ok final_ok (select fs) = whole_ok (select fs) refl
+by-phase P whole_ok partial_ok sort_ok final_ok (project es) = whole_ok (project es) refl
 by-phase P whole_ok partial_ok sort_ok final_ok (distinct cols) = whole_ok (distinct cols) refl
 by-phase P whole_ok partial_ok sort_ok final_ok (sort false order) = whole_ok (sort false order) refl
 by-phase P whole_ok partial_ok sort_ok final_ok (sort true order) = sort_ok order

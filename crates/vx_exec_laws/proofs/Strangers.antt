@@ -36,8 +36,8 @@ none-strange port i [] p back h k = k h.0
 none-strange port i (q ∷ before) p back h k = none-strange port i before p back h.1 k
 
 one-own : (n node : ℕ) (op : Unary) (h : Ledger) → OwnBlame (one_op n op) h (Own Stranger node) → ⊥
-one-own n node (select cs) h b = b
-one-own n node (project cols) h b = b
+one-own n node (select fs) h b = b
+one-own n node (project es) h b = b
 one-own n node (distinct cols) h b = b
 one-own n node (sort of_parts order) h b = b
 one-own n node (group phase by aggregates) h b = b

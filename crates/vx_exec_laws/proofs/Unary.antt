@@ -1,17 +1,13 @@
--- Select, project and sort keep what the rule table says.
-use Rattle.std.proofs.Common.{◌≡◌, ℕ, ◌≤◌, Bool, true, false, cond, List, [], ◌∷◌, map, refl, sym, ap, ap₂, ◌∙◌, arith, Some, unwrap_or, is_le}
+-- Sorts, and projections on columns, keep what the rule table says.
+use Rattle.std.proofs.Common.{◌≡◌, ℕ, Bool, true, false, cond, List, [], ◌∷◌, map, refl, ap, ◌∙◌, Some, unwrap_or, is_le}
 use Rattle.std.specs.List.{list_all}
 use Rattle.vx_rows_values.specs.declared.order.OrderEntry.{OrderEntry}
-use Rattle.vx_rows_values.specs.Values.{Row, row_eq, pick}
-use Rattle.vx_rows_values.specs.Order.{compare_on, agree, sorted, insert_sorted, sort_on}
-use Rattle.vx_rows_values.specs.Bags.{count}
-use Rattle.vx_rows_values.specs.Keys.{HasKey}
-use Rattle.vx_check_rules.specs.Rules.{copied, copied_order}
-use Rattle.vx_exec_laws.proofs.Bags.{and-left, and-right, and-both, total-map}
+use Rattle.vx_rows_values.specs.Values.{Row, pick}
+use Rattle.vx_rows_values.specs.Order.{compare_on, sorted, insert_sorted, sort_on}
+use Rattle.vx_check_rules.specs.Rules.{copied_order}
+use Rattle.vx_exec_laws.proofs.Bags.{and-left, and-right, and-both}
 use Rattle.vx_exec_laws.proofs.Parts.{list_all-weaken}
-use Rattle.vx_exec_laws.proofs.Keys.{count-mono}
-use Rattle.vx_rows_values.proofs.Compare.{le-trans, le-other, agree-both, count-witness}
-use Rattle.vx_exec_laws.proofs.Copies.{copied-alone}
+use Rattle.vx_rows_values.proofs.Compare.{le-trans, le-other}
 use Rattle.vx_exec_laws.proofs.OrderFacts.{compare-copied}
 
 pub some-is : {X : Type 0} (x y : X) → Some x ≡ Some y → x ≡ y
@@ -44,7 +40,7 @@ pub sort-sorted : (order : List OrderEntry) (xs : List Row) → sorted order (so
 sort-sorted order [] = refl
 sort-sorted order (x ∷ xs) = insert-sorted order x (sort_on order xs) (sort-sorted order xs)
 
--- project
+-- projections on columns
 pub map-all : (p : Row → Bool) (g : Row → Row) (xs : List Row) → list_all (λ x. p (g x)) xs ≡ true → list_all p (map g xs) ≡ true
 map-all p g [] h = refl
 map-all p g (x ∷ xs) h = and-both _ _ (and-left _ _ h) (map-all p g xs (and-right _ _ h))
@@ -54,14 +50,3 @@ project-sorted kept order ds h [] k = refl
 project-sorted kept order ds h (x ∷ xs) k = and-both _ _
     (map-all _ (pick kept) xs (list_all-weaken _ _ (λ y e. ap is_le (compare-copied kept order ds h x y) ∙ e) xs (and-left _ _ k)))
     (project-sorted kept order ds h xs (and-right _ _ k))
-
-pub project-key : (kept cs ds : List ℕ) → copied kept cs ≡ Some ds → (xs : List Row) → HasKey ds xs → HasKey cs (map (pick kept) xs)
-project-key kept cs ds h xs key row =
-    let p : Row → Bool = λ r. agree cs row (pick kept r) in
-    let e : count (agree cs row) (map (pick kept) xs) ≡ count p xs = total-map (λ x. cond (agree cs row x) 1 0) (pick kept) xs in
-    let b : count p xs ≤ 1 = count-witness p xs (λ r0 h0.
-    let a : count p xs ≤ count (agree ds r0) xs = count-mono p (agree ds r0) (λ r h1.
-    sym (ap₂ row_eq (copied-alone kept cs ds r0 h) (copied-alone kept cs ds r h)) ∙ agree-both cs row (pick kept r0) (pick kept r) h0 h1) xs in
-    let k : count (agree ds r0) xs ≤ 1 = key r0 in
-    omega arith) in
-    omega arith

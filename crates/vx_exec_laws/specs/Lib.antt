@@ -4,6 +4,7 @@ pub mod DerivedFaults
 pub mod Forms
 pub mod WorkedPlans
 pub mod WorkedLimits
+pub mod WorkedFunctions
 pub mod WorkedRows
 pub mod Worked
 pub mod Dispatch

@@ -6,7 +6,7 @@ use Rattle.vx_rows_values.specs.declared.value.ColType.TheVariants.{Int, Text}
 use Rattle.vx_rows_values.specs.Values.{Val, num, text, Row}
 use Rattle.vx_catalog_relations.specs.Relation.{Relation}
 use Rattle.vx_plan_nodes.specs.Typed.{Scope}
-use Rattle.vx_plan_nodes.specs.Plan.{Size, one_worker, group_of, Route, by_hash, Part, one, any, all, routed, Claim, equal, constant, sum, count_rows, Unary, select, sort, group, plain, union, by_hashing, by_merging, join, route_to, round, broadcast, gather, Plan, scan, unary, binary, exchange}
+use Rattle.vx_plan_nodes.specs.Plan.{Size, one_worker, group_of, Route, by_hash, Part, one, any, all, routed, Claim, equal, constant, comparing, sum, count_rows, Unary, select, sort, group, plain, union, by_hashing, by_merging, join, route_to, round, broadcast, gather, Plan, scan, unary, binary, exchange}
 
 abbrev pub t_and_d : ℕ → Relation
 t_and_d zero = record { name = []; names = []; types = Int ∷ Text ∷ Int ∷ []; keys = (0 ∷ []) ∷ []; order = rising (0 ∷ []) }
@@ -49,7 +49,7 @@ abbrev pub by_first : List OrderEntry
 by_first = rising first
 
 abbrev pub v_is_7 : Unary
-v_is_7 = select (record { left = 2; test = equal; right = constant (num (pos 7)) } ∷ [])
+v_is_7 = select (comparing (record { left = 2; test = equal; right = constant (num (pos 7)) }) ∷ [])
 
 abbrev pub shared_t : ℕ → Claim → Plan
 shared_t n c = scan n c 0 true many

@@ -35,7 +35,7 @@ pub fn forms_agree()
     ensures { FormsAgree }
 {}
 
-/// No worker's group overflows where the serial plan does not overflow there, but a partial one: there some rows of one key
+/// No worker's operator overflows where the serial plan does not overflow there, but a partial grouping: there some rows of one key
 /// of its serial input have a sum outside 64 bits, or that input is too long.
 pub fn overflow_is_real()
     ensures { NoOverflow }

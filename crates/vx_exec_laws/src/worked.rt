@@ -1,6 +1,7 @@
 //! Worked plans, judged and evaluated by the definitions alone.
 
 ghost use Rattle.vx_exec_laws.specs.Worked.{WorkedPhases};
+ghost use Rattle.vx_exec_laws.specs.WorkedFunctions.{WorkedFunctions};
 ghost use Rattle.vx_exec_laws.specs.WorkedLimits.{WorkedLimits};
 ghost use Rattle.vx_exec_laws.specs.WorkedRows.{AreAccepted, AreRefused, HaveForms, HaveSerialRows};
 
@@ -32,4 +33,9 @@ pub fn worked_plans_compute()
 /// Limits, semi joins and anti joins: what is accepted of them, what is refused, and what they mean.
 pub fn worked_limits_compute()
     ensures { WorkedLimits }
+{}
+
+/// Functions in projections and conditions: what is accepted of them, what is refused, and what they mean.
+pub fn worked_functions_compute()
+    ensures { WorkedFunctions }
 {}

@@ -4,6 +4,7 @@ ghost use Rattle.std.specs.Prelude.{◌≡◌, ◌≤◌, true, ℕ, length, map
 ghost use Rattle.vx_rows_values.specs.Order.{order_columns};
 ghost use Rattle.vx_rows.specs.View.{AreColumns};
 ghost use Rattle.vx_plan_nodes.specs.Conditions.{conditions_of};
+ghost use Rattle.vx_plan_nodes.specs.Known.{unary_known};
 ghost use Rattle.vx_plan_nodes.specs.Plan.{semi_join};
 ghost use Rattle.vx_plan_nodes.specs.Outline.{unary_of, binary_of, kind_of};
 ghost use Rattle.vx_plan_nodes.specs.Runs.{is_concat};
@@ -25,11 +26,14 @@ use vx_match::{FirstRows, HashJoining, KeyedGroups, MergeJoin, SemiJoining};
 use vx_match_join::Matching;
 use vx_ops::{Limit, Project, Select, Sort, Union};
 use vx_ops_kernels::kept_columns;
-use vx_plan_nodes::{Binary, Condition, Exchange, ExchangeKind, Unary, copied_conditions};
+use vx_plan_nodes::{
+    Binary, Condition, Exchange, ExchangeKind, Unary, copied_conditions, copied_entries,
+    copied_filters,
+};
 use vx_rows_values::{ColType, KeySeed};
 
 /// The operator over one input of rows of these types, at the node with this number, to which nothing came. Keys are hashed by
-/// the seed.
+/// the seed. The program has the functions that the operator computes.
 pub fn unary_operator(
     alloc: Global,
     seed: KeySeed,
@@ -37,7 +41,8 @@ pub fn unary_operator(
     unary: &Unary,
     input: &[ColType],
 ) -> Result<Operator, AllocError>
-    requires { is_unary input.now (unary_of unary.now) ≡ true }
+    requires typed { is_unary input.now (unary_of unary.now) ≡ true }
+    requires known { unary_known input.now (unary_of unary.now) ≡ true }
     ensures op { IfOk result (λ o. operator_op o ≡ one_op number (unary_of unary.now)) }
     ensures stands { IfOk result (λ o. OperatorStands o fresh_ledger) }
     ensures starts { IfOk result (λ o. StartsWithin (operator_op o) (operator_most o) (operator_idle o)) }
@@ -45,15 +50,15 @@ pub fn unary_operator(
     ensures returns { IfOk result (λ o. (operator_types o).out ≡ unary_types (unary_of unary.now) input.now) }
 {
     match unary {
-        Unary::Select(conditions) => {
-            let copies = copied_conditions(alloc, conditions.as_slice())?;
+        Unary::Select(filters) => {
+            let copies = copied_filters(alloc, filters.as_slice())?;
             let types = Vec::from_slice(alloc, input)?;
             let select = Select::new(alloc, number, copies, types);
             Ok(Operator::of(number, OperatorKind::Select(select)))
         }
-        Unary::Project(kept) => {
-            let columns = kept_columns(alloc, kept.as_slice())?;
-            let project = Project::new(alloc, number, columns, input)?;
+        Unary::Project(entries) => {
+            let copies = copied_entries(alloc, entries.as_slice())?;
+            let project = Project::new(alloc, number, copies, input)?;
             Ok(Operator::of(number, OperatorKind::Project(project)))
         }
         Unary::Distinct(kept) => {

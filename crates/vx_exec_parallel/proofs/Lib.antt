@@ -1,3 +1,4 @@
+pub mod Crossing
 pub mod Lists
 pub mod Fragments
 pub mod Counting

@@ -12,6 +12,7 @@ ghost use Rattle.vx_exec_setup.specs.declared.fault.RunFault.TheVariants.{NoMemo
 ghost use Rattle.vx_exec_setup.specs.Counts.{is_wanted, counts_in};
 ghost use Rattle.vx_exec.specs.Job.{model_of, sizes_of, types_at};
 ghost use Rattle.vx_exec_runs.specs.Promise.{NoThreadStarted};
+ghost use Rattle.vx_exec.specs.Part.{HasKnown};
 ghost use Rattle.vx_exec.specs.Promise.{CrewPromise, PromiseOnceSet, WhereSet};
 ghost use Rattle.vx_exec_parallel.specs.Crew.{IsWiringOf, AreNew, AreHonest, IsAcceptedJob, HaveRun};
 ghost use Rattle.vx_exec_runs.specs.Runs.{IsWhole};
@@ -92,6 +93,7 @@ fn run_job<R: Router + Sync, G: Gate + Sync, T: Threads + Wait + Sync>(
 ) -> Result<RunOutcome, RunFault>
     requires allowed { is_allowed job.now.plan.now ≡ true }
     requires root { is_root_allowed job.now.plan.now ≡ true }
+    requires known { HasKnown job.now }
     ensures run { PromiseOnceSet (R.route_of router.now) NoThreadStarted job.now.plan.now job.now.database.now (sizes_of job.now) result }
     ensures whole { IfOk result IsWhole }
     ensures few { NeedsFew most (crew_size (worker_group_at job.now.layout.worker_groups.items) (whole_plan job.now.plan.now)) result }

@@ -38,10 +38,11 @@ MayReport mode.Threads = NoThreadStarted
 pub record RunPromise (hash : List ℕ → Row → ℕ → ℕ) (Other : Reports) (p : TypedPlan) (db : Database) (setup : SetupView) (result : Result RunOutcome RunFault) : Type 0 where
   -- rows that come back are those of a run of the plan over the database, with the workers that the setup asks for, which is right
   pub done : IfOk result (IfDone (λ rows. (s : Sizes) × IsSetUp (resolved_of p) db setup s × IsRunOf hash (resolved_of p) db s.worker_groups rows))
-  -- without a fault, the database has the plan's catalog and the setup is right
+  -- without a fault, the database has the plan's catalog, the setup is right, and the plan's functions are the program's
   pub set : IfOk result (λ _. (s : Sizes) × IsSetUp (resolved_of p) db setup s)
-  -- a fault is that the database has another catalog, or what is wrong with the setup first, or that memory ran out, or an overflow that the data have, or, where the
-  -- setup is right, one that this way of running has besides
+  -- a fault is that the database has another catalog, or what is wrong with the setup first, or, where nothing is, the first node that names a function which is not
+  -- the program's, or that memory ran out, or an overflow that the data have, or, where the setup is right and the functions are known, one that this way of running has
+  -- besides
   pub refused : IfErr result (λ e. RunFails (resolved_of p) db setup e ⊎ ((s : Sizes) × IsSetUp (resolved_of p) db setup s × Other (worker_group_at s.worker_groups) (whole_plan p) e))
 
 -- what an engine says of the numbers that the workers of a run count: of a run in this mode, of this plan over this database, with these sizes, that came to this

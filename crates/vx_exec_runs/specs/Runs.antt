@@ -1,9 +1,10 @@
 -- What a run of a plan over a database comes to.
-use Rattle.std.specs.Prelude.{ℕ, ◌≡◌, ◌≢◌, ◌<◌, List, Ok}
+use Rattle.std.specs.Prelude.{ℕ, ◌≡◌, ◌≢◌, ◌<◌, List, Ok, Option, Some, None}
 use Rattle.vx_rows_values.specs.Values.{Row}
 use Rattle.vx_rows.specs.View.{RowsView}
 use Rattle.vx_catalog_relations.specs.Catalog.{relation_at}
 use Rattle.vx_catalog.specs.Database.{Database, rows_at}
+use Rattle.vx_plan_nodes.specs.Known.{first_unknown}
 use Rattle.vx_plan_nodes.specs.Names.{scope_of, TypedPlanView}
 use Rattle.vx_plan_nodes.specs.Outline.{plan_in}
 use Rattle.vx_plan_nodes.specs.Real.{IsReal}
@@ -45,23 +46,35 @@ abbrev pub IfUnfinished : Type 0 → RunOutcome → Type 0
 IfUnfinished P (run_outcome.Done rows) = Unit {0}
 IfUnfinished P run_outcome.Unfinished = P
 
--- why a run that began gives no rows: memory was refused, or a sum or count of the data overflows. No rows fall, and no packet is a stranger
+-- why a run that began gives no rows: memory was refused, or a sum, a count or a function overflows of the data. No rows fall, and no packet is a stranger
 abbrev pub IsTrueOf : TypedPlanView → Database → RunFault → Type 0
 IsTrueOf p db fault.NoMemory = Unit {0}
 IsTrueOf p db (fault.Overflow node) = IsReal (rows_at db) (plan_in p.root)
 IsTrueOf p db _ = ⊥
 
 -- the database is one of the plan's catalog, and the setup comes to these sizes
+pub record HasSizes (p : TypedPlanView) (db : Database) (setup : SetupView) (s : Sizes) : Type 0 where
+  pub same : db.catalog ≡ p.names.catalog
+  pub sizes : sizes_set setup p.names.sizes (plan_in p.root) ≡ Ok s
+
+-- the number of the first node, inputs before their node, that names a function which is not one of the program's for the types of its operands, or has
+-- another answer than the plan says
+abbrev pub unknown_in : TypedPlanView → Option ℕ
+unknown_in p = first_unknown (relation_at p.names.catalog) (plan_in p.root)
+
+-- the same, and each function that the plan names is one of the program's, for the types of its operands and with the answer that the plan says
 pub record IsSetUp (p : TypedPlanView) (db : Database) (setup : SetupView) (s : Sizes) : Type 0 where
   pub same : db.catalog ≡ p.names.catalog
   pub sizes : sizes_set setup p.names.sizes (plan_in p.root) ≡ Ok s
+  pub known : unknown_in p ≡ None
 
 -- with worker groups of these sizes the plan needs more rounds over the database, by the bound `rounds_needed`, than a run makes at most
 abbrev pub NeedsMoreRounds : TypedPlanView → Database → Sizes → Type 0
 NeedsMoreRounds p db s = MAX_ROUNDS < rounds_needed (rows_at db) (worker_group_at s.worker_groups) (plan_in p.root)
 
--- why a plan gives no rows over a database: another catalog, the first refusal of the setup, or what the run came to
+-- why a plan gives no rows over a database: another catalog, the first refusal of the setup, a function that the program does not have, or what the run came to
 pub data RunFails (p : TypedPlanView) (db : Database) (setup : SetupView) (e : RunFault) : Type 0 where
   for_catalog : e ≡ fault.OtherCatalog → db.catalog ≢ p.names.catalog → RunFails p db setup e
   for_setup : db.catalog ≡ p.names.catalog → Fails e (sizes_set setup p.names.sizes (plan_in p.root)) → RunFails p db setup e
+  for_function : (s : Sizes) → HasSizes p db setup s → (node : ℕ) → e ≡ fault.BadFunction node → unknown_in p ≡ Some node → RunFails p db setup e
   for_fault : (s : Sizes) → IsSetUp p db setup s → IsTrueOf p db e → RunFails p db setup e

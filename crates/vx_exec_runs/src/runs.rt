@@ -34,9 +34,10 @@ pub trait Runs {
     // What the workers of a run in this mode, of these sizes, which came to this, counted in the end.
     ghost counted: { Self → Mode → TypedPlan → Database → Sizes → Result RunOutcome RunFault → List WorkerCounts → Type 0 };
 
-    /// A run of a plan over a database, in the mode that the setting says. Only by rounds may it be left unfinished, and only where the setup is
-    /// right and the plan needs more than `MAX_ROUNDS` rounds by the bound `rounds_needed`. What its workers counted is in `counts` afterwards,
-    /// also where some failed; memory for it is refused only where it is wanted.
+    /// A run of a plan over a database, in the mode that the setting says. A plan that names a function which the program does not have is
+    /// refused before the first step. Only by rounds may a run be left unfinished, and only where the setup is right and the plan needs more
+    /// than `MAX_ROUNDS` rounds by the bound `rounds_needed`. What its workers counted is in `counts` afterwards, also where some failed;
+    /// memory for it is refused only where it is wanted.
     fn run<T: Threads + Wait + Sync>(
         &self,
         rt: &T,

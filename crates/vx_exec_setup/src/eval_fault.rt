@@ -13,13 +13,17 @@ pub enum EvalFault {
     /// The plan has an exchange: the first in preorder.
     #[error("X13 HasExchange node={node}")]
     HasExchange { node: u32 },
-    /// A sum or a count of a group is no number of 64 bits, or a grouping has over 2^62 rows: the first such node, each
-    /// behind its inputs.
+    /// A sum or a count of a group is no number of 64 bits, a grouping has over 2^62 rows, or a function of a select or a project
+    /// overflows: the first such node, each behind its inputs.
     #[error("X7 Overflow node={node}")]
     Overflow { node: u32 },
     /// A growth was refused.
     #[error("X8 NoMemory")]
     NoMemory,
+    /// A function that the plan names is none of the program's for the types of its operands, or answers another type than the
+    /// plan says: the first such node, each behind its inputs.
+    #[error("X15 BadFunction node={node}")]
+    BadFunction { node: u32 },
 }
 
 impl From<AllocError> for EvalFault {

@@ -25,7 +25,7 @@ pub enum RunFault {
     /// The database is not one of the plan's catalog.
     #[error("X6 OtherCatalog")]
     OtherCatalog,
-    /// A sum or a count of a group is no number of 64 bits.
+    /// A sum or a count of a group is no number of 64 bits, or a function of a select or a project overflows.
     #[error("X7 Overflow node={node}")]
     Overflow { node: u32 },
     /// A growth was refused.
@@ -46,6 +46,10 @@ pub enum RunFault {
     /// A producer is to run ahead by no packet, or by over 1,024 packets.
     #[error("X14 BadSlack")]
     BadSlack,
+    /// A function that the plan names is none of the program's for the types of its operands, or answers another type than the
+    /// plan says: the first such node, each behind its inputs.
+    #[error("X15 BadFunction node={node}")]
+    BadFunction { node: u32 },
 }
 
 impl From<AllocError> for RunFault {

@@ -1,6 +1,6 @@
 -- A run that was ready: at any moment its workers have gone on by no more steps than the plan needs rounds.
 use Rattle.std.proofs.Common.{ℕ, zero, suc, ◌≡◌, ◌<◌, ◌≤◌, ◌+◌, ◌-◌, ◌*◌, List, [], ◌∷◌, length, IsSome, refl, sym, ap, subst, arith, inl, inr, true}
-use Rattle.std.proofs.Math.ListN.{get_or, set}
+use Rattle.std.proofs.Math.ListN.{get_or}
 use Rattle.std.proofs.lemmas.Bool.{cases_lt}
 use Rattle.std.specs.List.{All}
 use Rattle.vx_rows_values.specs.Values.{Val, Row}

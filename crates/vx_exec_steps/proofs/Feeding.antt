@@ -1,5 +1,5 @@
 -- The producers from which a worker of a plan takes: the board connects them to it, and they have greater numbers.
-use Rattle.std.proofs.Common.{ℕ, ◌≡◌, ◌<◌, ◌≤◌, ◌+◌, ◌-◌, ◌&&◌, ◌⊎◌, ⊎_elim, true, List, Some, slice_get, refl, sym, ap, ◌∙◌, subst, arith, inl, inr}
+use Rattle.std.proofs.Common.{ℕ, ◌≡◌, ◌<◌, ◌≤◌, ◌+◌, ◌-◌, ◌&&◌, ⊎_elim, true, Some, slice_get, refl, sym, ap, ◌∙◌, subst, arith, inl, inr}
 use Rattle.std.proofs.lemmas.Bool.{cases_lt}
 use Rattle.vx_plan_nodes.specs.Plan.{Plan, scan, unary, binary, exchange, size, size_eq}
 use Rattle.vx_plan_nodes.specs.Streams.{workers}

@@ -13,14 +13,13 @@ use Rattle.vx_plan_nodes.specs.Workers.{crew_size}
 use Rattle.vx_ports.specs.Packets.{PacketView, closes, is_empty, is_closed, is_stream}
 use Rattle.vx_ops.specs.Ledger.{Stream, Ledger, Op}
 use Rattle.vx_ops.specs.Turn.{Coming, with_packet}
-use Rattle.vx_ops.specs.declared.fault.Fault.{Fault}
 use Rattle.vx_ops.specs.declared.turn.Want.{Want}
 use Rattle.vx_exchange_ends.specs.Tasks.{Task, Post, IsAt}
 use Rattle.vx_exchange_ends.specs.Queued.{consumers_of}
 use Rattle.vx_exchange_ends.specs.Streams.{AreStreams}
 use Rattle.vx_exchange_ends.proofs.PortStreams.{stopped-streams, finished-closed, stopped-closed}
 use Rattle.vx_worker.specs.Fragment.{RunModel, goes}
-use Rattle.vx_worker.specs.Trace.{Trace, Event, idle, took_one, added, empty_trace, HonestBy}
+use Rattle.vx_worker.specs.Trace.{Trace, idle, took_one, added, empty_trace, HonestBy}
 use Rattle.vx_worker.specs.Answering.{IsSending, Answered, Waits, none_came, none_drains, is_full, no_memory}
 use Rattle.vx_worker.specs.Trees.{shape, IsFormed, TakesFrom}
 use Rattle.vx_worker.specs.Remaining.{EventFits}

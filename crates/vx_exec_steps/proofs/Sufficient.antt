@@ -1,6 +1,5 @@
 -- As many rounds as a plan needs bring a run of it to its end: in each round some worker goes on, and all of them have no more steps than that.
 use Rattle.std.proofs.Common.{ℕ, zero, suc, ◌≡◌, ◌<◌, ◌≤◌, List, [], ◌∷◌, length, map, IsSome, refl, ap, subst, arith, inl, inr, true}
-use Rattle.std.proofs.Math.ListN.{set}
 use Rattle.std.specs.List.{All}
 use Rattle.vx_rows_values.specs.Values.{Val, Row}
 use Rattle.vx_plan_nodes.specs.Plan.{Plan, size}

@@ -1,6 +1,6 @@
 //! Whole runs in one thread: steps, and what they come to.
 
-ghost use Rattle.std.specs.Prelude.{◌≡◌, ◌≤◌, ◌<◌, Bool, map, vec_len, IfOk, IfErr};
+ghost use Rattle.std.specs.Prelude.{◌≡◌, ◌≤◌, ◌<◌, Bool, map, vec_len};
 ghost use Rattle.std.specs.List.{All};
 ghost use Rattle.vx_exec_layout.specs.Needed.{rounds_needed};
 ghost use Rattle.vx_plan_nodes.specs.Plan.{Plan};
@@ -10,11 +10,11 @@ ghost use Rattle.vx_exec_steps.specs.Endings.{ReportsFirst};
 ghost use Rattle.vx_exec_steps.specs.Following.{Follows, FollowsRounds};
 ghost use Rattle.vx_exec_steps.specs.Headline.{Answers, IsAccepted};
 ghost use Rattle.vx_exec_steps.specs.Ready.{IsRested, Ready, Settled};
-ghost use Rattle.vx_exec_steps.specs.Schedules.{HoldsRounds, IsBadStep};
+ghost use Rattle.vx_exec_steps.specs.Schedules.{HoldsRounds};
 ghost use Rattle.vx_exec_steps.specs.Verdicts.{Judged};
 
 use crate::links::Links;
-use crate::run::{bad_step, step_rounds, step_schedule};
+use crate::run::{step_rounds, step_schedule};
 use crate::verdict::{RunState, judge};
 use vx_exchange_ends::Sends;
 use vx_ops::Source;
@@ -52,38 +52,33 @@ pub fn judge_rounds<O: Source, S: Sends, G: Morsels, R: Router>(
     judge(workers.as_slice())
 }
 
-/// One step for each of these numbers of workers, and what they come to. The index of the first step that names no worker comes before any step is made.
+/// One step for each of these numbers of workers, and what they come to.
 pub fn judge_schedule<O: Source, S: Sends, G: Morsels, R: Router>(
     workers: &mut Vec<Worker<O, S>>,
     morsels: &G,
     router: &R,
     links: &mut Links,
     steps: &[u32],
-) -> Result<RunState, usize>
-    requires { All (IsReady O.types S.post S.is_open S.has_closed (G.types_of morsels.now)) workers.old.items }
-    ensures bad { IfErr result (IsBadStep steps.now (vec_len workers.old)) }
-    ensures good { IfOk result (λ _. All (λ s. s < vec_len workers.old) steps.now) }
-    ensures before { IfErr result (λ _. (workers.new ≡ workers.old) × (links.new ≡ links.old)) }
-    ensures follows { IfOk result (λ _. Follows O.Stands O.want O.op O.most O.idle S.Stands S.task S.post S.bounds S.held S.unclosed (R.route_of router.now) (G.morsel_of morsels.now) steps.now workers.old.items links.old workers.new.items links.new) }
+) -> RunState
+    requires named { All (λ s. s < vec_len workers.old) steps.now }
+    requires ready { All (IsReady O.types S.post S.is_open S.has_closed (G.types_of morsels.now)) workers.old.items }
+    ensures follows { Follows O.Stands O.want O.op O.most O.idle S.Stands S.task S.post S.bounds S.held S.unclosed (R.route_of router.now) (G.morsel_of morsels.now) steps.now workers.old.items links.old workers.new.items links.new }
     ensures roles { map (role_of O.op S.post S.bounds) workers.new.items ≡ map (role_of O.op S.post S.bounds) workers.old.items }
-    ensures judged { IfOk result (Judged workers.new.items) }
+    ensures judged { Judged workers.new.items result }
     ensures settled { (W : RunModel) (p : Plan)
         → Ready O.Stands O.op S.Stands S.task S.post S.bounds (R.route_of router.now) (G.morsel_of morsels.now) W p workers.old.items links.old
-        → IfOk result (Settled S.task W p workers.new.items) }
+        → Settled S.task W p workers.new.items result }
     ensures answers { (W : RunModel) (is_total : Bool) (p : Plan) → IsAccepted W is_total p
         → Ready O.Stands O.op S.Stands S.task S.post S.bounds (R.route_of router.now) (G.morsel_of morsels.now) W p workers.old.items links.old
-        → IfOk result (Answers S.task W is_total p workers.new.items) }
+        → Answers S.task W is_total p workers.new.items result }
     ensures first { (W : RunModel) (is_total : Bool) (p : Plan) → IsAccepted W is_total p
         → Ready O.Stands O.op S.Stands S.task S.post S.bounds (R.route_of router.now) (G.morsel_of morsels.now) W p workers.old.items links.old
-        → IfOk result (ReportsFirst W p) }
+        → ReportsFirst W p result }
     ensures ends { (W : RunModel) (is_total : Bool) (p : Plan) → IsAccepted W is_total p
         → Ready O.Stands O.op S.Stands S.task S.post S.bounds (R.route_of router.now) (G.morsel_of morsels.now) W p workers.old.items links.old
         → All (IsRested O.op O.most O.idle S.post S.held S.unclosed) workers.old.items
-        → HoldsRounds (rounds_needed W.db W.sizes p) (vec_len workers.old) steps.now → IfOk result (λ r. r ≡ RunState.Unfinished → ⊥) }
+        → HoldsRounds (rounds_needed W.db W.sizes p) (vec_len workers.old) steps.now → result ≡ RunState.Unfinished → ⊥ }
 {
-    if let Some(index) = bad_step(steps, workers.len()) {
-        return Err(index);
-    }
     step_schedule(workers, morsels, router, links, steps);
-    Ok(judge(workers.as_slice()))
+    judge(workers.as_slice())
 }

@@ -3,7 +3,7 @@
 use std::alloc::{AllocError, Global};
 use std::marker::Model;
 use vx_match_keys::Seen;
-use vx_ops::{StepKernel, Stepping};
+use vx_ops::{StepFault, StepKernel, Stepping};
 use vx_rows_values::{ColType, KeySeed};
 use vx_rows_views::Rows;
 
@@ -93,7 +93,7 @@ impl StepKernel for FirstRows {
 
     ghost at_once = { λ s n l. tt };
 
-    fn step(&mut self, batch: Rows) -> Result<Rows, AllocError> {
-        self.seen.keep_new(&batch, self.columns.as_slice())
+    fn step(&mut self, batch: Rows) -> Result<Rows, StepFault> {
+        Ok(self.seen.keep_new(&batch, self.columns.as_slice())?)
     }
 }

@@ -34,8 +34,8 @@ with_end l = record l { gave = record { rows = l.gave.rows; over = Ended } }
 -- an overflow of all rows is one's own, once the input ended
 overflows : (n : ℕ) (op : Unary) (l : Ledger) → l.left.over ≡ Ended → MayOverflow op l.left.rows → OwnBlame (one_op n op) l (Own Overflow n)
 overflows n (group phase by aggregates) l e m = (refl, e, m)
-overflows n (select cs) l e m = m
-overflows n (project cs) l e m = m
+overflows n (select fs) l e m = absurd m
+overflows n (project es) l e m = absurd m
 overflows n (distinct cs) l e m = m
 overflows n (sort of_parts cs) l e m = m
 overflows n (limit rows) l e m = m

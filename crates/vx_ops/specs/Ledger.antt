@@ -4,7 +4,7 @@ use Rattle.vx_rows_values.specs.Values.{Row}
 use Rattle.vx_rows_values.specs.Order.{sorted}
 use Rattle.vx_rows_values.specs.declared.order.OrderEntry.{OrderEntry}
 use Rattle.vx_rows_values.specs.declared.value.ColType.{ColType}
-use Rattle.vx_plan_nodes.specs.Plan.{Unary, sort, group, by_hashing, by_merging, Binary, join, semi_join, left_order, right_order}
+use Rattle.vx_plan_nodes.specs.Plan.{Unary, select, project, sort, group, by_hashing, by_merging, Binary, join, semi_join, left_order, right_order}
 use Rattle.vx_plan_nodes.specs.Serial.{unary_rows, binary_rows, group_rows}
 use Rattle.vx_plan_nodes.specs.Streams.{Dealt, joined}
 use Rattle.vx_ports.specs.Packets.{PacketView, rows_of, has_last, has_fault}
@@ -80,6 +80,8 @@ pub record Came (P : PacketView → Type 0) (ps : List PacketView) : Type 0 wher
 -- why a source returns a fault that no input returned
 abbrev pub OwnBlame : Op → Ledger → Fault → Type 0
 OwnBlame op l (Own NoMemory node) = Unit {0}
+OwnBlame (one_op n (select fs)) l (Own Overflow node) = (node ≡ n) × (l.left.over ≡ Ended) × (unary_rows (select fs) l.left.rows ≡ None)
+OwnBlame (one_op n (project es)) l (Own Overflow node) = (node ≡ n) × (l.left.over ≡ Ended) × (unary_rows (project es) l.left.rows ≡ None)
 OwnBlame (one_op n (group phase by aggregates)) l (Own Overflow node) =
     (node ≡ n) × (l.left.over ≡ Ended) × ((group_rows by aggregates l.left.rows ≡ None) ⊎ (4611686018427387904 < length l.left.rows))
 OwnBlame (two_op n (join (by_merging falls) on)) l (Own Unsorted node) =

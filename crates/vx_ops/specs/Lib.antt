@@ -7,7 +7,9 @@ pub mod Starts
 pub mod Strangers
 pub mod Scan
 pub mod Union
+pub mod StepKernel
 pub mod Stepping
+pub mod Selection
 pub mod Select
 pub mod Limit
 pub mod Projection

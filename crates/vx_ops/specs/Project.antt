@@ -3,11 +3,12 @@ use Rattle.vx_ops.specs.Ledger.{Ledger, Op}
 use Rattle.vx_ops.specs.Turn.{Shape}
 use Rattle.vx_ops.specs.Meaning.{Meaning}
 use Rattle.vx_ops.specs.Stepping.{stepping_op, stepping_types, SteppingStands, stepping_meaning}
-use Rattle.vx_ops.specs.Projection.{ProjectionView, projection, projection_types, HasProjected}
+use Rattle.vx_ops.specs.Projection.{projection, projection_types, HasProjected}
+use Rattle.vx_ops.specs.declared.project.Projection.{Projection}
 use Rattle.vx_ops.specs.declared.stepping.Stepping.{Stepping}
 
 abbrev pub Project : Type 0
-Project = Stepping ProjectionView
+Project = Stepping Projection
 
 abbrev pub project_op : Project → Op
 project_op s = stepping_op projection s

@@ -1,22 +1,19 @@
--- What a caller sees of the kernel of a projection, and what it makes.
-use Rattle.std.specs.Prelude.{◌≡◌, ℕ, List, map}
-use Rattle.vx_rows_values.specs.declared.value.ColType.{ColType}
-use Rattle.vx_rows_values.specs.Values.{Row, pick}
-use Rattle.vx_rows_values.specs.Types.{type_at}
+-- What the kernel of a projection makes.
+use Rattle.std.specs.Prelude.{◌≡◌, List, map, Some}
+use Rattle.vx_rows_values.specs.Values.{Row}
+use Rattle.vx_plan_nodes.specs.Outline.{entry_of}
 use Rattle.vx_plan_nodes.specs.Plan.{Unary, project}
+use Rattle.vx_plan_nodes.specs.Serial.{unary_rows}
+use Rattle.vx_plan_nodes.specs.Types.{unary_types}
 use Rattle.vx_ops.specs.Turn.{Shape}
+use Rattle.vx_ops.specs.declared.project.Projection.{Projection}
 
--- the columns that it keeps, and the types of its input
-pub record ProjectionView : Type 0 where
-  pub columns : List ℕ
-  pub types : List ColType
+abbrev pub projection : Projection → Unary
+projection s = project (map entry_of s.entries.items)
 
-abbrev pub projection : ProjectionView → Unary
-projection s = project s.columns
+abbrev pub projection_types : Projection → Shape
+projection_types s = record { left = s.types.items; right = s.types.items; out = unary_types (projection s) s.types.items }
 
-abbrev pub projection_types : ProjectionView → Shape
-projection_types s = record { left = s.types; right = s.types; out = map (type_at s.types) s.columns }
-
--- its columns of each row
-abbrev pub HasProjected : ProjectionView → List Row → List Row → Type 0
-HasProjected s xs ys = ys ≡ map (pick s.columns) xs
+-- its columns of each row, where no function overflows
+abbrev pub HasProjected : Projection → List Row → List Row → Type 0
+HasProjected s xs ys = unary_rows (projection s) xs ≡ Some ys

@@ -29,7 +29,7 @@ pub use scan::Scan;
 pub use select::{Select, Selection};
 pub use sort::{Sort, Sorting};
 pub use source::Source;
-pub use step_kernel::StepKernel;
+pub use step_kernel::{StepFault, StepKernel};
 pub use stepping::Stepping;
 pub use turn::{Got, Polled, Want};
 pub use union::Union;

@@ -1,8 +1,8 @@
 //! The first rows, a batch at a time.
 
-use crate::step_kernel::StepKernel;
+use crate::step_kernel::{StepFault, StepKernel};
 use crate::stepping::Stepping;
-use std::alloc::{AllocError, Global};
+use std::alloc::Global;
 use vx_rows_values::ColType;
 use vx_rows_views::Rows;
 
@@ -70,7 +70,7 @@ impl StepKernel for Limiting {
 
     ghost at_once = { λ s n l. tt };
 
-    fn step(&mut self, batch: Rows) -> Result<Rows, AllocError> {
+    fn step(&mut self, batch: Rows) -> Result<Rows, StepFault> {
         let count = batch.len();
         if count <= self.missing {
             self.missing -= count;

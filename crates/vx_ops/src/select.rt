@@ -1,10 +1,15 @@
 //! Selection, a batch at a time.
 
-use crate::step_kernel::StepKernel;
+ghost use Rattle.std.specs.Prelude.{◌≡◌, true, map};
+ghost use Rattle.vx_plan_nodes.specs.Known.{unary_known};
+ghost use Rattle.vx_plan_nodes.specs.Outline.{filter_of};
+ghost use Rattle.vx_plan_nodes.specs.Plan.{select};
+
+use crate::step_kernel::{StepFault, StepKernel};
 use crate::stepping::Stepping;
-use std::alloc::{AllocError, Global};
-use vx_ops_kernels::chosen;
-use vx_plan_nodes::Condition;
+use std::alloc::Global;
+use vx_ops_computing::{ComputeFault, filtered};
+use vx_plan_nodes::Filter;
 use vx_rows_values::ColType;
 use vx_rows_views::Rows;
 
@@ -16,39 +21,38 @@ pub type Select = Stepping<Selection>;
 /// The kernel of a selection.
 pub struct Selection {
     alloc: Global,
-    conditions: Vec<Condition>,
+    filters: Vec<Filter>,
     types: Vec<ColType>,
+    ghost known: { unary_known types.items (select (map filter_of filters.items)) ≡ true },
 }
 
 impl Drop for Selection {
     fn drop(self) {
         let Selection {
             alloc: _,
-            conditions: _,
+            filters: _,
             types: _,
         } = self;
     }
 }
 
 impl Stepping<Selection> {
-    ghost use Rattle.std.specs.Prelude.{◌≡◌};
-    ghost use Rattle.vx_plan_nodes.specs.Plan.{select};
-    ghost use Rattle.vx_plan_nodes.specs.Conditions.{conditions_of};
     ghost use Rattle.vx_ops.specs.Ledger.{one_op};
     ghost use Rattle.vx_ops.specs.Turn.{fresh_ledger};
     ghost use Rattle.vx_ops.specs.Select.{SelectStands, select_op, select_types, select_meaning};
     ghost use Rattle.vx_ops.specs.Starts.{Starts};
 
-    /// A selection over rows of these types at the node with this number, to which nothing came.
-    pub fn new(alloc: Global, node: u32, conditions: Vec<Condition>, types: Vec<ColType>) -> Select
+    /// A selection over rows of these types at the node with this number, to which nothing came. The program has the functions of its conditions.
+    pub fn new(alloc: Global, node: u32, filters: Vec<Filter>, types: Vec<ColType>) -> Select
+        requires { unary_known types.items (select (map filter_of filters.items)) ≡ true }
         ensures stands { SelectStands result fresh_ledger }
-        ensures op { select_op result ≡ one_op node (select (conditions_of conditions.items)) }
+        ensures op { select_op result ≡ one_op node (select (map filter_of filters.items)) }
         ensures types { select_types result ≡ record { left = types.items; right = types.items; out = types.items } }
         ensures starts { Starts (select_meaning result) }
     {
         let kernel = Selection {
             alloc,
-            conditions,
+            filters,
             types,
         };
         Stepping::with_kernel(node, kernel)
@@ -56,9 +60,7 @@ impl Stepping<Selection> {
 }
 
 impl StepKernel for Selection {
-    ghost use Rattle.std.proofs.Common.{ap, sym};
-    ghost use Rattle.std.specs.Prelude.{Some};
-    ghost use Rattle.vx_ops.specs.Select.{selection, selection_types, HasSelected};
+    ghost use Rattle.vx_ops.specs.Selection.{selection, selection_types, HasSelected};
 
     ghost unary = { selection };
 
@@ -66,11 +68,15 @@ impl StepKernel for Selection {
 
     ghost HasMade = { HasSelected };
 
-    ghost serial = { λ s xs ys made. ap Some (sym made) };
+    ghost serial = { λ s xs ys made. made };
 
     ghost at_once = { λ s n l. tt };
 
-    fn step(&mut self, batch: Rows) -> Result<Rows, AllocError> {
-        chosen(self.alloc, self.conditions.as_slice(), &batch)
+    fn step(&mut self, batch: Rows) -> Result<Rows, StepFault> {
+        match filtered(self.alloc, &batch, self.filters.as_slice()) {
+            Ok(rows) => Ok(rows),
+            Err(ComputeFault::Overflow) => Err(StepFault::Overflow),
+            Err(ComputeFault::NoMemory) => Err(StepFault::NoMemory),
+        }
     }
 }

@@ -2,17 +2,19 @@
 
 use crate::fault::{Code, Fault, StreamState};
 use crate::source::Source;
-use crate::step_kernel::StepKernel;
+use crate::step_kernel::{StepFault, StepKernel};
 use crate::turn::{Got, Polled, Want};
 use vx_rows_views::Rows;
 
 /// Calls: `with_kernel (wants turn)*`.
 ///
-/// An operator of one input: it returns what its kernel makes of each batch, as the batches come.
+/// An operator of one input: it returns what its kernel makes of each batch, as the batches come. Once its kernel overflows it returns nothing
+/// more, takes its input to its end, and reports the overflow then.
 #[derive(Drop)]
 pub struct Stepping<K> {
     node: u32,
     kernel: K,
+    overflowed: bool,
     over: StreamState,
 }
 
@@ -36,6 +38,7 @@ impl<K: StepKernel> Stepping<K> {
         Stepping {
             node,
             kernel,
+            overflowed: false,
             over: StreamState::Running,
         }
     }
@@ -51,6 +54,9 @@ impl<K: StepKernel> Stepping<K> {
         ensures op { stepping_op K.unary self.new ≡ stepping_op K.unary self.old }
         ensures types { stepping_types K.types self.new ≡ stepping_types K.types self.old }
     {
+        if self.overflowed {
+            return Polled::Waiting;
+        }
         match self.kernel.step(batch) {
             Ok(made) => {
                 if made.len() == 0 {
@@ -58,7 +64,11 @@ impl<K: StepKernel> Stepping<K> {
                 }
                 Polled::Gave(made)
             }
-            Err(_) => {
+            Err(StepFault::Overflow) => {
+                self.overflowed = true;
+                Polled::Waiting
+            }
+            Err(StepFault::NoMemory) => {
                 let fault = Fault::Own {
                     code: Code::NoMemory,
                     node: self.node,
@@ -67,6 +77,28 @@ impl<K: StepKernel> Stepping<K> {
                 Polled::Fault(fault)
             }
         }
+    }
+
+    // What is returned at the end of the input.
+    fn conclude(&mut self) -> Polled
+        requires running { self.old.over ≡ Running }
+        ensures stands { (l : Ledger) → SteppingStands K.unary K.HasMade self.old l
+            → SteppingStands K.unary K.HasMade self.new (after l want_of.Left (got_of.Input polled.End) result) }
+        ensures gives { GivesRows (K.types self.old.kernel).out result }
+        ensures pays { (c : Coming) → Pays 1 c.left 0 c.left 0 result }
+        ensures op { stepping_op K.unary self.new ≡ stepping_op K.unary self.old }
+        ensures types { stepping_types K.types self.new ≡ stepping_types K.types self.old }
+    {
+        if !self.overflowed {
+            self.over = StreamState::Ended;
+            return Polled::End;
+        }
+        let fault = Fault::Own {
+            code: Code::Overflow,
+            node: self.node,
+        };
+        self.over = StreamState::Failed(fault);
+        Polled::Fault(fault)
     }
 }
 
@@ -109,10 +141,7 @@ impl<K: StepKernel> Source for Stepping<K> {
             StreamState::Failed(f) => Polled::Fault(f),
             StreamState::Running => match got {
                 Got::Input(Polled::Gave(batch)) => self.step(batch),
-                Got::Input(Polled::End) => {
-                    self.over = StreamState::Ended;
-                    Polled::End
-                }
+                Got::Input(Polled::End) => self.conclude(),
                 Got::Input(Polled::Fault(f)) => {
                     self.over = StreamState::Failed(f);
                     Polled::Fault(f)

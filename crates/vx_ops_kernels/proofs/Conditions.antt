@@ -14,7 +14,7 @@ pub all-hold : (cs : List Condition) (row : Row) → passes (conditions_of cs) r
 all-hold cs row = list_all-map (λ c. holds c row) condition_of cs
 
 -- rows filtered by one condition after the other
-filter-both : (p q : Row → Bool) (xs : List Row) → filter q (filter p xs) ≡ filter (λ x. p x && q x) xs
+pub filter-both : (p q : Row → Bool) (xs : List Row) → filter q (filter p xs) ≡ filter (λ x. p x && q x) xs
 filter-both p q [] = refl
 filter-both p q (x ∷ xs) = go (p x) (filter-both p q xs)
   where
@@ -23,7 +23,7 @@ filter-both p q (x ∷ xs) = go (p x) (filter-both p q xs)
     go true e = ap (λ ys. cond (q x) (x ∷ ys) ys) e
     go false e = e
 
-filter-same : (p q : Row → Bool) (xs : List Row) → ((x : Row) → p x ≡ q x) → filter p xs ≡ filter q xs
+pub filter-same : (p q : Row → Bool) (xs : List Row) → ((x : Row) → p x ≡ q x) → filter p xs ≡ filter q xs
 filter-same p q [] e = refl
 filter-same p q (x ∷ xs) e = ap (λ b. cond b (x ∷ filter p xs) (filter p xs)) (e x) ∙ ap (λ ys. cond (q x) (x ∷ ys) ys) (filter-same p q xs e)
 

@@ -164,8 +164,8 @@ fn places_that_pass(
     }
 }
 
-// The rows of a chunk of which a condition holds. Where it holds of all, the chunk is returned as it is.
-fn kept(alloc: Global, condition: &Condition, chunk: Chunk) -> Result<Chunk, AllocError>
+/// The rows of a chunk of which a condition holds. Where it holds of all, the chunk is returned as it is.
+pub fn kept(alloc: Global, condition: &Condition, chunk: Chunk) -> Result<Chunk, AllocError>
     ensures types { IfOk result (λ c. c.types ≡ chunk.types) }
     ensures rows { IfOk result (λ c. c.rows ≡ filter (holds_of condition.now) chunk.rows) }
 {

@@ -1,5 +1,8 @@
 pub mod RisingFacts
 pub mod WalkFacts
+pub mod OperandFacts
+pub mod EntryFacts
+pub mod Computed
 pub mod TestFacts
 pub mod SeenFacts
 pub mod BoundFacts
@@ -22,3 +25,4 @@ pub mod PairExact
 pub mod PlanSaid
 pub mod PlanAgain
 pub mod PlanExact
+mod EntryShapes

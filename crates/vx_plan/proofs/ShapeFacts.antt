@@ -10,25 +10,27 @@ use Rattle.vx_rows_values.specs.Order.{order_columns}
 use Rattle.vx_rows_values.specs.Types.{type_at}
 use Rattle.vx_catalog_relations.specs.Catalog.{all_below, relation_at}
 use Rattle.vx_plan_nodes.specs.declared.typed.Projected.{Projected}
-use Rattle.vx_plan_nodes.specs.Plan.{Aggregate, Phase, Unary, Condition, ExchangeKind, Plan, route_to, by_hash, by_range}
+use Rattle.vx_plan_nodes.specs.Plan.{Aggregate, Phase, Unary, Condition, Expression, Filter, Entry, ExchangeKind, Plan, route_to, by_hash, by_range}
 use Rattle.vx_plan_nodes.specs.Plan as plan
-use Rattle.vx_plan_nodes.specs.Types.{types_of, unary_types, binary_types, aggregate_type}
+use Rattle.vx_plan_nodes.specs.Types.{types_of, unary_types, binary_types, entry_type, aggregate_type}
 use Rattle.vx_plan_nodes.specs.Phases.{first_columns, merged, unary_open, is_open, phase_fits}
-use Rattle.vx_plan_nodes.specs.Typed.{are_columns, is_condition, is_aggregate, is_unary, is_pair, are_distinct_pairs, has_directions, is_binary, types_eq, is_kind, may_merge, is_size, is_routed, typed}
+use Rattle.vx_plan_nodes.specs.Typed.{are_columns, is_condition, is_filter, is_entry, is_aggregate, is_unary, is_pair, are_distinct_pairs, has_directions, is_binary, types_eq, is_kind, may_merge, is_size, is_routed, typed}
 use Rattle.vx_rows_values.specs.Lists.{is_some_list}
 use Rattle.vx_rows_values.specs.Values.{Name}
-use Rattle.vx_plan_json.specs.Document.{ConditionForm, OutputForm, AggregateForm, UnaryForm, BinaryForm, KindForm}
+use Rattle.vx_plan_json.specs.Document.{ConditionForm, FilterForm, OutputForm, EntryForm, AggregateForm, UnaryForm, BinaryForm, KindForm}
 use Rattle.vx_plan_json.specs.Document as form
 use Rattle.vx_plan_nodes.specs.Outline.{Columns, Outline, columns, plan_in}
 use Rattle.vx_plan_json.specs.Fault.{Refusal, ◌>>=◌}
 use Rattle.vx_plan.specs.Lookup.{walk_onto, find_column, find_columns, order_names, find_order, test_distinct, test_distinct_pairs, pair_eq, test_match, test_width, find_size, find_range}
 use Rattle.vx_plan_nodes.specs.Names.{Names, scope_of}
-use Rattle.vx_plan.specs.Resolve.{find_condition, find_conditions, select_shape, Shape, output_name, find_kept, find_all_kept, kept_shape, kept_columns, project_shape, distinct_shape, sort_shape, partial_sort_shape, limit_shape, find_function, find_aggregates, find_group, test_group, group_columns, group_shape, test_phase, partial_shape, parts_of, sorts_before, final_shape, under_final, unary_shape, find_pair, find_pairs, test_join, join_pairs, both_columns, find_matches, join_matches, method_of, Joint, binary_shape, find_kind, kind_names, kind_fits, exchange_columns, test_exchange, exchange_shape}
-use Rattle.vx_plan_json.specs.Formed.{are_names, are_some_names, is_order, is_condition_form, is_output_form, is_aggregate_form, is_unary_form, is_pair_form, is_binary_form, is_kind_form, is_merge_form}
-use Rattle.vx_plan_json.proofs.Holds.{all_push, Holds, holds_then}
+use Rattle.vx_plan.specs.Resolve.{find_conditions, find_operand, find_filter, find_filters, filter_fits, FoundEntry, entry_name, find_entry, find_entries, entries_shape, entry_columns, select_shape, Shape, output_name, find_kept, find_all_kept, kept_shape, kept_columns, project_shape, distinct_shape, sort_shape, partial_sort_shape, limit_shape, find_function, find_aggregates, find_group, test_group, group_columns, group_shape, test_phase, partial_shape, parts_of, sorts_before, final_shape, under_final, unary_shape, find_pair, find_pairs, test_join, join_pairs, both_columns, find_matches, join_matches, method_of, Joint, binary_shape, find_kind, kind_names, kind_fits, exchange_columns, test_exchange, exchange_shape}
+use Rattle.vx_plan_json.specs.Formed.{are_names, are_some_names, is_order, is_condition_form, is_operand_form, is_made, is_filter_form, is_entry_form, is_output_form, is_aggregate_form, is_unary_form, is_pair_form, is_binary_form, is_kind_form, is_merge_form}
+use Rattle.vx_plan_json.proofs.Holds.{all_push, Holds, holds_then, holds_at}
 use Rattle.vx_rows_values.proofs.Booleans.{and-left, and-right, and-both}
 use Rattle.vx_plan.proofs.Apart.{apart, apart-prefix, test_distinct-apart, test_distinct_pairs-apart, distinct-pairs}
 use Rattle.vx_plan.proofs.FoundFacts.{name_of, AreColumns, IsColumn, column-found, columns-found, walk-holds, walk-length, test_distinct-columns, some-columns}
+use Rattle.vx_plan.proofs.Each.{ok_last, Each}
+use Rattle.vx_plan.proofs.Computed.{each-holds, each-length, operand-typed, filters-typed}
 use Rattle.vx_plan.proofs.OrderFacts.{IsOrder, order-found, order-count}
 use Rattle.vx_plan_nodes.proofs.ErasedFacts.{final-types}
 use Rattle.vx_plan.proofs.PhaseFacts.{some-alike, parts-found, parts-open, final-unary}
@@ -51,13 +53,19 @@ pub record IsShape (under : Bool) (p : Plan) (cols : Columns) (o : Shape) : Type
   pub fits : phase_fits o.op p ≡ true
   pub closed : under ≡ false → unary_open o.op (is_open p) ≡ false
 
-select-holds : (under : Bool) (p : Plan) (node : ℕ) (cols : Columns) (cs : List ConditionForm) → IsOutput cols.types cols → is_some_list cs ≡ true → is_open p ≡ false → Holds (IsShape under p cols) (select_shape node cols cs)
-unfolding select_shape find_conditions
-select-holds under p node cols cs out h shut =
-    holds_then (λ (ks : List Condition). length ks ≡ length cs) (IsShape under p cols) (λ ks. test_match node (list_all (is_condition cols.types) ks) >>= λ u. Ok (record { op = plan.select ks; renamed = []; columns = cols }))
-    (walk_onto (find_condition node cols.names) [] cs) (walk-length (find_condition node cols.names) cs)
-    (λ ks l. holds_then (λ (u : ⊤). list_all (is_condition cols.types) ks ≡ true) (IsShape under p cols) (λ u. Ok (record { op = plan.select ks; renamed = []; columns = cols })) (test_match node (list_all (is_condition cols.types) ks)) (test_match-holds node (list_all (is_condition cols.types) ks))
-    (λ u m. record { op = and-both (is_some_list ks) (list_all (is_condition cols.types) ks) (some-alike ks cs l ∙ h) m; output = out; fits = ap not shut; closed = λ e. refl }))
+select-holds : (under : Bool) (p : Plan) (node : ℕ) (cols : Columns) (fs : List FilterForm) → IsOutput cols.types cols → (is_some_list fs && list_all is_filter_form fs) ≡ true → is_open p ≡ false → Holds (IsShape under p cols) (select_shape node cols fs)
+unfolding select_shape find_filters
+select-holds under p node cols fs out h shut =
+    holds_then (λ (ks : List Filter). Each (find_filter node cols.names) fs ks) (IsShape under p cols) (λ ks. test_match node (list_all (filter_fits cols.types) ks) >>= λ u. Ok (record { op = plan.select ks; renamed = []; columns = cols }))
+    (walk_onto (find_filter node cols.names) [] fs) (each-holds (find_filter node cols.names) fs)
+    (λ ks l. holds_then (λ (u : ⊤). list_all (filter_fits cols.types) ks ≡ true) (IsShape under p cols) (λ u. Ok (record { op = plan.select ks; renamed = []; columns = cols })) (test_match node (list_all (filter_fits cols.types) ks)) (test_match-holds node (list_all (filter_fits cols.types) ks))
+    (λ u m. record {
+      op = and-both (is_some_list ks) (list_all (is_filter cols.types) ks) (some-alike ks fs (each-length (find_filter node cols.names) fs ks l) ∙ and-left (is_some_list fs) (list_all is_filter_form fs) h)
+          (filters-typed node cols fs ks out.names_are (and-right (is_some_list fs) (list_all is_filter_form fs) h) l m);
+      output = out;
+      fits = ap not shut;
+      closed = λ e. refl;
+    }))
 
 record AreKept (names : List Name) (os : List OutputForm) (ks : List Projected) : Type 0 where
   below : all_below (length names) (map (λ (k : Projected). k.column) ks) ≡ true
@@ -112,11 +120,58 @@ kept-below cols os ks e h k =
     and-both (is_some_list (map (λ (k : Projected). k.column) ks)) (all_below (length cols.types) (map (λ (k : Projected). k.column) ks))
     (some-alike (map (λ (k : Projected). k.column) ks) os (length-map ks (λ (k : Projected). k.column) ∙ k.kept.count) ∙ h) (subst P e k.kept.below)
 
-project-holds : (under : Bool) (p : Plan) (node : ℕ) (cols : Columns) (os : List OutputForm) → IsOutput cols.types cols → is_some_list os ≡ true → is_open p ≡ false → Holds (IsShape under p cols) (project_shape node cols os)
+entry-typed : (node : ℕ) (cols : Columns) (f : EntryForm) (k : FoundEntry) → length cols.names ≡ length cols.types → is_entry_form f ≡ true → find_entry node cols.names f ≡ Ok k → is_entry cols.types k.entry ≡ true
+unfolding find_entry
+entry-typed node cols (form.kept o) k wide h e =
+    let t = ok_last (λ (x : Projected). record { entry = plan.copy_of x.column; renamed = x.renamed }) (find_kept node cols.names o) k e in
+    let P : FoundEntry → Type 0 = λ k. is_entry cols.types k.entry ≡ true in
+    let Q : ℕ → Type 0 = λ n. nat_lt t.0.column n ≡ true in
+    subst P t.2 (subst Q wide (holds_at (λ (k : Projected). nat_lt k.column (length cols.names) ≡ true) (find_kept node cols.names o) t.0 (one-kept node cols.names o) t.1))
+entry-typed node cols (form.made o n) k wide h e =
+    let t = ok_last (λ (x : Expression). record { entry = plan.made_by x; renamed = true }) (find_operand node cols.names o) k e in
+    let P : FoundEntry → Type 0 = λ k. is_entry cols.types k.entry ≡ true in
+    subst P t.2 (operand-typed node cols o t.0 wide (and-left (is_operand_form o) (is_some_list n) (and-right (is_made o) (is_operand_form o && is_some_list n) h)) t.1)
+
+abbrev entry_in : FoundEntry → Entry
+entry_in k = k.entry
+
+entries-typed : (node : ℕ) (cols : Columns) (fs : List EntryForm) (ks : List FoundEntry) → length cols.names ≡ length cols.types → list_all is_entry_form fs ≡ true → Each (find_entry node cols.names) fs ks → list_all (is_entry cols.types) (map entry_in ks) ≡ true
+entries-typed node cols [] [] wide h e = refl
+entries-typed node cols [] (k ∷ ks) wide h e = absurd e
+entries-typed node cols (f ∷ fs) [] wide h e = absurd e
+entries-typed node cols (f ∷ fs) (k ∷ ks) wide h e =
+    and-both (is_entry cols.types k.entry) (list_all (is_entry cols.types) (map entry_in ks)) (entry-typed node cols f k wide (and-left (is_entry_form f) (list_all is_entry_form fs) h) e.0)
+    (entries-typed node cols fs ks wide (and-right (is_entry_form f) (list_all is_entry_form fs) h) e.1)
+
+record IsEntriesShape (node : ℕ) (cols : Columns) (fs : List EntryForm) (ks : List FoundEntry) : Type 0 where
+  each : Each (find_entry node cols.names) fs ks
+  few : nat_le (length fs) 64 ≡ true
+
+entries-holds : (node : ℕ) (cols : Columns) (fs : List EntryForm) → Holds (IsEntriesShape node cols fs) (entries_shape node cols fs)
+unfolding entries_shape find_entries
+entries-holds node cols fs =
+    holds_then (λ (ks : List FoundEntry). Each (find_entry node cols.names) fs ks) (IsEntriesShape node cols fs) (λ ks. test_distinct node (map entry_name fs) >>= λ u. test_width node (length fs) >>= λ v. Ok ks)
+    (walk_onto (find_entry node cols.names) [] fs) (each-holds (find_entry node cols.names) fs)
+    (λ ks h. holds_then (λ (u : ⊤). apart bytes_eq (map entry_name fs) ≡ true) (IsEntriesShape node cols fs) (λ u. test_width node (length fs) >>= λ v. Ok ks) (test_distinct node (map entry_name fs)) (test_distinct-apart node (map entry_name fs))
+    (λ u a. holds_then (λ (v : ⊤). nat_le (length fs) 64 ≡ true) (IsEntriesShape node cols fs) (λ v. Ok ks) (test_width node (length fs)) (test_width-holds node (length fs)) (λ v n. record { each = h; few = n })))
+
+project-holds : (under : Bool) (p : Plan) (node : ℕ) (cols : Columns) (fs : List EntryForm) → IsOutput cols.types cols → (is_some_list fs && list_all is_entry_form fs) ≡ true → is_open p ≡ false → Holds (IsShape under p cols) (project_shape node cols fs)
 unfolding project_shape
-project-holds under p node cols os out h shut =
-    holds_then (IsKeptShape cols os) (IsShape under p cols) (λ ks. Ok (record { op = plan.project (map (λ (k : Projected). k.column) ks); renamed = map (λ (k : Projected). k.renamed) ks; columns = kept_columns cols os ks })) (kept_shape node cols os) (kept-holds node cols os)
-    (λ ks k. record { op = kept-below cols os ks out.names_are h k; output = kept-output cols os ks k; fits = ap not shut; closed = λ e. refl })
+project-holds under p node cols fs out h shut =
+    holds_then (IsEntriesShape node cols fs) (IsShape under p cols) (λ ks. Ok (record { op = plan.project (map entry_in ks); renamed = map (λ (k : FoundEntry). k.renamed) ks; columns = entry_columns cols fs ks })) (entries_shape node cols fs) (entries-holds node cols fs)
+    (λ ks k.
+    let types : List ColType = map (λ (k : FoundEntry). entry_type cols.types k.entry) ks in
+    let count : length ks ≡ length fs = each-length (find_entry node cols.names) fs ks k.each in
+    let wide : length types ≡ length fs = length-map ks (λ (k : FoundEntry). entry_type cols.types k.entry) ∙ count in
+    let P : ℕ → Type 0 = λ n. nat_le n 64 ≡ true in
+    record {
+      op = and-both (is_some_list (map entry_in ks)) (list_all (is_entry cols.types) (map entry_in ks))
+          (some-alike (map entry_in ks) fs (length-map ks entry_in ∙ count) ∙ and-left (is_some_list fs) (list_all is_entry_form fs) h)
+          (entries-typed node cols fs ks out.names_are (and-right (is_some_list fs) (list_all is_entry_form fs) h) k.each);
+      output = record { types_are = sym (map-map (entry_type cols.types) entry_in ks); names_are = length-map fs entry_name ∙ sym wide; few = subst P (sym wide) k.few };
+      fits = ap not shut;
+      closed = λ e. refl;
+    })
 
 distinct-holds : (under : Bool) (p : Plan) (node : ℕ) (cols : Columns) (os : List OutputForm) → IsOutput cols.types cols → is_some_list os ≡ true → is_open p ≡ false → Holds (IsShape under p cols) (distinct_shape node cols os)
 unfolding distinct_shape
@@ -241,8 +296,8 @@ final-holds under s node t (Some g) e out h =
 pub shape-holds : (under : Bool) (s : Names) (node : ℕ) (t : Outline) (op : UnaryForm) → IsOutput (types_of (relation_at s.catalog) (plan_in t)) (columns t) → typed (scope_of s) (plan_in t) ≡ true → is_unary_form op ≡ true
     → (under_final under op ≡ false → is_open (plan_in t) ≡ false) → Holds (IsShape under (plan_in t) (columns t)) (unary_shape under node t op)
 unfolding unary_shape limit_shape
-shape-holds under s node t (form.select cs) out typed h shut = select-holds under (plan_in t) node (columns t) cs (own-output out) (and-left (is_some_list cs) (list_all is_condition_form cs) h) (shut refl)
-shape-holds under s node t (form.project os) out typed h shut = project-holds under (plan_in t) node (columns t) os (own-output out) (and-left (is_some_list os) (list_all is_output_form os) h) (shut refl)
+shape-holds under s node t (form.select fs) out typed h shut = select-holds under (plan_in t) node (columns t) fs (own-output out) h (shut refl)
+shape-holds under s node t (form.project fs) out typed h shut = project-holds under (plan_in t) node (columns t) fs (own-output out) h (shut refl)
 shape-holds under s node t (form.distinct os) out typed h shut = distinct-holds under (plan_in t) node (columns t) os (own-output out) (and-left (is_some_list os) (list_all is_output_form os) h) (shut refl)
 shape-holds under s node t (form.sort order) out typed h shut =
     sort-holds under (plan_in t) false node (columns t) order (own-output out) (and-left (is_some_list order) (is_order order) h) (λ ps. ap not (shut refl)) (λ ps e. refl)

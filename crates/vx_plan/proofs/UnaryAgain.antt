@@ -17,21 +17,22 @@ use Rattle.vx_rows_values.proofs.Booleans.{and-left, and-right, and-both}
 use Rattle.vx_catalog_relations.specs.Catalog.{all_below, are_distinct}
 use Rattle.vx_catalog_relations.specs.Naming.{name_at}
 use Rattle.vx_plan_nodes.specs.declared.typed.Projected.{Projected}
-use Rattle.vx_plan_nodes.specs.Plan.{Side, Condition, Aggregate, Phase, Unary}
+use Rattle.vx_plan_nodes.specs.Plan.{Side, Condition, Filter, Entry, Aggregate, Phase, Unary}
 use Rattle.vx_plan_nodes.specs.Plan as plan
-use Rattle.vx_plan_nodes.specs.Types.{unary_types, aggregate_type}
+use Rattle.vx_plan_nodes.specs.Types.{expression_type, entry_type, unary_types, aggregate_type}
 use Rattle.vx_plan_nodes.specs.Phases.{first_columns, merged, columns_eq, aggregates_eq, unary_open, is_open, opens, phase_fits}
-use Rattle.vx_plan_nodes.specs.Typed.{are_columns, type_eq, is_side, is_condition, is_aggregate, is_unary}
+use Rattle.vx_plan_nodes.specs.Typed.{are_columns, type_eq, is_side, is_condition, is_expression, is_filter, is_entry, is_aggregate, is_unary}
 use Rattle.vx_plan_nodes.specs.Outline.{Columns, Outline, scan, unary, binary, exchange, columns, plan_in}
 use Rattle.vx_plan_nodes.proofs.PhaseEqual.{columns_eq-is, aggregates_eq-is}
-use Rattle.vx_plan_json.specs.Document.{OutputForm, AggregateForm}
+use Rattle.vx_plan_json.specs.Document.{OutputForm, EntryForm, AggregateForm}
 use Rattle.vx_plan_json.specs.Fault.{Refusal}
 use Rattle.vx_plan.specs.Lookup.{test_width}
-use Rattle.vx_plan.specs.Resolve.{Shape, find_side, find_condition, find_conditions, select_shape, output_name, find_kept, find_all_kept, kept_shape, kept_columns, project_shape, distinct_shape, sort_shape, partial_sort_shape, limit_shape, find_function, find_aggregates, find_group, test_group, group_columns, group_shape, test_phase, partial_shape, parts_of, sorts_before, final_shape, unary_shape}
-use Rattle.vx_plan.specs.ByName.{names_at, side_by_name, condition_by_name, kept_by_name, function_by_name, aggregates_by_name, unary_by_name, column_names}
-use Rattle.vx_plan.specs.Exact.{are_kept, UnaryNames}
+use Rattle.vx_plan.specs.Resolve.{Shape, find_side, find_condition, find_filter, find_filters, filter_fits, FoundEntry, entry_name, find_entry, find_entries, entries_shape, entry_columns, select_shape, output_name, find_kept, find_all_kept, kept_shape, kept_columns, project_shape, distinct_shape, sort_shape, partial_sort_shape, limit_shape, find_function, find_aggregates, find_group, test_group, group_columns, group_shape, test_phase, partial_shape, parts_of, sorts_before, final_shape, unary_shape}
+use Rattle.vx_plan.specs.ByName.{names_at, side_by_name, condition_by_name, filter_by_name, entry_by_name, entries_by_name, kept_by_name, function_by_name, aggregates_by_name, unary_by_name, column_names}
+use Rattle.vx_plan.specs.Exact.{FilterFunctions, FiltersFunctions, IsEntryNamed, AreEntries, are_kept, UnaryNames}
 use Rattle.vx_plan.proofs.Apart.{apart}
 use Rattle.vx_plan.proofs.Each.{Each, walk-each, each-again}
+use Rattle.vx_plan.proofs.Computed.{operand-again, filters-fit}
 use Rattle.vx_plan.proofs.Passed.{test_distinct-passes}
 use Rattle.vx_plan.proofs.Looked.{column-again, columns-again, columns_once-again}
 use Rattle.vx_plan.proofs.ClaimExact.{test_match-again, along}
@@ -77,14 +78,27 @@ condition-again node input c a e h =
     let r = side-again node input (type_at input.types c.left) c.right a e (and-right (nat_lt c.left (length input.types)) right h) in
     rw (l, r) refl
 
-select-again : (node : ℕ) (input : Columns) (cs : List Condition) (renamed : List Bool) (output : Columns) → IsOver input (plan.select cs) renamed output
-    → select_shape node input (map (condition_by_name input.names) cs) ≡ Ok (record { op = plan.select cs; renamed = renamed; columns = output })
-unfolding select_shape find_conditions
-select-again node input cs renamed output o =
-    let good = and-right (is_some_list cs) (list_all (is_condition input.types) cs) o.fits in
-    let found = walk-each (find_condition node input.names) (map (condition_by_name input.names) cs) [] cs
-    (each-again (find_condition node input.names) (condition_by_name input.names) (is_condition input.types) (λ c h. condition-again node input c o.own o.wide h) cs good) in
-    rw (found, test_match-again node (list_all (is_condition input.types) cs) good, o.named.0, columns-same output input o.named.1 o.typed) refl
+filter-again : (node : ℕ) (input : Columns) (f : Filter) → apart bytes_eq input.names ≡ true → length input.names ≡ length input.types → is_filter input.types f ≡ true → FilterFunctions f
+    → find_filter node input.names (filter_by_name input.names f) ≡ Ok f
+unfolding find_filter
+filter-again node input (plan.comparing c) a e h own = rw (condition-again node input c a e h) refl
+filter-again node input (plan.computing x) a e h own = rw (operand-again node input x a e (and-left (is_expression input.types x) (type_eq (expression_type input.types x) Int) h) own) refl
+
+filters-again : (node : ℕ) (input : Columns) (fs : List Filter) → apart bytes_eq input.names ≡ true → length input.names ≡ length input.types → list_all (is_filter input.types) fs ≡ true → FiltersFunctions fs
+    → Each (find_filter node input.names) (map (filter_by_name input.names) fs) fs
+filters-again node input [] a e h own = tt
+filters-again node input (f ∷ fs) a e h own = (
+  filter-again node input f a e (and-left (is_filter input.types f) (list_all (is_filter input.types) fs) h) own.0,
+  filters-again node input fs a e (and-right (is_filter input.types f) (list_all (is_filter input.types) fs) h) own.1,
+)
+
+select-again : (node : ℕ) (input : Columns) (fs : List Filter) (renamed : List Bool) (output : Columns) → IsOver input (plan.select fs) renamed output
+    → select_shape node input (map (filter_by_name input.names) fs) ≡ Ok (record { op = plan.select fs; renamed = renamed; columns = output })
+unfolding select_shape find_filters
+select-again node input fs renamed output o =
+    let good = and-right (is_some_list fs) (list_all (is_filter input.types) fs) o.fits in
+    let found = walk-each (find_filter node input.names) (map (filter_by_name input.names) fs) [] fs (filters-again node input fs o.own o.wide good o.named.2) in
+    rw (found, test_match-again node (list_all (filter_fits input.types) fs) (filters-fit input.types fs good), o.named.0, columns-same output input o.named.1 o.typed) refl
 
 -- ---- kept columns
 
@@ -156,12 +170,63 @@ kept_shape-again node input cols renamed output a e l h types long few own =
           (sym (map-map (type_at input.types) (λ (k : Projected). k.column) (kept cols renamed)) ∙ (ap (map (type_at input.types)) k.which ∙ sym types));
     }
 
-project-again : (node : ℕ) (input : Columns) (cols : List ℕ) (renamed : List Bool) (output : Columns) → IsOver input (plan.project cols) renamed output
-    → project_shape node input (kept_by_name input.names cols renamed output.names) ≡ Ok (record { op = plan.project cols; renamed = renamed; columns = output })
-unfolding project_shape
-project-again node input cols renamed output o =
-    let k = kept_shape-again node input cols renamed output o.own o.wide (and-right (is_some_list cols) (all_below (length input.types) cols) o.fits) o.named o.typed o.long o.few o.distinct in
-    rw (k.found, k.which, k.flags, k.gives) refl
+-- ---- columns of projections
+
+-- columns of a projection, with what is known of their names
+abbrev found_entries : List Entry → List Bool → List FoundEntry
+found_entries (e ∷ es) (b ∷ renamed) = record { entry = e; renamed = b } ∷ found_entries es renamed
+found_entries _ _ = []
+
+record AreFound (node : ℕ) (names : List Name) (es : List Entry) (renamed : List Bool) (output : List Name) : Type 0 where
+  each : Each (find_entry node names) (entries_by_name names es renamed output) (found_entries es renamed)
+  which : map (λ (k : FoundEntry). k.entry) (found_entries es renamed) ≡ es
+  flags : map (λ (k : FoundEntry). k.renamed) (found_entries es renamed) ≡ renamed
+  named : map entry_name (entries_by_name names es renamed output) ≡ output
+
+entry-again : (node : ℕ) (input : Columns) (e : Entry) (b : Bool) (n : Name) → apart bytes_eq input.names ≡ true → length input.names ≡ length input.types → is_entry input.types e ≡ true → IsEntryNamed input.names e b n
+    → find_entry node input.names (entry_by_name input.names e b n) ≡ Ok (record { entry = e; renamed = b })
+unfolding find_entry find_kept
+entry-again node input (plan.copy_of c) b n a w h k = rw (column-again node input.names c a (below-names input c w h), is-new n b) refl
+entry-again node input (plan.made_by e) b n a w h k = rw (operand-again node input e a w h k.1) (ap (λ b. Ok (record { entry = plan.made_by e; renamed = b })) (sym k.0))
+
+entry-name : (names : List Name) (e : Entry) (b : Bool) (n : Name) → IsEntryNamed names e b n → entry_name (entry_by_name names e b n) ≡ n
+entry-name names (plan.copy_of c) b n h = kept-name n (name_at names c) b h
+entry-name names (plan.made_by e) b n h = refl
+
+entries-again : (node : ℕ) (input : Columns) (es : List Entry) (renamed : List Bool) (output : List Name) → apart bytes_eq input.names ≡ true → length input.names ≡ length input.types → list_all (is_entry input.types) es ≡ true
+    → AreEntries input.names es renamed output → AreFound node input.names es renamed output
+entries-again node input [] [] [] a w l h = record { each = tt; which = refl; flags = refl; named = refl }
+entries-again node input [] [] (n ∷ output) a w l h = absurd h
+entries-again node input [] (b ∷ renamed) output a w l h = absurd h
+entries-again node input (e ∷ es) [] output a w l h = absurd h
+entries-again node input (e ∷ es) (b ∷ renamed) [] a w l h = absurd h
+entries-again node input (e ∷ es) (b ∷ renamed) (n ∷ output) a w l h =
+    let rest = entries-again node input es renamed output a w (and-right (is_entry input.types e) (list_all (is_entry input.types) es) l) h.1 in
+    let one = entry-again node input e b n a w (and-left (is_entry input.types e) (list_all (is_entry input.types) es) l) h.0 in
+    let name = entry-name input.names e b n h.0 in
+    record {
+      each = (one, rest.each);
+      which = ap (λ es. e ∷ es) rest.which;
+      flags = ap (λ bs. b ∷ bs) rest.flags;
+      named = λ i. name i ∷ rest.named i;
+    }
+
+project-again : (node : ℕ) (input : Columns) (es : List Entry) (renamed : List Bool) (output : Columns) → IsOver input (plan.project es) renamed output
+    → project_shape node input (entries_by_name input.names es renamed output.names) ≡ Ok (record { op = plan.project es; renamed = renamed; columns = output })
+unfolding project_shape entries_shape find_entries
+project-again node input es renamed output o =
+    let fs : List EntryForm = entries_by_name input.names es renamed output.names in
+    let k = entries-again node input es renamed output.names o.own o.wide (and-right (is_some_list es) (list_all (is_entry input.types) es) o.fits) o.named in
+    let found = walk-each (find_entry node input.names) fs [] (found_entries es renamed) k.each in
+    let Q : List Name → Type 0 = λ ns. apart bytes_eq ns ≡ true in
+    let distinct = test_distinct-passes node (map entry_name fs) (subst Q (sym k.named) o.distinct) in
+    let R : ℕ → Type 0 = λ n. nat_le n 64 ≡ true in
+    let count : length fs ≡ length output.types = sym (length-map fs entry_name) ∙ ap length k.named ∙ o.long in
+    let width = test_width-again node (length fs) (subst R (sym count) o.few) in
+    let gives : entry_columns input fs (found_entries es renamed) ≡ output =
+    columns-same (entry_columns input fs (found_entries es renamed)) output k.named
+    (sym (map-map (entry_type input.types) (λ (k : FoundEntry). k.entry) (found_entries es renamed)) ∙ (ap (map (entry_type input.types)) k.which ∙ sym o.typed)) in
+    rw (found, distinct, width, k.which, k.flags, gives) refl
 
 distinct-again : (node : ℕ) (input : Columns) (cols : List ℕ) (renamed : List Bool) (output : Columns) → IsOver input (plan.distinct cols) renamed output
     → distinct_shape node input (kept_by_name input.names cols renamed output.names) ≡ Ok (record { op = plan.distinct cols; renamed = renamed; columns = output })

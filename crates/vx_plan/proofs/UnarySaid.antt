@@ -10,21 +10,21 @@ use Rattle.vx_rows_values.proofs.Booleans.{and-both}
 use Rattle.vx_catalog_relations.specs.Catalog.{are_distinct_names}
 use Rattle.vx_catalog_relations.specs.Naming.{name_at}
 use Rattle.vx_plan_nodes.specs.declared.typed.Projected.{Projected}
-use Rattle.vx_plan_nodes.specs.Plan.{Side, Condition, Aggregate, Phase}
+use Rattle.vx_plan_nodes.specs.Plan.{Side, Condition, Expression, Filter, Entry, Aggregate, Phase}
 use Rattle.vx_plan_nodes.specs.Plan as plan
 use Rattle.vx_plan_nodes.specs.Phases.{first_columns, merged}
-use Rattle.vx_plan_nodes.specs.Typed.{is_condition}
 use Rattle.vx_plan_nodes.specs.Outline.{Columns, Outline, columns}
-use Rattle.vx_plan_json.specs.Document.{SideForm, ConditionForm, OutputForm, FunctionForm, AggregateForm, UnaryForm}
+use Rattle.vx_plan_json.specs.Document.{SideForm, ConditionForm, FilterForm, OutputForm, EntryForm, FunctionForm, AggregateForm, UnaryForm}
 use Rattle.vx_plan_json.specs.Document as form
 use Rattle.vx_plan_json.specs.Fault.{Refusal}
 use Rattle.vx_plan_json.proofs.Holds.{holds_at}
 use Rattle.vx_plan.specs.Lookup.{walk_onto, find_column, find_columns, order_names, find_order, test_distinct, test_match, test_width}
-use Rattle.vx_plan.specs.Resolve.{Shape, find_side, find_condition, find_conditions, select_shape, output_name, find_kept, find_all_kept, kept_shape, kept_columns, project_shape, distinct_shape, sort_shape, partial_sort_shape, limit_shape, find_function, find_aggregates, find_group, test_group, group_columns, group_shape, test_phase, partial_shape, parts_of, sorts_before, final_shape, unary_shape}
-use Rattle.vx_plan.specs.ByName.{names_at, side_by_name, condition_by_name, kept_by_name, function_by_name, aggregates_by_name, unary_by_name, column_names}
-use Rattle.vx_plan.specs.Exact.{are_kept, UnaryNames}
+use Rattle.vx_plan.specs.Resolve.{Shape, find_side, find_condition, find_operand, find_filter, find_filters, filter_fits, FoundEntry, entry_name, find_entry, find_entries, entries_shape, entry_columns, select_shape, output_name, find_kept, find_all_kept, kept_shape, kept_columns, project_shape, distinct_shape, sort_shape, partial_sort_shape, limit_shape, find_function, find_aggregates, find_group, test_group, group_columns, group_shape, test_phase, partial_shape, parts_of, sorts_before, final_shape, unary_shape}
+use Rattle.vx_plan.specs.ByName.{names_at, side_by_name, condition_by_name, filter_by_name, entry_by_name, entries_by_name, kept_by_name, function_by_name, aggregates_by_name, unary_by_name, column_names}
+use Rattle.vx_plan.specs.Exact.{FilterFunctions, FiltersFunctions, IsEntryNamed, AreEntries, are_kept, UnaryNames}
 use Rattle.vx_plan.proofs.Apart.{apart, test_distinct-apart}
-use Rattle.vx_plan.proofs.Each.{ok_then, ok_last, Each, each-walked, each-said}
+use Rattle.vx_plan.proofs.Each.{ok_then, ok_last, Each, each-walked}
+use Rattle.vx_plan.proofs.Computed.{operand-said}
 use Rattle.vx_plan.proofs.Passed.{apart-distinct}
 use Rattle.vx_plan.proofs.Looked.{column-said, columns-said}
 use Rattle.vx_plan.proofs.OrderFacts.{order-said}
@@ -54,15 +54,43 @@ condition-said node names f c h =
     let u = ok_last (λ (r : Side). record { left = t.0; test = f.test; right = r }) (find_side node names f.right) c t.2 in
     rw (← u.2) (rw ((column-said node names f.left t.0 t.1).named, side-said node names f.right u.0 u.1) refl)
 
-select-said : (node : ℕ) (cols : Columns) (cs : List ConditionForm) (o : Shape) → are_distinct_names cols.names ≡ true → select_shape node cols cs ≡ Ok o → IsSaid cols.names (form.select cs) o
-unfolding select_shape find_conditions
-select-said node cols cs o d h =
-    let t = ok_then _ (walk_onto (find_condition node cols.names) [] cs) o h in
-    let u = ok_last (λ (w : ⊤). record { op = plan.select t.0; renamed = []; columns = cols }) (test_match node (list_all (is_condition cols.types) t.0)) o t.2 in
-    let said : map (condition_by_name cols.names) t.0 ≡ cs =
-    each-said (find_condition node cols.names) (condition_by_name cols.names) (condition-said node cols.names) cs t.0 (each-walked (find_condition node cols.names) cs t.0 t.1) in
-    let P : Shape → Type 0 = λ o. IsSaid cols.names (form.select cs) o in
-    subst P u.2 (record { says = ap (λ l. form.select l) said; named = (refl, refl); distinct = d })
+record IsFilterSaid (names : List Name) (f : FilterForm) (k : Filter) : Type 0 where
+  says : filter_by_name names k ≡ f
+  own : FilterFunctions k
+
+filter-said : (node : ℕ) (names : List Name) (f : FilterForm) (k : Filter) → find_filter node names f ≡ Ok k → IsFilterSaid names f k
+unfolding find_filter
+filter-said node names (form.compared c) k h =
+    let t = ok_last (λ (x : Condition). plan.comparing x) (find_condition node names c) k h in
+    let P : Filter → Type 0 = λ k. IsFilterSaid names (form.compared c) k in
+    subst P t.2 (record { says = ap (λ c. form.compared c) (condition-said node names c t.0 t.1); own = tt })
+filter-said node names (form.computed o) k h =
+    let t = ok_last (λ (e : Expression). plan.computing e) (find_operand node names o) k h in
+    let said = operand-said node names o t.0 t.1 in
+    let P : Filter → Type 0 = λ k. IsFilterSaid names (form.computed o) k in
+    subst P t.2 (record { says = ap (λ o. form.computed o) said.says; own = said.own })
+
+record AreFiltersSaid (names : List Name) (fs : List FilterForm) (ks : List Filter) : Type 0 where
+  says : map (filter_by_name names) ks ≡ fs
+  own : FiltersFunctions ks
+
+filters-said : (node : ℕ) (names : List Name) (fs : List FilterForm) (ks : List Filter) → Each (find_filter node names) fs ks → AreFiltersSaid names fs ks
+filters-said node names [] [] h = record { says = refl; own = tt }
+filters-said node names [] (k ∷ ks) h = absurd h
+filters-said node names (f ∷ fs) [] h = absurd h
+filters-said node names (f ∷ fs) (k ∷ ks) h =
+    let one = filter-said node names f k h.0 in
+    let rest = filters-said node names fs ks h.1 in
+    record { says = λ i. one.says i ∷ rest.says i; own = (one.own, rest.own) }
+
+select-said : (node : ℕ) (cols : Columns) (fs : List FilterForm) (o : Shape) → are_distinct_names cols.names ≡ true → select_shape node cols fs ≡ Ok o → IsSaid cols.names (form.select fs) o
+unfolding select_shape find_filters
+select-said node cols fs o d h =
+    let t = ok_then _ (walk_onto (find_filter node cols.names) [] fs) o h in
+    let u = ok_last (λ (w : ⊤). record { op = plan.select t.0; renamed = []; columns = cols }) (test_match node (list_all (filter_fits cols.types) t.0)) o t.2 in
+    let said = filters-said node cols.names fs t.0 (each-walked (find_filter node cols.names) fs t.0 t.1) in
+    let P : Shape → Type 0 = λ o. IsSaid cols.names (form.select fs) o in
+    subst P u.2 (record { says = ap (λ l. form.select l) said.says; named = (refl, refl, said.own); distinct = d })
 
 -- ---- kept columns
 
@@ -116,13 +144,56 @@ kept_shape-said node cols os ks h =
     let P : List Projected → Type 0 = λ ks. IsKeptShape cols.names os ks in
     subst P v.2 (record { kept = all-kept-said node cols.names os t.0 (each-walked (find_kept node cols.names) os t.0 t.1); distinct = test_distinct-distinct node (map output_name os) u.0 u.1 })
 
-project-said : (node : ℕ) (cols : Columns) (os : List OutputForm) (o : Shape) → project_shape node cols os ≡ Ok o → IsSaid cols.names (form.project os) o
-unfolding project_shape
-project-said node cols os o h =
-    let t = ok_last (λ (ks : List Projected). record { op = plan.project (map column_of ks); renamed = map renamed_of ks; columns = kept_columns cols os ks }) (kept_shape node cols os) o h in
-    let k = kept_shape-said node cols os t.0 t.1 in
-    let P : Shape → Type 0 = λ o. IsSaid cols.names (form.project os) o in
-    subst P t.2 (record { says = ap (λ l. form.project l) k.kept.says; named = k.kept.named; distinct = k.distinct })
+-- ---- columns of projections
+
+abbrev entry_in : FoundEntry → Entry
+entry_in k = k.entry
+
+abbrev new_in : FoundEntry → Bool
+new_in k = k.renamed
+
+record IsEntrySaid (names : List Name) (f : EntryForm) (k : FoundEntry) : Type 0 where
+  says : entry_by_name names k.entry k.renamed (entry_name f) ≡ f
+  named : IsEntryNamed names k.entry k.renamed (entry_name f)
+
+entry-said : (node : ℕ) (names : List Name) (f : EntryForm) (k : FoundEntry) → find_entry node names f ≡ Ok k → IsEntrySaid names f k
+unfolding find_entry
+entry-said node names (form.kept o) k h =
+    let t = ok_last (λ (x : Projected). record { entry = plan.copy_of x.column; renamed = x.renamed }) (find_kept node names o) k h in
+    let one = kept-said node names o t.0 t.1 in
+    let P : FoundEntry → Type 0 = λ k. IsEntrySaid names (form.kept o) k in
+    subst P t.2 (record { says = ap (λ o. form.kept o) one.says; named = one.named })
+entry-said node names (form.made o n) k h =
+    let t = ok_last (λ (e : Expression). record { entry = plan.made_by e; renamed = true }) (find_operand node names o) k h in
+    let one = operand-said node names o t.0 t.1 in
+    let P : FoundEntry → Type 0 = λ k. IsEntrySaid names (form.made o n) k in
+    subst P t.2 (record { says = ap (λ o. form.made o n) one.says; named = (refl, one.own) })
+
+record AreEntriesSaid (names : List Name) (fs : List EntryForm) (ks : List FoundEntry) : Type 0 where
+  says : entries_by_name names (map entry_in ks) (map new_in ks) (map entry_name fs) ≡ fs
+  named : AreEntries names (map entry_in ks) (map new_in ks) (map entry_name fs)
+
+entries-said : (node : ℕ) (names : List Name) (fs : List EntryForm) (ks : List FoundEntry) → Each (find_entry node names) fs ks → AreEntriesSaid names fs ks
+entries-said node names [] [] h = record { says = refl; named = tt }
+entries-said node names [] (k ∷ ks) h = absurd h
+entries-said node names (f ∷ fs) [] h = absurd h
+entries-said node names (f ∷ fs) (k ∷ ks) h =
+    let one = entry-said node names f k h.0 in
+    let rest = entries-said node names fs ks h.1 in
+    record { says = λ i. one.says i ∷ rest.says i; named = (one.named, rest.named) }
+
+project-said : (node : ℕ) (cols : Columns) (fs : List EntryForm) (o : Shape) → project_shape node cols fs ≡ Ok o → IsSaid cols.names (form.project fs) o
+unfolding project_shape entries_shape find_entries
+project-said node cols fs o h =
+    let s = ok_last (λ (ks : List FoundEntry). record { op = plan.project (map entry_in ks); renamed = map new_in ks; columns = entry_columns cols fs ks }) (entries_shape node cols fs) o h in
+    let t = ok_then _ (walk_onto (find_entry node cols.names) [] fs) s.0 s.1 in
+    let u = ok_then _ (test_distinct node (map entry_name fs)) s.0 t.2 in
+    let v = ok_last (λ (w : ⊤). t.0) (test_width node (length fs)) s.0 u.2 in
+    let said = entries-said node cols.names fs t.0 (each-walked (find_entry node cols.names) fs t.0 t.1) in
+    let distinct = test_distinct-distinct node (map entry_name fs) u.0 u.1 in
+    let Q : List FoundEntry → Type 0 = λ ks. IsSaid cols.names (form.project fs) (record { op = plan.project (map entry_in ks); renamed = map new_in ks; columns = entry_columns cols fs ks }) in
+    let P : Shape → Type 0 = λ o. IsSaid cols.names (form.project fs) o in
+    subst P s.2 (subst Q v.2 (record { says = ap (λ l. form.project l) said.says; named = said.named; distinct = distinct }))
 
 distinct-said : (node : ℕ) (cols : Columns) (os : List OutputForm) (o : Shape) → distinct_shape node cols os ≡ Ok o → IsSaid cols.names (form.distinct os) o
 unfolding distinct_shape
@@ -256,8 +327,8 @@ limit-said t rows o d h =
 
 pub shape-said : (under : Bool) (node : ℕ) (t : Outline) (f : UnaryForm) (o : Shape) → are_distinct_names (column_names t) ≡ true → unary_shape under node t f ≡ Ok o → IsSaid (column_names t) f o
 unfolding unary_shape
-shape-said under node t (form.select cs) o d h = select-said node (columns t) cs o d h
-shape-said under node t (form.project os) o d h = project-said node (columns t) os o h
+shape-said under node t (form.select fs) o d h = select-said node (columns t) fs o d h
+shape-said under node t (form.project fs) o d h = project-said node (columns t) fs o h
 shape-said under node t (form.distinct os) o d h = distinct-said node (columns t) os o h
 shape-said under node t (form.sort order) o d h = sort-said node (columns t) order o d h
 shape-said under node t (form.partial_sort order) o d h = partial_sort-said (under && is_some (parts_of t)) node (columns t) order o d h

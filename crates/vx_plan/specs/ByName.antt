@@ -2,11 +2,11 @@
 use Rattle.std.specs.Prelude.{ℕ, List, [], ◌∷◌, ◌++◌, map, length, drop, Bool, true, false, if◌then◌else◌, Some, None, codes}
 use Rattle.vx_rows_values.specs.Values.{Name}
 use Rattle.vx_catalog_relations.specs.Naming.{name_at, order_text}
-use Rattle.vx_plan_nodes.specs.Plan.{Size, one_worker, group_of, Route, by_hash, by_range, Part, routed, Claim, Side, Condition, Aggregate, Unary, JoinMethod, by_hashing, by_merging, Binary, ExchangeKind, route_to}
+use Rattle.vx_plan_nodes.specs.Plan.{Size, one_worker, group_of, Route, by_hash, by_range, Part, routed, Claim, Side, Condition, Expression, Operands, Filter, Entry, Aggregate, Unary, JoinMethod, by_hashing, by_merging, Binary, ExchangeKind, route_to}
 use Rattle.vx_plan_nodes.specs.Plan as plan
 use Rattle.vx_plan_nodes.specs.Outline.{Top, Outline, scan, unary, binary, exchange, columns}
 use Rattle.vx_plan_nodes.specs.Names.{Names, TypedPlanView}
-use Rattle.vx_plan_json.specs.Document.{PartForm, hash_part, range_part, ClaimForm, SideForm, ConditionForm, OutputForm, FunctionForm, AggregateForm, UnaryForm, BinaryForm, KindForm, Tree, Document}
+use Rattle.vx_plan_json.specs.Document.{PartForm, hash_part, range_part, ClaimForm, SideForm, ConditionForm, OutputForm, OperandForm, OperandForms, FilterForm, EntryForm, FunctionForm, AggregateForm, UnaryForm, BinaryForm, KindForm, Tree, Document}
 use Rattle.vx_plan_json.specs.Document as form
 
 -- the names of these columns
@@ -52,6 +52,30 @@ side_by_name names (plan.constant v) = form.constant v
 abbrev pub condition_by_name : List Name → Condition → ConditionForm
 condition_by_name names c = record { left = name_at names c.left; test = c.test; right = side_by_name names c.right }
 
+-- what is computed, by the names of columns and functions
+abbrev mutual
+  pub operand_by_name : List Name → Expression → OperandForm
+  operand_by_name names (plan.input c) = form.operand_column (name_at names c)
+  operand_by_name names (plan.value v) = form.operand_value v
+  operand_by_name names (plan.call f t es) = form.operand_call f.name t (operands_by_name names es)
+
+  pub operands_by_name : List Name → Operands → OperandForms
+  operands_by_name names plan.no_operands = form.no_operands
+  operands_by_name names (plan.operand e es) = form.more_operands (operand_by_name names e) (operands_by_name names es)
+
+abbrev pub filter_by_name : List Name → Filter → FilterForm
+filter_by_name names (plan.comparing c) = form.compared (condition_by_name names c)
+filter_by_name names (plan.computing e) = form.computed (operand_by_name names e)
+
+-- a column of a projection: one that is kept has its name in the output where that is a new one
+abbrev pub entry_by_name : List Name → Entry → Bool → Name → EntryForm
+entry_by_name names (plan.copy_of c) renamed n = form.kept (record { column = name_at names c; renamed = if renamed then Some n else None })
+entry_by_name names (plan.made_by e) renamed n = form.made (operand_by_name names e) n
+
+abbrev pub entries_by_name : List Name → List Entry → List Bool → List Name → List EntryForm
+entries_by_name names (e ∷ es) (b ∷ renamed) (n ∷ output) = entry_by_name names e b n ∷ entries_by_name names es renamed output
+entries_by_name names _ _ _ = []
+
 -- kept columns, each with its name in the output where that is a new one
 abbrev pub kept_by_name : List Name → List ℕ → List Bool → List Name → List OutputForm
 kept_by_name names (c ∷ cols) (b ∷ renamed) (n ∷ output) =
@@ -71,8 +95,8 @@ aggregates_by_name names _ _ = []
 
 -- the names of a group's aggregates come after those of its keys
 abbrev pub unary_by_name : List Name → List Name → Unary → List Bool → UnaryForm
-unary_by_name names output (plan.select cs) renamed = form.select (map (condition_by_name names) cs)
-unary_by_name names output (plan.project cols) renamed = form.project (kept_by_name names cols renamed output)
+unary_by_name names output (plan.select fs) renamed = form.select (map (filter_by_name names) fs)
+unary_by_name names output (plan.project es) renamed = form.project (entries_by_name names es renamed output)
 unary_by_name names output (plan.distinct cols) renamed = form.distinct (kept_by_name names cols renamed output)
 unary_by_name names output (plan.sort false order) renamed = form.sort (order_text names order)
 unary_by_name names output (plan.sort true order) renamed = form.partial_sort (order_text names order)

@@ -5,9 +5,9 @@ use Rattle.vx_rows_values.specs.Values.{Name}
 use Rattle.vx_catalog_relations.specs.Relation.{Relation}
 use Rattle.vx_catalog_relations.specs.Catalog.{relation_at, are_distinct_names, IsCatalog}
 use Rattle.vx_catalog_relations.specs.Naming.{name_at}
-use Rattle.vx_plan_nodes.specs.Plan.{Side, Condition, Unary, JoinMethod, by_hashing, by_merging, Binary}
+use Rattle.vx_plan_nodes.specs.Plan.{Side, Condition, Expression, Operands, Filter, Entry, Unary, JoinMethod, by_hashing, by_merging, Binary}
 use Rattle.vx_plan_nodes.specs.Plan as plan
-use Rattle.vx_plan_nodes.specs.Outline.{Outline, scan, unary, binary, exchange, plan_in}
+use Rattle.vx_plan_nodes.specs.Outline.{function_of, Outline, scan, unary, binary, exchange, plan_in}
 use Rattle.vx_plan_nodes.specs.Outputs.{HasOutputs}
 use Rattle.vx_plan_nodes.specs.Typed.{IsTyped}
 use Rattle.vx_plan_nodes.specs.Names.{scope_of, TypedPlanView}
@@ -16,6 +16,35 @@ use Rattle.vx_plan_json.specs.Formed.{is_tree_form}
 use Rattle.vx_plan.specs.Resolve.{resolved}
 use Rattle.vx_plan.specs.ByName.{names_at, column_names, document_by_name}
 
+-- each function is the one of its name
+abbrev mutual
+  pub AreFunctions : Expression → Type 0
+  AreFunctions (plan.input c) = Unit {0}
+  AreFunctions (plan.value v) = Unit {0}
+  AreFunctions (plan.call f t es) = (f ≡ function_of f.name) × AreAllFunctions es
+
+  pub AreAllFunctions : Operands → Type 0
+  AreAllFunctions plan.no_operands = Unit {0}
+  AreAllFunctions (plan.operand e es) = AreFunctions e × AreAllFunctions es
+
+abbrev pub FilterFunctions : Filter → Type 0
+FilterFunctions (plan.comparing c) = Unit {0}
+FilterFunctions (plan.computing e) = AreFunctions e
+
+abbrev pub FiltersFunctions : List Filter → Type 0
+FiltersFunctions [] = Unit {0}
+FiltersFunctions (f ∷ fs) = FilterFunctions f × FiltersFunctions fs
+
+-- a kept column has its name of the input, unless it has a new one, as one that is computed always has
+abbrev pub IsEntryNamed : List Name → Entry → Bool → Name → Type 0
+IsEntryNamed names (plan.copy_of c) renamed n = (renamed || bytes_eq n (name_at names c)) ≡ true
+IsEntryNamed names (plan.made_by e) renamed n = (renamed ≡ true) × AreFunctions e
+
+abbrev pub AreEntries : List Name → List Entry → List Bool → List Name → Type 0
+AreEntries names [] [] [] = Unit {0}
+AreEntries names (e ∷ es) (b ∷ renamed) (n ∷ output) = IsEntryNamed names e b n × AreEntries names es renamed output
+AreEntries names _ _ _ = ⊥
+
 -- each kept column has its name of the input, unless it has a new one
 abbrev pub are_kept : List Name → List ℕ → List Bool → List Name → Bool
 are_kept names [] [] [] = true
@@ -23,10 +52,10 @@ are_kept names (c ∷ cols) (b ∷ renamed) (n ∷ output) = (b || bytes_eq n (n
 are_kept names _ _ _ = false
 
 -- the names that an operator over one input gives its output, where the input's columns have these: the same, or those of the kept columns;
--- of a group first those of its keys. A final group has the names of its partial one
+-- of a group first those of its keys. A final group has the names of its partial one. And functions are those of their names
 abbrev pub UnaryNames : Unary → List Bool → List Name → List Name → Type 0
-UnaryNames (plan.select cs) renamed names output = (renamed ≡ []) × (output ≡ names)
-UnaryNames (plan.project cols) renamed names output = are_kept names cols renamed output ≡ true
+UnaryNames (plan.select fs) renamed names output = (renamed ≡ []) × (output ≡ names) × FiltersFunctions fs
+UnaryNames (plan.project es) renamed names output = AreEntries names es renamed output
 UnaryNames (plan.distinct cols) renamed names output = are_kept names cols renamed output ≡ true
 UnaryNames (plan.sort of_parts order) renamed names output = (renamed ≡ []) × (output ≡ names)
 UnaryNames (plan.group plan.plain by aggregates) renamed names output = (renamed ≡ []) × (take (length by) output ≡ names_at names by)
@@ -67,7 +96,7 @@ merges_rising plan.union = true
 merges_rising (plan.join method on) = is_rising method
 merges_rising (plan.semi_join matched on cs) = true
 
--- at every node the output's columns have the names that its operator gives them, and no two have one name; and each column of a condition is the
+-- at every node the output's columns have the names that its operator gives them, functions are those of their names, and no two columns have one name; and each column of a condition is the
 -- first that has its name; and joins merge on rising columns
 abbrev pub AreNamed : List Relation → Outline → Type 0
 AreNamed catalog (scan h r shared z prefix) =

@@ -2,22 +2,23 @@
 use Rattle.std.specs.Prelude.{ℕ, ◌+◌, List, [], ◌∷◌, ◌++◌, map, length, Bool, true, false, not, if◌then◌else◌, ◌||◌, Option, Some, None, Result, Ok, Err, ⊤, position, bytes_eq, codes, nat_le, unwrap_or, is_some, ◌&&◌}
 use Rattle.std.specs.List.{list_all, list_any}
 use Rattle.vx_rows_values.specs.declared.value.ColType.{ColType}
+use Rattle.vx_rows_values.specs.declared.value.ColType.TheVariants.{Int}
 use Rattle.vx_rows_values.specs.Types.{type_at}
 use Rattle.vx_catalog_relations.specs.Relation.{Relation}
 use Rattle.vx_catalog_relations.specs.Catalog.{relation_at, all_below}
-use Rattle.vx_plan_nodes.specs.Plan.{Route, by_hash, by_range, Part, routed, Claim, Side, Condition, Aggregate, Phase, Unary, JoinMethod, by_hashing, by_merging, Binary, ExchangeKind, route_to}
+use Rattle.vx_plan_nodes.specs.Plan.{Route, by_hash, by_range, Part, routed, Claim, Side, Condition, Expression, Operands, Filter, Entry, Aggregate, Phase, Unary, JoinMethod, by_hashing, by_merging, Binary, ExchangeKind, route_to}
 use Rattle.vx_plan_nodes.specs.Plan as plan
-use Rattle.vx_plan_nodes.specs.Types.{aggregate_type}
+use Rattle.vx_plan_nodes.specs.Types.{expression_type, entry_type, aggregate_type}
 use Rattle.vx_plan_nodes.specs.Phases.{first_columns, merged}
 use Rattle.vx_plan_nodes.specs.Typed.{bounds_at, type_eq, types_eq, range_type, is_range, is_condition, is_aggregate, is_pair}
 use Rattle.vx_catalog_json.specs.Look.{OrderText}
 use Rattle.vx_rows_values.specs.declared.order.OrderEntry.{OrderEntry}
 use Rattle.vx_rows_values.specs.Order.{order_columns}
 use Rattle.vx_rows_values.specs.Values.{Name}
-use Rattle.vx_plan_json.specs.Document.{PartForm, hash_part, range_part, ClaimForm, SideForm, ConditionForm, OutputForm, FunctionForm, AggregateForm, ScanForm, UnaryForm, BinaryForm, KindForm, Tree, Document}
+use Rattle.vx_plan_json.specs.Document.{PartForm, hash_part, range_part, ClaimForm, SideForm, ConditionForm, OutputForm, OperandForm, OperandForms, FilterForm, EntryForm, FunctionForm, AggregateForm, ScanForm, UnaryForm, BinaryForm, KindForm, Tree, Document}
 use Rattle.vx_rows_values.specs.Ranges.{RangeForm}
 use Rattle.vx_plan_json.specs.Document as form
-use Rattle.vx_plan_nodes.specs.Outline.{Columns, Top, Outline, scan, unary, binary, exchange, columns}
+use Rattle.vx_plan_nodes.specs.Outline.{function_of, Columns, Top, Outline, scan, unary, binary, exchange, columns}
 use Rattle.vx_plan_nodes.specs.declared.typed.Projected.{Projected}
 use Rattle.vx_plan_json.specs.Fault.{Refusal, unknown_relation, bad_range, bad_size, phase_mismatch, ◌>>=◌}
 use Rattle.vx_plan.specs.Lookup.{walk_onto, tested_onto, find_column, find_columns, order_names, find_order, find_keys, test_distinct, test_distinct_pairs, test_distinct_keys, test_match, test_width, find_size, find_range}
@@ -110,9 +111,32 @@ find_condition node names c = find_column node names c.left >>= λ l. find_side 
 unfoldable pub find_conditions : ℕ → List Name → List ConditionForm → Result (List Condition) Refusal
 find_conditions node names cs = walk_onto (find_condition node names) [] cs
 
-unfoldable pub select_shape : ℕ → Columns → List ConditionForm → Result Shape Refusal
-select_shape node cols cs =
-    find_conditions node cols.names cs >>= λ ks. test_match node (list_all (is_condition cols.types) ks) >>= λ u.
+-- what is computed: columns by their positions, functions by their names, from the left
+abbrev mutual
+  pub find_operand : ℕ → List Name → OperandForm → Result Expression Refusal
+  find_operand node names (form.operand_column name) = find_column node names name >>= λ c. Ok (plan.input c)
+  find_operand node names (form.operand_value v) = Ok (plan.value v)
+  find_operand node names (form.operand_call f t os) = find_operands node names os >>= λ es. Ok (plan.call (function_of f) t es)
+
+  pub find_operands : ℕ → List Name → OperandForms → Result Operands Refusal
+  find_operands node names form.no_operands = Ok plan.no_operands
+  find_operands node names (form.more_operands o os) = find_operand node names o >>= λ e. find_operands node names os >>= λ es. Ok (plan.operand e es)
+
+unfoldable pub find_filter : ℕ → List Name → FilterForm → Result Filter Refusal
+find_filter node names (form.compared c) = find_condition node names c >>= λ k. Ok (plan.comparing k)
+find_filter node names (form.computed o) = find_operand node names o >>= λ e. Ok (plan.computing e)
+
+unfoldable pub find_filters : ℕ → List Name → List FilterForm → Result (List Filter) Refusal
+find_filters node names fs = walk_onto (find_filter node names) [] fs
+
+-- the sides of a comparison have one type, and what is computed is a number
+abbrev pub filter_fits : List ColType → Filter → Bool
+filter_fits types (plan.comparing c) = is_condition types c
+filter_fits types (plan.computing e) = type_eq (expression_type types e) Int
+
+unfoldable pub select_shape : ℕ → Columns → List FilterForm → Result Shape Refusal
+select_shape node cols fs =
+    find_filters node cols.names fs >>= λ ks. test_match node (list_all (filter_fits cols.types) ks) >>= λ u.
     Ok (record { op = plan.select ks; renamed = []; columns = cols })
 
 -- the name of a kept column in the output
@@ -125,7 +149,7 @@ find_kept node names o = find_column node names o.column >>= λ c. Ok (record { 
 unfoldable pub find_all_kept : ℕ → List Name → List OutputForm → Result (List Projected) Refusal
 find_all_kept node names os = walk_onto (find_kept node names) [] os
 
--- the kept columns of a projection or a distinct
+-- the kept columns of a distinct
 unfoldable pub kept_shape : ℕ → Columns → List OutputForm → Result (List Projected) Refusal
 kept_shape node cols os =
     find_all_kept node cols.names os >>= λ ks. test_distinct node (map output_name os) >>= λ u. test_width node (length os) >>= λ v. Ok ks
@@ -133,8 +157,34 @@ kept_shape node cols os =
 abbrev pub kept_columns : Columns → List OutputForm → List Projected → Columns
 kept_columns cols os ks = record { names = map output_name os; types = map (λ k. type_at cols.types k.column) ks }
 
-unfoldable pub project_shape : ℕ → Columns → List OutputForm → Result Shape Refusal
-project_shape node cols os = kept_shape node cols os >>= λ ks. Ok (record { op = plan.project (map (λ k. k.column) ks); renamed = map (λ k. k.renamed) ks; columns = kept_columns cols os ks })
+-- a column of a projection, and whether it has a new name, as one that is computed always has
+pub record FoundEntry : Type 0 where
+  pub entry : Entry
+  pub renamed : Bool
+
+-- the name of a column of a projection's output
+abbrev pub entry_name : EntryForm → Name
+entry_name (form.kept o) = output_name o
+entry_name (form.made o name) = name
+
+unfoldable pub find_entry : ℕ → List Name → EntryForm → Result FoundEntry Refusal
+find_entry node names (form.kept o) = find_kept node names o >>= λ k. Ok (record { entry = plan.copy_of k.column; renamed = k.renamed })
+find_entry node names (form.made o name) = find_operand node names o >>= λ e. Ok (record { entry = plan.made_by e; renamed = true })
+
+unfoldable pub find_entries : ℕ → List Name → List EntryForm → Result (List FoundEntry) Refusal
+find_entries node names es = walk_onto (find_entry node names) [] es
+
+-- the columns of a projection
+unfoldable pub entries_shape : ℕ → Columns → List EntryForm → Result (List FoundEntry) Refusal
+entries_shape node cols es =
+    find_entries node cols.names es >>= λ ks. test_distinct node (map entry_name es) >>= λ u. test_width node (length es) >>= λ v. Ok ks
+
+abbrev pub entry_columns : Columns → List EntryForm → List FoundEntry → Columns
+entry_columns cols es ks = record { names = map entry_name es; types = map (λ k. entry_type cols.types k.entry) ks }
+
+unfoldable pub project_shape : ℕ → Columns → List EntryForm → Result Shape Refusal
+project_shape node cols es =
+    entries_shape node cols es >>= λ ks. Ok (record { op = plan.project (map (λ k. k.entry) ks); renamed = map (λ k. k.renamed) ks; columns = entry_columns cols es ks })
 
 unfoldable pub distinct_shape : ℕ → Columns → List OutputForm → Result Shape Refusal
 distinct_shape node cols os = kept_shape node cols os >>= λ ks. Ok (record { op = plan.distinct (map (λ k. k.column) ks); renamed = map (λ k. k.renamed) ks; columns = kept_columns cols os ks })
@@ -190,8 +240,8 @@ partial_shape under node cols by aggregates = test_phase node under >>= λ u. gr
 
 -- the columns and the aggregates of a partial group, or of the one below a partial sort
 abbrev pub parts_made : Unary → Option (List ℕ × List Aggregate) → Option (List ℕ × List Aggregate)
-parts_made (plan.select cs) below = None
-parts_made (plan.project cols) below = None
+parts_made (plan.select fs) below = None
+parts_made (plan.project es) below = None
 parts_made (plan.distinct cols) below = None
 parts_made (plan.sort false order) below = None
 parts_made (plan.sort true order) below = below
@@ -209,8 +259,8 @@ parts_of (exchange h k m t) = parts_of t
 
 -- a partial sort, and those below it, are on columns before this one
 abbrev pub sort_before : ℕ → Unary → Bool → Bool
-sort_before end (plan.select cs) below = true
-sort_before end (plan.project cols) below = true
+sort_before end (plan.select fs) below = true
+sort_before end (plan.project es) below = true
 sort_before end (plan.distinct cols) below = true
 sort_before end (plan.sort false order) below = true
 sort_before end (plan.sort true order) below = all_below end (order_columns order) && below
@@ -234,8 +284,8 @@ final_shape node t (Some g) =
 -- whether the way up through exchanges and partial sorts alone reaches a final group decides for a partial one and for a partial sort, which is
 -- to have a partial group below as well
 unfoldable pub unary_shape : Bool → ℕ → Outline → UnaryForm → Result Shape Refusal
-unary_shape under node t (form.select cs) = select_shape node (columns t) cs
-unary_shape under node t (form.project os) = project_shape node (columns t) os
+unary_shape under node t (form.select fs) = select_shape node (columns t) fs
+unary_shape under node t (form.project es) = project_shape node (columns t) es
 unary_shape under node t (form.distinct os) = distinct_shape node (columns t) os
 unary_shape under node t (form.sort order) = sort_shape false node (columns t) order
 unary_shape under node t (form.partial_sort order) = partial_sort_shape (under && is_some (parts_of t)) node (columns t) order
@@ -343,8 +393,8 @@ exchange_typed s node c kind merge t =
 
 -- whether the way up from the input of an operator reaches a final group, where the flag says it of the operator itself
 abbrev pub under_final : Bool → UnaryForm → Bool
-under_final under (form.select cs) = false
-under_final under (form.project os) = false
+under_final under (form.select fs) = false
+under_final under (form.project es) = false
 under_final under (form.distinct os) = false
 under_final under (form.sort order) = false
 under_final under (form.partial_sort order) = under

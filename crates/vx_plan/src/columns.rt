@@ -3,17 +3,17 @@
 ghost use Rattle.std.specs.Prelude.{◌≡◌, ◌++◌, map, string_bytes, IfOk, OnOk};
 ghost use Rattle.std.specs.Arc.{arc_value};
 ghost use Rattle.vx_rows_values.specs.Types.{type_at};
-ghost use Rattle.vx_plan_json.specs.Document.{aggregate_form, output_form};
-ghost use Rattle.vx_plan_nodes.specs.Outline.{columns_of, columns, aggregate_of, outline_of};
-ghost use Rattle.vx_plan_nodes.specs.Types.{aggregate_type};
-ghost use Rattle.vx_plan.specs.Resolve.{both_columns, output_name, scan_columns};
+ghost use Rattle.vx_plan_json.specs.Document.{aggregate_form, output_form, entry_form};
+ghost use Rattle.vx_plan_nodes.specs.Outline.{columns_of, columns, entry_of, aggregate_of, outline_of};
+ghost use Rattle.vx_plan_nodes.specs.Types.{entry_type, aggregate_type};
+ghost use Rattle.vx_plan.specs.Resolve.{both_columns, output_name, entry_name, scan_columns};
 
 use crate::fits::type_at;
 use std::alloc::{AllocError, Global};
 use std::sync::Arc;
 use vx_catalog_relations::Relation;
-use vx_plan_json::{NamedAggregate, NamedOutput};
-use vx_plan_nodes::{Aggregate, Columns, Name, Projected, TypedNode, share_names};
+use vx_plan_json::{NamedAggregate, NamedEntry, NamedOutput};
+use vx_plan_nodes::{Aggregate, Columns, Entry, Name, Projected, TypedNode, share_names};
 use vx_rows_values::ColType;
 
 /// The columns of a node's output, to be read or shared.
@@ -101,6 +101,50 @@ pub fn kept_types(
     let mut found = Vec::new(alloc);
     for k in kept {
         found.push(type_at(types, k.column))?;
+    }
+    Ok(found)
+}
+
+fn entry_name(alloc: Global, entry: &NamedEntry) -> Result<String, AllocError>
+    ensures { IfOk result (λ s. string_bytes s ≡ entry_name (entry_form entry.now)) }
+{
+    match entry {
+        NamedEntry::Kept(output) => output_name(alloc, output),
+        NamedEntry::Made(_, name) => String::from_str(alloc, name.as_str()),
+    }
+}
+
+/// The names of the columns of a projection.
+pub fn entry_names(alloc: Global, entries: &[NamedEntry]) -> Result<Vec<String>, AllocError>
+    ensures { IfOk result (λ v. map string_bytes v.items ≡ map entry_name (map entry_form entries.now)) }
+{
+    let mut names = Vec::new(alloc);
+    for entry in entries {
+        names.push(entry_name(alloc, entry)?)?;
+    }
+    Ok(names)
+}
+
+fn entry_type(types: &[ColType], entry: &Entry) -> ColType
+    ensures { result ≡ entry_type types.now (entry_of entry.now) }
+{
+    match entry {
+        Entry::Kept(kept) => type_at(types, kept.column),
+        Entry::Made(expression) => expression.answer_type(types),
+    }
+}
+
+/// The types of the columns of a projection.
+pub fn entry_types(
+    alloc: Global,
+    types: &[ColType],
+    entries: &[Entry],
+) -> Result<Vec<ColType>, AllocError>
+    ensures { IfOk result (λ v. v.items ≡ map (entry_type types.now) (map entry_of entries.now)) }
+{
+    let mut found = Vec::new(alloc);
+    for entry in entries {
+        found.push(entry_type(types, entry))?;
     }
     Ok(found)
 }

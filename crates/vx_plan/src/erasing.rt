@@ -14,7 +14,7 @@ use std::sync::Arc;
 use vx_plan_json::PlanFault;
 use vx_plan_nodes::{
     Binary, Claim, Head, Part, Phase, ScanNode, Size, SortPhase, TypedNode, TypedPlan, Unary,
-    copied_conditions,
+    copied_conditions, copied_entries, copied_filters,
 };
 use vx_rows_values::copied_ranges;
 
@@ -30,11 +30,8 @@ fn copied_unary(alloc: Global, unary: &Unary) -> Result<Unary, AllocError>
     ensures renamed { IfOk result (λ u. renamed_of u ≡ renamed_of unary.now) }
 {
     match unary {
-        Unary::Select(conditions) => Ok(Unary::Select(copied_conditions(
-            alloc,
-            conditions.as_slice(),
-        )?)),
-        Unary::Project(kept) => Ok(Unary::Project(Vec::from_slice(alloc, kept.as_slice())?)),
+        Unary::Select(filters) => Ok(Unary::Select(copied_filters(alloc, filters.as_slice())?)),
+        Unary::Project(entries) => Ok(Unary::Project(copied_entries(alloc, entries.as_slice())?)),
         Unary::Distinct(kept) => Ok(Unary::Distinct(Vec::from_slice(alloc, kept.as_slice())?)),
         Unary::Sort(_, order) => {
             let order = Vec::from_slice(alloc, order.as_slice())?;

@@ -8,12 +8,12 @@ ghost use Rattle.vx_rows_values.specs.Types.{type_of, type_at, is_held};
 ghost use Rattle.vx_rows_values.specs.ValueView.{val_of};
 ghost use Rattle.vx_plan_nodes.specs.Typed.{type_eq, types_eq, rises, is_range, range_type, bounds_at, is_side, is_condition, is_aggregate, is_pair};
 ghost use Rattle.vx_rows_values.specs.Ranges.{range_form};
-ghost use Rattle.vx_plan_nodes.specs.Outline.{side_of, condition_of, aggregate_of, route_of};
-ghost use Rattle.vx_plan.specs.Resolve.{route_fits};
+ghost use Rattle.vx_plan_nodes.specs.Outline.{side_of, condition_of, filter_of, aggregate_of, route_of};
+ghost use Rattle.vx_plan.specs.Resolve.{filter_fits, route_fits};
 ghost use Rattle.vx_plan.specs.Named.{names_of};
 
 use crate::lookup::Declared;
-use vx_plan_nodes::{Aggregate, Condition, Route, Side};
+use vx_plan_nodes::{Aggregate, Condition, Filter, Route, Side};
 use vx_rows_values::{ColType, NamedRange, Value, compare_cells};
 
 /// Whether two types are one.
@@ -95,6 +95,28 @@ fn all_conditions(types: &[ColType], conditions: &[Condition]) -> bool
     ensures { result ≡ list_all (λ c. is_condition types.now (condition_of c)) conditions.now }
 {
     conditions.iter().all(|c| is_condition(types, c))
+}
+
+fn filter_fits(types: &[ColType], filter: &Filter) -> bool
+    ensures { result ≡ filter_fits types.now (filter_of filter.now) }
+{
+    match filter {
+        Filter::Compared(condition) => is_condition(types, condition),
+        Filter::Computed(expression) => is_same_type(expression.answer_type(types), ColType::Int),
+    }
+}
+
+fn all_filters(types: &[ColType], filters: &[Filter]) -> bool
+    ensures { result ≡ list_all (λ f. filter_fits types.now (filter_of f)) filters.now }
+{
+    filters.iter().all(|f| filter_fits(types, f))
+}
+
+/// Whether the sides of each comparison have one type, and each other condition is a number.
+pub fn are_filters(types: &[ColType], filters: &[Filter]) -> bool
+    ensures { result ≡ list_all (filter_fits types.now) (map filter_of filters.now) }
+{
+    all_filters(types, filters)
 }
 
 /// Whether the sides of each condition have one type.

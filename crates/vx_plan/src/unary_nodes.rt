@@ -3,14 +3,15 @@
 ghost use Rattle.std.specs.Prelude.{◌≡◌, map, string_bytes, IfOk};
 ghost use Rattle.std.specs.Arc.{arc_value};
 ghost use Rattle.vx_plan_json.specs.Fault.{Gives};
-ghost use Rattle.vx_plan_json.specs.Document.{condition_form, output_form, function_form, aggregate_form, unary_form};
+ghost use Rattle.vx_plan_json.specs.Document.{filter_form, output_form, entry_form, function_form, aggregate_form, unary_form};
 ghost use Rattle.vx_plan_nodes.specs.Outline.{aggregate_of, phase_of, is_of_parts, columns_of, columns, outline_of};
-ghost use Rattle.vx_plan.specs.Resolve.{select_shape, output_name, find_kept, find_all_kept, kept_shape, project_shape, distinct_shape, sort_shape, partial_sort_shape, limit_shape, find_function, find_aggregates, find_group, test_group, group_shape, partial_shape, parts_of, final_shape, unary_shape};
+ghost use Rattle.vx_plan.specs.Resolve.{select_shape, project_shape, distinct_shape, sort_shape, partial_sort_shape, limit_shape, find_function, find_aggregates, find_group, test_group, group_shape, partial_shape, parts_of, final_shape, unary_shape};
 ghost use Rattle.vx_plan.specs.Shaped.{shape_of};
 
-use crate::columns::{columns, group_names, group_types, kept_types, output_names, own_columns};
-use crate::conditions::find_conditions;
-use crate::fits::{are_aggregates, are_conditions};
+use crate::columns::{columns, entry_types, group_names, group_types, kept_types, own_columns};
+use crate::conditions::find_filters;
+use crate::entries::{entries_shape, kept_shape};
+use crate::fits::{are_aggregates, are_filters};
 use crate::lookup::{
     find_column, find_columns, find_order, test_distinct, test_distinct_order, test_match,
     test_width,
@@ -20,9 +21,9 @@ use std::alloc::Global;
 use std::sync::Arc;
 use vx_catalog_json::OrderText;
 use vx_plan_json::{
-    NamedAggregate, NamedCondition, NamedFunction, NamedOutput, NamedUnary, PlanFault,
+    NamedAggregate, NamedEntry, NamedFilter, NamedFunction, NamedOutput, NamedUnary, PlanFault,
 };
-use vx_plan_nodes::{Aggregate, Columns, Name, Phase, Projected, SortPhase, TypedNode, Unary};
+use vx_plan_nodes::{Aggregate, Columns, Name, Phase, SortPhase, TypedNode, Unary};
 use vx_rows_values::ColType;
 
 /// An operator over one input, and its output.
@@ -37,15 +38,12 @@ fn select_shape(
     alloc: Global,
     node: u32,
     input: &Arc<Columns>,
-    conditions: &[NamedCondition],
+    filters: &[NamedFilter],
 ) -> Result<UnaryShape, PlanFault>
-    ensures { Gives shape_of result (select_shape node (columns_of (arc_value input.now)) (map condition_form conditions.now)) }
+    ensures { Gives shape_of result (select_shape node (columns_of (arc_value input.now)) (map filter_form filters.now)) }
 {
-    let found = find_conditions(alloc, node, input.names.as_slice(), conditions)?;
-    test_match(
-        node,
-        are_conditions(input.types.as_slice(), found.as_slice()),
-    )?;
+    let found = find_filters(alloc, node, input.names.as_slice(), filters)?;
+    test_match(node, are_filters(input.types.as_slice(), found.as_slice()))?;
     let columns = Arc::try_clone(input)?;
     Ok(UnaryShape {
         unary: Unary::Select(found),
@@ -53,70 +51,19 @@ fn select_shape(
     })
 }
 
-#[tactic(auto, unfolding(crate::specs::Resolve::find_kept))]
-fn find_kept(
-    alloc: Global,
-    node: u32,
-    names: &[Name],
-    output: &NamedOutput,
-) -> Result<Projected, PlanFault>
-    ensures { Gives (λ k. k) result (find_kept node names.now (output_form output.now)) }
-{
-    let column = find_column(alloc, node, names, output.column.as_str())?;
-    Ok(Projected {
-        column,
-        renamed: output.renamed.is_some(),
-    })
-}
-
-#[tactic(auto, unfolding(crate::specs::Resolve::find_all_kept), using(crate::proofs::WalkFacts::walk_steps))]
-fn find_all_kept(
-    alloc: Global,
-    node: u32,
-    names: &[Name],
-    outputs: &[NamedOutput],
-) -> Result<Vec<Projected>, PlanFault>
-    ensures { Gives (λ v. v.items) result (find_all_kept node names.now (map output_form outputs.now)) }
-{
-    let mut found = Vec::new(alloc);
-    for output in outputs {
-        let one = find_kept(alloc, node, names, output)?;
-        found.push(one)?;
-    }
-    Ok(found)
-}
-
-// The kept columns of a projection or a distinct. No output name stands twice.
-#[tactic(auto, unfolding(crate::specs::Resolve::kept_shape))]
-fn kept_shape(
-    alloc: Global,
-    node: u32,
-    input: &Columns,
-    outputs: &[NamedOutput],
-) -> Result<(Vec<Projected>, Vec<String>), PlanFault>
-    ensures kept { Gives (λ r. r.0.items) result (kept_shape node (columns_of input.now) (map output_form outputs.now)) }
-    ensures names { IfOk result (λ r. map string_bytes r.1.items ≡ map output_name (map output_form outputs.now)) }
-{
-    let found = find_all_kept(alloc, node, input.names.as_slice(), outputs)?;
-    let names = output_names(alloc, outputs)?;
-    test_distinct(alloc, node, names.as_slice())?;
-    test_width(node, outputs.len())?;
-    Ok((found, names))
-}
-
-#[tactic(auto, unfolding(crate::specs::Resolve::project_shape))]
+#[tactic(auto, unfolding(crate::specs::Resolve::project_shape), using(crate::proofs::EntryFacts::entry_views))]
 fn project_shape(
     alloc: Global,
     node: u32,
     input: &Columns,
-    outputs: &[NamedOutput],
+    entries: &[NamedEntry],
 ) -> Result<UnaryShape, PlanFault>
-    ensures { Gives shape_of result (project_shape node (columns_of input.now) (map output_form outputs.now)) }
+    ensures { Gives shape_of result (project_shape node (columns_of input.now) (map entry_form entries.now)) }
 {
-    let (kept, names) = kept_shape(alloc, node, input, outputs)?;
-    let types = kept_types(alloc, input.types.as_slice(), kept.as_slice())?;
+    let (found, names) = entries_shape(alloc, node, input, entries)?;
+    let types = entry_types(alloc, input.types.as_slice(), found.as_slice())?;
     Ok(UnaryShape {
-        unary: Unary::Project(kept),
+        unary: Unary::Project(found),
         columns: own_columns(alloc, names, types)?,
     })
 }
@@ -337,8 +284,8 @@ pub fn unary_shape(
 {
     let columns = columns(input);
     match unary {
-        NamedUnary::Select(conditions) => select_shape(alloc, node, columns, conditions.as_slice()),
-        NamedUnary::Project(outputs) => project_shape(alloc, node, columns, outputs.as_slice()),
+        NamedUnary::Select(filters) => select_shape(alloc, node, columns, filters.as_slice()),
+        NamedUnary::Project(entries) => project_shape(alloc, node, columns, entries.as_slice()),
         NamedUnary::Distinct(outputs) => distinct_shape(alloc, node, columns, outputs.as_slice()),
         NamedUnary::Sort(order) => {
             sort_shape(alloc, SortPhase::Plain, node, columns, order.as_slice())

@@ -6,7 +6,7 @@ use Rattle.serde_json.specs.Written.{compact_text}
 use Rattle.vx_catalog_json.specs.Look.{OrderText}
 use Rattle.vx_rows_values.specs.Values.{Val, num, text, Name}
 use Rattle.vx_rows_values.specs.Test.{test_text}
-use Rattle.vx_plan_json.specs.Document.{PartForm, one, any, all, hash_part, range_part, ClaimForm, SideForm, column, constant, ConditionForm, OutputForm, FunctionForm, least, greatest, sum, count_rows, AggregateForm, ScanForm, UnaryForm, select, project, distinct, sort, partial_sort, group, partial_group, final_group, limit, BinaryForm, union, join, semi_join, KindForm, hash, range, round, broadcast, gather, concat, Tree, scan, unary, binary, exchange}
+use Rattle.vx_plan_json.specs.Document.{PartForm, one, any, all, hash_part, range_part, ClaimForm, SideForm, column, constant, ConditionForm, OutputForm, OperandForm, operand_column, operand_value, operand_call, OperandForms, no_operands, more_operands, FilterForm, compared, computed, EntryForm, kept, made, FunctionForm, least, greatest, sum, count_rows, AggregateForm, ScanForm, UnaryForm, select, project, distinct, sort, partial_sort, group, partial_group, final_group, limit, BinaryForm, union, join, semi_join, KindForm, hash, range, round, broadcast, gather, concat, Tree, scan, unary, binary, exchange}
 
 -- texts in a row, a separator before each but the first
 abbrev pub separated : List ℕ → (is_later : Bool) → List (List ℕ) → List ℕ
@@ -71,6 +71,21 @@ side_text (constant v) = value_text v
 abbrev pub condition_text : ConditionForm → List ℕ
 condition_text c = c.left ++ (codes " " ++ (test_text c.test ++ (codes " " ++ side_text c.right)))
 
+-- what is computed: of a function its name and its operands, and not the type of its answer
+abbrev mutual
+  pub operand_text : OperandForm → List ℕ
+  operand_text (operand_column name) = name
+  operand_text (operand_value v) = value_text v
+  operand_text (operand_call f t os) = f ++ (codes "(" ++ (separated (codes ",") false (operand_texts os) ++ codes ")"))
+
+  pub operand_texts : OperandForms → List (List ℕ)
+  operand_texts no_operands = []
+  operand_texts (more_operands o os) = operand_text o ∷ operand_texts os
+
+abbrev pub filter_text : FilterForm → List ℕ
+filter_text (compared c) = condition_text c
+filter_text (computed o) = operand_text o
+
 -- a kept column, with its new name where it has one
 abbrev pub renamed_text : Option Name → List ℕ
 renamed_text None = []
@@ -78,6 +93,14 @@ renamed_text (Some name) = codes " as " ++ name
 
 abbrev pub kept_text : OutputForm → List ℕ
 kept_text o = o.column ++ renamed_text o.renamed
+
+-- a column of a projection
+abbrev pub made_text : EntryForm → List ℕ
+made_text (kept o) = kept_text o
+made_text (made o name) = operand_text o ++ (codes " as " ++ name)
+
+abbrev pub made_list : List EntryForm → List ℕ
+made_list entries = separated (codes ",") false (map made_text entries) ++ codes "]"
 
 abbrev pub kept_list : List OutputForm → List ℕ
 kept_list outputs = separated (codes ",") false (map kept_text outputs) ++ codes "]"
@@ -101,8 +124,8 @@ group_text by aggregates = list_text by ++ aggregates_text aggregates
 
 -- a final group says no columns, since its columns are those of its partial group
 abbrev pub unary_text : UnaryForm → List ℕ
-unary_text (select cs) = codes "select " ++ separated (codes " and ") false (map condition_text cs)
-unary_text (project outputs) = codes "project [" ++ kept_list outputs
+unary_text (select fs) = codes "select " ++ separated (codes " and ") false (map filter_text fs)
+unary_text (project entries) = codes "project [" ++ made_list entries
 unary_text (distinct outputs) = codes "distinct [" ++ kept_list outputs
 unary_text (sort order) = codes "sort " ++ order_text order
 unary_text (partial_sort order) = codes "partial-sort " ++ order_text order

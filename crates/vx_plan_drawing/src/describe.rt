@@ -2,16 +2,16 @@
 
 ghost use Rattle.std.specs.Prelude.{◌≡◌, ◌++◌, map, option_map, string_bytes, OnOk, codes, decimal, false};
 ghost use Rattle.vx_rows_values.specs.ValueView.{val_of};
-ghost use Rattle.vx_plan_json.specs.Document.{side_form, condition_form, output_form, function_form, aggregate_form, scan_form, unary_form, pair_form, binary_form, kind_form, tree_of};
-ghost use Rattle.vx_plan_drawing.specs.Description.{separated, value_text, side_text, condition_text, renamed_text, kept_text, kept_list, function_text, aggregate_text, aggregates_text, group_text, unary_text, pair_text, where_text, binary_text, kind_text, merge_text, prefix_text, scan_text, description, target_name, size_name};
+ghost use Rattle.vx_plan_json.specs.Document.{side_form, condition_form, output_form, operand_form, filter_form, entry_form, function_form, aggregate_form, scan_form, unary_form, pair_form, binary_form, kind_form, tree_of};
+ghost use Rattle.vx_plan_drawing.specs.Description.{separated, value_text, side_text, condition_text, operand_text, filter_text, renamed_text, kept_text, made_text, made_list, kept_list, function_text, aggregate_text, aggregates_text, group_text, unary_text, pair_text, where_text, binary_text, kind_text, merge_text, prefix_text, scan_text, description, target_name, size_name};
 
 use crate::words::{push_between, push_hash, push_list, push_order, push_range};
 use itoa::Buffer;
 use std::alloc::{AllocError, Global};
 use vx_catalog_json::OrderText;
 use vx_plan_json::{
-    NamedAggregate, NamedBinary, NamedCondition, NamedFunction, NamedKind, NamedOutput, NamedScan,
-    NamedSide, NamedUnary, Node,
+    NamedAggregate, NamedBinary, NamedCondition, NamedEntry, NamedFilter, NamedFunction, NamedKind,
+    NamedOperand, NamedOutput, NamedScan, NamedSide, NamedUnary, Node,
 };
 use vx_rows_values::Value;
 
@@ -71,6 +71,70 @@ fn push_conditions(
     Ok(())
 }
 
+// Adds what is computed: of a function its name and its operands.
+#[cycle(operands)]
+fn push_operand(alloc: Global, text: &mut String, operand: &NamedOperand) -> Result<(), AllocError>
+    ensures { OnOk result (string_bytes text.new ≡ string_bytes text.old ++ operand_text (operand_form operand.now)) }
+{
+    match operand {
+        NamedOperand::Column(name) => text.push_str(name.as_str()),
+        NamedOperand::Constant(value) => push_value(alloc, text, value),
+        NamedOperand::Call(name, _, operands) => {
+            push_call(alloc, text, name.as_str(), operands.as_slice())
+        }
+    }
+}
+
+// Adds a function's name, and its operands in brackets.
+#[cycle(operands)]
+fn push_call(
+    alloc: Global,
+    text: &mut String,
+    name: &str,
+    operands: &[NamedOperand],
+) -> Result<(), AllocError>
+    ensures { OnOk result (string_bytes text.new ≡ string_bytes text.old ++ (name.now ++ (codes "(" ++ (separated (codes ",") false (map operand_text (map operand_form operands.now)) ++ codes ")")))) }
+{
+    text.push_str(name)?;
+    text.push_str("(")?;
+    push_operands(alloc, text, operands)?;
+    text.push_str(")")
+}
+
+#[cycle(operands)]
+fn push_operands(
+    alloc: Global,
+    text: &mut String,
+    operands: &[NamedOperand],
+) -> Result<(), AllocError>
+    ensures { OnOk result (string_bytes text.new ≡ string_bytes text.old ++ separated (codes ",") false (map operand_text (map operand_form operands.now))) }
+{
+    for (i, operand) in operands.iter().enumerate() {
+        push_between(text, ",", i > 0)?;
+        push_operand(alloc, text, operand)?;
+    }
+    Ok(())
+}
+
+fn push_filter(alloc: Global, text: &mut String, filter: &NamedFilter) -> Result<(), AllocError>
+    ensures { OnOk result (string_bytes text.new ≡ string_bytes text.old ++ filter_text (filter_form filter.now)) }
+{
+    match filter {
+        NamedFilter::Compared(condition) => push_condition(alloc, text, condition),
+        NamedFilter::Computed(operand) => push_operand(alloc, text, operand),
+    }
+}
+
+fn push_filters(alloc: Global, text: &mut String, filters: &[NamedFilter]) -> Result<(), AllocError>
+    ensures { OnOk result (string_bytes text.new ≡ string_bytes text.old ++ separated (codes " and ") false (map filter_text (map filter_form filters.now))) }
+{
+    for (i, filter) in filters.iter().enumerate() {
+        push_between(text, " and ", i > 0)?;
+        push_filter(alloc, text, filter)?;
+    }
+    Ok(())
+}
+
 // Adds the new name of a column that is kept, if it has one.
 fn push_renamed(text: &mut String, renamed: &Option<String>) -> Result<(), AllocError>
     ensures { OnOk result (string_bytes text.new ≡ string_bytes text.old ++ renamed_text (option_map string_bytes renamed.now)) }
@@ -99,6 +163,48 @@ fn push_kept_columns(text: &mut String, outputs: &[NamedOutput]) -> Result<(), A
         push_kept_column(text, output)?;
     }
     Ok(())
+}
+
+// Adds what is computed, and its name.
+fn push_made(
+    alloc: Global,
+    text: &mut String,
+    operand: &NamedOperand,
+    name: &str,
+) -> Result<(), AllocError>
+    ensures { OnOk result (string_bytes text.new ≡ string_bytes text.old ++ (operand_text (operand_form operand.now) ++ (codes " as " ++ name.now))) }
+{
+    push_operand(alloc, text, operand)?;
+    text.push_str(" as ")?;
+    text.push_str(name)
+}
+
+fn push_entry(alloc: Global, text: &mut String, entry: &NamedEntry) -> Result<(), AllocError>
+    ensures { OnOk result (string_bytes text.new ≡ string_bytes text.old ++ made_text (entry_form entry.now)) }
+{
+    match entry {
+        NamedEntry::Kept(output) => push_kept_column(text, output),
+        NamedEntry::Made(operand, name) => push_made(alloc, text, operand, name.as_str()),
+    }
+}
+
+fn push_entries(alloc: Global, text: &mut String, entries: &[NamedEntry]) -> Result<(), AllocError>
+    ensures { OnOk result (string_bytes text.new ≡ string_bytes text.old ++ separated (codes ",") false (map made_text (map entry_form entries.now))) }
+{
+    for (i, entry) in entries.iter().enumerate() {
+        push_between(text, ",", i > 0)?;
+        push_entry(alloc, text, entry)?;
+    }
+    Ok(())
+}
+
+// Adds the word of a projection and its columns, in brackets.
+fn push_project(alloc: Global, text: &mut String, entries: &[NamedEntry]) -> Result<(), AllocError>
+    ensures { OnOk result (string_bytes text.new ≡ string_bytes text.old ++ (codes "project [" ++ made_list (map entry_form entries.now))) }
+{
+    text.push_str("project [")?;
+    push_entries(alloc, text, entries)?;
+    text.push_str("]")
 }
 
 // Adds an operator's word and the columns that it keeps, in brackets.
@@ -188,11 +294,11 @@ fn push_unary(alloc: Global, text: &mut String, operator: &NamedUnary) -> Result
     ensures { OnOk result (string_bytes text.new ≡ string_bytes text.old ++ unary_text (unary_form operator.now)) }
 {
     match operator {
-        NamedUnary::Select(conditions) => {
+        NamedUnary::Select(filters) => {
             text.push_str("select ")?;
-            push_conditions(alloc, text, conditions.as_slice())
+            push_filters(alloc, text, filters.as_slice())
         }
-        NamedUnary::Project(outputs) => push_kept(text, "project [", outputs.as_slice()),
+        NamedUnary::Project(entries) => push_project(alloc, text, entries.as_slice()),
         NamedUnary::Distinct(outputs) => push_kept(text, "distinct [", outputs.as_slice()),
         NamedUnary::Sort(order) => {
             text.push_str("sort ")?;

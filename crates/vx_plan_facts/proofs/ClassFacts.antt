@@ -5,8 +5,8 @@ use Rattle.std.proofs.lemmas.List.{get_or_append_left, get_or-append-add, get_or
 use Rattle.std.proofs.Math.Seq.{get_or-append_seam}
 use Rattle.std.proofs.lemmas.Bool.Decides.{nat_tests}
 use Rattle.std.specs.List.{list_all}
-use Rattle.vx_plan_nodes.specs.Plan.{Condition}
-use Rattle.vx_plan_facts.specs.Equal.{Equality, with_pair, with_test, with_conditions, with_pairs}
+use Rattle.vx_plan_nodes.specs.Plan.{Filter, comparing, computing}
+use Rattle.vx_plan_facts.specs.Equal.{Equality, with_pair, with_conditions, with_pairs, comparisons}
 use Rattle.vx_plan_facts.specs.Facts.{NamesFirsts, Tells}
 use Rattle.vx_plan_facts.specs.Naming.{pair_within}
 use Rattle.vx_plan_facts.specs.Labels.{label_eq, label_at, SameLabels}
@@ -141,11 +141,19 @@ back-drop xs n done d wide h =
     let j : suc (n - 1 - done) ≡ n - done = omega (arith, h) in
     ap (λ m. drop m xs) i ∙ drop-cons xs (n - 1 - done) d (omega (arith, wide, h)) ∙ ap (λ m. get_or xs (n - 1 - done) d ∷ drop m xs) j
 
-pub conditions-next : (xs : List Condition) (n done : ℕ) (x : Condition) (e : Equality) (old new : List ℕ) → n ≡ length xs → done < n → x ≡ get_or xs (n - 1 - done) x
-    → ((h : Equality) → Tells h old → Tells (with_test x.left x.test x.right h) new) → Tells (with_conditions (drop (n - done) xs) e) old → Tells (with_conditions (drop (n - (done + 1)) xs) e) new
+-- the comparison of a first condition, over those of the others
+front-compared : (x : Filter) (fs : List Filter) (e : Equality)
+    → with_conditions (comparisons (x ∷ fs)) e ≡ with_conditions (comparisons (x ∷ [])) (with_conditions (comparisons fs) e)
+front-compared (comparing c) fs e = refl
+front-compared (computing y) fs e = refl
+
+pub conditions-next : (xs : List Filter) (n done : ℕ) (x : Filter) (e : Equality) (old new : List ℕ) → n ≡ length xs → done < n → x ≡ get_or xs (n - 1 - done) x
+    → ((h : Equality) → Tells h old → Tells (with_conditions (comparisons (x ∷ [])) h) new) → Tells (with_conditions (comparisons (drop (n - done) xs)) e) old
+    → Tells (with_conditions (comparisons (drop (n - (done + 1)) xs)) e) new
 conditions-next xs n done x e old new wide h is step tells =
     let back : drop (n - (done + 1)) xs ≡ x ∷ drop (n - done) xs = back-drop xs n done x wide h ∙ ap (λ y. y ∷ drop (n - done) xs) (sym is) in
-    subst (λ cs. Tells (with_conditions cs e) new) (sym back) (step (with_conditions (drop (n - done) xs) e) tells)
+    subst (λ fs. Tells (with_conditions (comparisons fs) e) new) (sym back)
+    (subst (λ d. Tells d new) (sym (front-compared x (drop (n - done) xs) e)) (step (with_conditions (comparisons (drop (n - done) xs)) e) tells))
 
 pub pairs-next : (w : ℕ) (xs : List (ℕ × ℕ)) (n done : ℕ) (x : ℕ × ℕ) (e : Equality) (old new : List ℕ) → n ≡ length xs → done < n → x ≡ get_or xs (n - 1 - done) x
     → ((h : Equality) → Tells h old → Tells (with_pair x.0 (w + x.1) h) new) → Tells (with_pairs w (drop (n - done) xs) e) old → Tells (with_pairs w (drop (n - (done + 1)) xs) e) new

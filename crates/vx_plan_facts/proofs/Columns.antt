@@ -4,12 +4,12 @@ use Rattle.std.specs.List.{list_all}
 use Rattle.vx_rows_values.specs.Values.{Val, Row, val_cmp, value_at, pick}
 use Rattle.vx_rows_values.proofs.Booleans.{and-left, and-right}
 use Rattle.vx_rows_values.proofs.Compare.{val_cmp-same, is_eq-Equal}
-use Rattle.vx_plan_nodes.specs.Plan.{Test, equal, unequal, below, at_most, above, at_least, Side, column, constant, Condition}
+use Rattle.vx_plan_nodes.specs.Plan.{Test, equal, unequal, below, at_most, above, at_least, Side, column, constant, Condition, input, value, call, Entry, copy_of, made_by}
 use Rattle.vx_plan_nodes.specs.Phases.{first_columns}
-use Rattle.vx_plan_nodes.specs.Describe.{Copying, whole_rows, columns_kept, left_of, right_of, source}
-use Rattle.vx_plan_nodes.specs.Serial.{side, answers, passes}
+use Rattle.vx_plan_nodes.specs.Describe.{Copying, whole_rows, columns_kept, entries_kept, kept_column, left_of, right_of, source}
+use Rattle.vx_plan_nodes.specs.Serial.{side, answers, passes, entries_row}
 use Rattle.vx_plan_facts.specs.Equal.{Equality, both_equal, lifted, with_pair, with_test, with_conditions, with_pairs}
-use Rattle.vx_plan_facts.specs.Fixed.{Values, values_at, carried_values, tested_value, tested_values, shared_values, has_value}
+use Rattle.vx_plan_facts.specs.Fixed.{Values, values_at, carried_values, tested_value, tested_values, constants, shared_values, has_value}
 use Rattle.vx_plan_facts.specs.RowFacts.{HasEqual, HasFixed}
 
 pub or-cases : (a b : Bool) → (a || b) ≡ true → (a ≡ true) ⊎ (b ≡ true)
@@ -35,6 +35,15 @@ kept-copies cols row tail c d h = kept-at cols row tail c d h
 
 pub kept-alone : (cols : List ℕ) (row : Row) → HasCopies (columns_kept cols) row (pick cols row)
 kept-alone cols row c d h = ap (λ r. value_at r c) (sym (append-nil (pick cols row))) ∙ kept-copies cols row [] c d h
+
+pub entry-at : (es : List Entry) (row : Row) (c d : ℕ) → source (entries_kept (map kept_column es)) c ≡ Some d → value_at (entries_row es row) c ≡ value_at row d
+entry-at [] row c d h = cc
+entry-at (copy_of k ∷ es) row zero d h = let e : k ≡ d = cc in ap (λ x. value_at row x) e
+entry-at (made_by e ∷ es) row zero d h = cc
+entry-at (e ∷ es) row (suc c) d h = entry-at es row c d h
+
+pub entry-copies : (es : List Entry) (row : Row) → HasCopies (entries_kept (map kept_column es)) row (entries_row es row)
+entry-copies es row c d h = entry-at es row c d h
 
 pub value-left : (l r : Row) (c : ℕ) → c < length l → value_at (l ++ r) c ≡ value_at l c
 value-left [] r c h = absurd (omega arith)
@@ -205,3 +214,13 @@ fixed-conditions (d ∷ cs) row p c v h =
     (λ t. fixed-test d.left d.test d.right row (and-left here (passes cs row) p) c v t)
     (λ t. fixed-conditions cs row (and-right here (passes cs row) p) c v t)
     (has-append (tested_value d.left d.test d.right c) (tested_values cs c) v h)
+
+-- a constant is the value of its column
+pub fixed-constants : (es : List Entry) (row : Row) → HasFixed (constants es) (entries_row es row)
+fixed-constants [] row c v h = absurd (true≢false (sym h))
+fixed-constants (copy_of k ∷ es) row zero v h = absurd (true≢false (sym h))
+fixed-constants (made_by (input k) ∷ es) row zero v h = absurd (true≢false (sym h))
+fixed-constants (made_by (value u) ∷ es) row zero v h =
+    same-value u v (⊎_elim (λ l. l) (λ r. absurd (true≢false (sym r))) (or-cases (is_eq (val_cmp u v)) false h))
+fixed-constants (made_by (call f t os) ∷ es) row zero v h = absurd (true≢false (sym h))
+fixed-constants (e ∷ es) row (suc c) v h = fixed-constants es row c v h

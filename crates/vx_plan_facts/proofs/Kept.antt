@@ -1,15 +1,15 @@
 -- The facts of a node, from those of its inputs.
-use Rattle.std.proofs.Common.{◌≡◌, ◌∙◌, ℕ, zero, suc, ◌+◌, ◌-◌, ◌<◌, ◌≤◌, ◌==◌, Bool, true, false, cond, nat_lt, nat_le, List, [], ◌∷◌, ◌++◌, map, flat_map, length, get_or, ap, sym, refl, arith, ◌&&◌, ◌||◌, not, Option, Some, None}
+use Rattle.std.proofs.Common.{slice_get, ◌≡◌, ◌∙◌, ℕ, zero, suc, ◌+◌, ◌-◌, ◌<◌, ◌≤◌, ◌==◌, Bool, true, false, cond, nat_lt, nat_le, List, [], ◌∷◌, ◌++◌, map, flat_map, length, get_or, ap, sym, refl, arith, ◌&&◌, ◌||◌, not, Option, Some, None}
 use Rattle.std.specs.List.{filter}
 use Rattle.std.proofs.lemmas.Bool.{eqb-true, eq-eqb, ne_eqb}
 use Rattle.std.proofs.lemmas.Bool.Decides.{nat_tests}
 use Rattle.std.proofs.lemmas.List.{append-nil, get_or-map, length-map}
 use Rattle.vx_rows_values.specs.Values.{Val}
-use Rattle.vx_plan_nodes.specs.Plan.{Test, equal, unequal, below, at_most, above, at_least, Side, column, constant, Condition}
+use Rattle.vx_plan_nodes.specs.Plan.{Test, equal, unequal, below, at_most, above, at_least, Side, column, constant, Filter, comparing, computing, input, value, call, Entry, copy_of, made_by}
 use Rattle.vx_plan_nodes.specs.Phases.{first_columns}
-use Rattle.vx_plan_nodes.specs.Describe.{Copying, source, left_of, right_of}
-use Rattle.vx_plan_facts.specs.Equal.{Equality, each_itself, lifted, both_equal, with_conditions, with_pairs}
-use Rattle.vx_plan_facts.specs.Fixed.{Values, values_at, carried_values, tested_value, tested_values, shared_values, has_value}
+use Rattle.vx_plan_nodes.specs.Describe.{Copying, entries_kept, kept_column, source, left_of, right_of}
+use Rattle.vx_plan_facts.specs.Equal.{Equality, each_itself, lifted, both_equal, with_conditions, with_pairs, comparisons}
+use Rattle.vx_plan_facts.specs.Fixed.{Values, values_at, carried_values, tested_value, tested_values, constant_value, constants, shared_values, has_value}
 use Rattle.vx_plan_facts.specs.Facts.{Facts, NamesFirsts, Tells, values_in, values_of, each_once, with_values, Keeps}
 use Rattle.vx_plan_facts.specs.Labels.{label_eq, label_at, SameLabels, copy_label, copy_labels, both_labels, source_within}
 use Rattle.vx_plan_facts.specs.Listing.{listed, of_firsts, copied, common, shared, named_value, named_values, side_by_side}
@@ -219,29 +219,88 @@ named-value x at_most s c = refl
 named-value x above s c = refl
 named-value x at_least s c = refl
 
-named-values : (cs : List Condition) (c : ℕ) → values_in (named_values cs) c ≡ tested_values cs c
+named-values : (fs : List Filter) (c : ℕ) → values_in (named_values fs) c ≡ tested_values (comparisons fs) c
 named-values [] c = refl
-named-values (d ∷ cs) c =
-    values-append (named_value d.left d.test d.right) (named_values cs) c ∙ ap (λ vs. vs ++ values_in (named_values cs) c) (named-value d.left d.test d.right c)
-    ∙ ap (λ vs. tested_value d.left d.test d.right c ++ vs) (named-values cs c)
+named-values (comparing d ∷ fs) c =
+    values-append (named_value d.left d.test d.right) (named_values fs) c ∙ ap (λ vs. vs ++ values_in (named_values fs) c) (named-value d.left d.test d.right c)
+    ∙ ap (λ vs. tested_value d.left d.test d.right c ++ vs) (named-values fs c)
+named-values (computing e ∷ fs) c = named-values fs c
 
-pub selected-keeps : (cs : List Condition) (e : Equality) (f : Values) (under : Facts) (firsts : List ℕ) (given fixed : List (ℕ × Val)) → Keeps (length under.firsts) e f under → length firsts ≡ length under.firsts
-    → Tells (with_conditions cs e) firsts → given ≡ named_values cs ++ listed (length under.firsts) (values_of under) → fixed ≡ shared firsts given (length firsts)
-    → Keeps (length under.firsts) (with_conditions cs e) (shared_values (length under.firsts) (with_conditions cs e) (λ c. tested_values cs c ++ f c)) (record { firsts = firsts; fixed = fixed })
-selected-keeps cs e f under firsts given fixed keeps wide tells are is = record {
+pub selected-keeps : (fs : List Filter) (e : Equality) (f : Values) (under : Facts) (firsts : List ℕ) (given fixed : List (ℕ × Val)) → Keeps (length under.firsts) e f under → length firsts ≡ length under.firsts
+    → Tells (with_conditions (comparisons fs) e) firsts → given ≡ named_values fs ++ listed (length under.firsts) (values_of under) → fixed ≡ shared firsts given (length firsts)
+    → Keeps (length under.firsts) (with_conditions (comparisons fs) e) (shared_values (length under.firsts) (with_conditions (comparisons fs) e) (λ c. tested_values (comparisons fs) c ++ f c)) (record { firsts = firsts; fixed = fixed })
+selected-keeps fs e f under firsts given fixed keeps wide tells are is = record {
   wide = wide;
   equal = tells;
-  values = λ c h. ap (λ es. values_in es (get_or firsts c 0)) is ∙ shared-values (length under.firsts) firsts (with_conditions cs e) given (λ c. tested_values cs c ++ f c) wide tells alike c h;
+  values = λ c h. ap (λ es. values_in es (get_or firsts c 0)) is ∙ shared-values (length under.firsts) firsts (with_conditions (comparisons fs) e) given (λ c. tested_values (comparisons fs) c ++ f c) wide tells alike c h;
 }
   where
-    alike : (d : ℕ) → d < length under.firsts → Alike (values_in given d) (tested_values cs d ++ f d)
+    alike : (d : ℕ) → d < length under.firsts → Alike (values_in given d) (tested_values (comparisons fs) d ++ f d)
     alike d h =
         let w : ℕ = length under.firsts in
-        let all : values_in given d ≡ tested_values cs d ++ each_once (f d) =
-        ap (λ es. values_in es d) are ∙ values-append (named_values cs) (listed w (values_of under)) d ∙ ap (λ vs. vs ++ values_in (listed w (values_of under)) d) (named-values cs d)
-        ∙ ap (λ vs. tested_values cs d ++ vs) (values-at w d (values_of under) h ∙ keeps.values d h) in
-        alike-trans (values_in given d) (tested_values cs d ++ each_once (f d)) (tested_values cs d ++ f d) (alike-refl (values_in given d) (tested_values cs d ++ each_once (f d)) all)
-        (alike-append (tested_values cs d) (each_once (f d)) (tested_values cs d) (f d) (alike-refl (tested_values cs d) (tested_values cs d) refl) (alike-once (f d)))
+        let all : values_in given d ≡ tested_values (comparisons fs) d ++ each_once (f d) =
+        ap (λ es. values_in es d) are ∙ values-append (named_values fs) (listed w (values_of under)) d ∙ ap (λ vs. vs ++ values_in (listed w (values_of under)) d) (named-values fs d)
+        ∙ ap (λ vs. tested_values (comparisons fs) d ++ vs) (values-at w d (values_of under) h ∙ keeps.values d h) in
+        alike-trans (values_in given d) (tested_values (comparisons fs) d ++ each_once (f d)) (tested_values (comparisons fs) d ++ f d) (alike-refl (values_in given d) (tested_values (comparisons fs) d ++ each_once (f d)) all)
+        (alike-append (tested_values (comparisons fs) d) (each_once (f d)) (tested_values (comparisons fs) d) (f d) (alike-refl (tested_values (comparisons fs) d) (tested_values (comparisons fs) d) refl) (alike-once (f d)))
+
+-- ---- projections
+
+-- an entry that is a copy is no constant
+copy-alone : (es : List Entry) (c x : ℕ) → source (entries_kept (map kept_column es)) c ≡ Some x → constants es c ≡ []
+copy-alone [] c x h = refl
+copy-alone (copy_of k ∷ es) zero x h = refl
+copy-alone (made_by k ∷ es) zero x h = cc
+copy-alone (k ∷ es) (suc c) x h = copy-alone es c x h
+
+constant-once : (o : Option Entry) → each_once (constant_value o) ≡ constant_value o
+constant-once None = refl
+constant-once (Some (copy_of c)) = refl
+constant-once (Some (made_by (input c))) = refl
+constant-once (Some (made_by (value v))) = refl
+constant-once (Some (made_by (call f t os))) = refl
+
+-- a column has the values of its copy, or its constant
+behind-once : (es : List Entry) (f : Values) (c : ℕ) (o : Option ℕ) → source (entries_kept (map kept_column es)) c ≡ o
+    → each_once (values_at f o) ++ constants es c ≡ each_once (values_at f o ++ constants es c)
+behind-once es f c None h = sym (constant-once (slice_get es c))
+behind-once es f c (Some x) h =
+    let e = copy-alone es c x h in
+    ap (λ vs. each_once (f x) ++ vs) e ∙ append-nil (each_once (f x)) ∙ sym (ap each_once (ap (λ vs. f x ++ vs) e ∙ append-nil (f x)))
+
+-- equal columns have the same constants
+constants-equal : (es : List Entry) (e : Equality) (a b : ℕ) → lifted (entries_kept (map kept_column es)) e a b ≡ true → constants es a ≡ constants es b
+constants-equal es e a b h = go (a == b) refl h
+  where
+    copied-both : (o u : Option ℕ) → source (entries_kept (map kept_column es)) a ≡ o → source (entries_kept (map kept_column es)) b ≡ u → both_equal e o u ≡ true → constants es a ≡ constants es b
+    copied-both (Some x) (Some y) p q t = copy-alone es a x p ∙ sym (copy-alone es b y q)
+    copied-both (Some x) None p q t = absurd cc
+    copied-both None u p q t = absurd cc
+
+    go : (x : Bool) → (a == b) ≡ x → (x || both_equal e (source (entries_kept (map kept_column es)) a) (source (entries_kept (map kept_column es)) b)) ≡ true → constants es a ≡ constants es b
+    go true p t = ap (constants es) (eqb-true a b p)
+    go false p t = copied-both _ _ refl refl t
+
+pub projected-keeps : (es : List Entry) (e : Equality) (f : Values) (firsts : List ℕ) (fixed all : List (ℕ × Val)) → NamesFirsts firsts
+    → Keeps (length es) (lifted (entries_kept (map kept_column es)) e) (carried_values (entries_kept (map kept_column es)) f) (record { firsts = firsts; fixed = fixed })
+    → all ≡ fixed ++ listed (length es) (constants es)
+    → Keeps (length es) (lifted (entries_kept (map kept_column es)) e) (λ c. carried_values (entries_kept (map kept_column es)) f c ++ constants es c) (record { firsts = firsts; fixed = all })
+projected-keeps es e f firsts fixed all named keeps is = record { wide = keeps.wide; equal = keeps.equal; values = values }
+  where
+    values : (c : ℕ) → c < length es → values_in all (get_or firsts c 0) ≡ each_once (values_at f (source (entries_kept (map kept_column es)) c) ++ constants es c)
+    values c h =
+        let n : ℕ = length es in
+        let r : ℕ = get_or firsts c 0 in
+        let wide = keeps.wide in
+        let at : c < length firsts = omega (arith, wide, h) in
+        let le = named.before c at in
+        let rh : r < length firsts = omega (arith, le, at) in
+        let same = sym (keeps.equal r c rh at) ∙ eq-eqb (get_or firsts r 0) r (named.own c at) in
+        let copies : List Val = each_once (values_at f (source (entries_kept (map kept_column es)) c)) in
+        ap (λ xs. values_in xs r) is ∙ values-append fixed (listed n (constants es)) r
+        ∙ ap (λ vs. vs ++ values_in (listed n (constants es)) r) (keeps.values c h)
+        ∙ ap (λ vs. copies ++ vs) (values-at n r (constants es) (omega (arith, le, h)) ∙ constants-equal es e r c same)
+        ∙ behind-once es f c (source (entries_kept (map kept_column es)) c) refl
 
 -- ---- joins
 

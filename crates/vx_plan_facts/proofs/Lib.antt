@@ -1,5 +1,6 @@
 pub mod FollowFacts
 pub mod EachRow
+pub mod Fitting
 pub mod Columns
 pub mod RowFacts
 pub mod Tests

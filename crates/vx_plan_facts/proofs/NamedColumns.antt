@@ -10,22 +10,29 @@ use Rattle.vx_rows_values.specs.Types.{type_at}
 use Rattle.vx_rows_values.specs.Lists.{is_some_list}
 use Rattle.vx_catalog_relations.specs.Relation.{Relation}
 use Rattle.vx_catalog_relations.specs.Catalog.{all_below, are_distinct, relation_at}
-use Rattle.vx_plan_nodes.specs.Plan.{Side, column, constant, Condition, Unary, select, project, distinct, sort, group, limit, Phase, plain, partial, final, Aggregate, Binary, union, join, semi_join, Claim, Size, ExchangeKind, Plan, scan, unary, binary, exchange}
+use Rattle.vx_plan_nodes.specs.Plan.{Side, column, constant, Condition, Filter, comparing, computing, Entry, copy_of, made_by, Unary, select, project, distinct, sort, group, limit, Phase, plain, partial, final, Aggregate, Binary, union, join, semi_join, Claim, Size, ExchangeKind, Plan, scan, unary, binary, exchange}
 use Rattle.vx_plan_nodes.specs.Phases.{phase_fits, both_closed}
-use Rattle.vx_plan_nodes.specs.Types.{types_of, unary_types, binary_types, aggregate_type, width, unary_width, binary_width}
-use Rattle.vx_plan_nodes.specs.Typed.{type_eq, types_eq, are_columns, is_side, is_condition, is_aggregate, is_unary, is_pair, are_distinct_pairs, has_directions, is_binary, typed}
-use Rattle.vx_plan_nodes.specs.Describe.{source, described}
+use Rattle.vx_plan_nodes.specs.Types.{types_of, entry_type, unary_types, binary_types, aggregate_type, width, unary_width, binary_width}
+use Rattle.vx_plan_nodes.specs.Typed.{type_eq, types_eq, are_columns, is_side, is_condition, is_filter, is_entry, is_aggregate, is_unary, is_pair, are_distinct_pairs, has_directions, is_binary, typed}
+use Rattle.vx_plan_nodes.specs.Describe.{entries_kept, kept_column, source, described}
+use Rattle.vx_plan_facts.specs.Equal.{comparisons}
 use Rattle.vx_plan_facts.specs.Facts.{Facts, AreCarried, AreAfter}
 use Rattle.vx_plan_facts.specs.Labels.{source_within}
-use Rattle.vx_plan_facts.specs.Naming.{names_within, side_within, condition_within, pair_within, both_within, IsTypedOver}
+use Rattle.vx_plan_facts.specs.Naming.{names_within, side_within, condition_within, filter_within, entry_within, pair_within, both_within, IsTypedOver}
 
 kept-within : (w : ℕ) (cols : List ℕ) (c : ℕ) → all_below w cols ≡ true → source_within w (slice_get cols c) ≡ true
 kept-within w [] c h = refl
 kept-within w (x ∷ cols) zero h = (and_parts (nat_lt x w) (all_below w cols) h).0
 kept-within w (x ∷ cols) (suc c) h = kept-within w cols c (and_parts (nat_lt x w) (all_below w cols) h).1
 
-pub project-within : (w : ℕ) (op : Unary) (cols : List ℕ) → op ≡ project cols → names_within w op ≡ true → (c : ℕ) → source_within w (source (described op).copying c) ≡ true
-project-within w op cols is h c = rw is (kept-within w cols c (rw is at h))
+pub entries-within : (w : ℕ) (es : List Entry) (c : ℕ) → list_all (entry_within w) es ≡ true → source_within w (source (entries_kept (map kept_column es)) c) ≡ true
+entries-within w [] c h = refl
+entries-within w (copy_of x ∷ es) zero h = (and_parts (nat_lt x w) (list_all (entry_within w) es) h).0
+entries-within w (made_by x ∷ es) zero h = refl
+entries-within w (x ∷ es) (suc c) h = entries-within w es c (and_parts (entry_within w x) (list_all (entry_within w) es) h).1
+
+pub project-within : (w : ℕ) (op : Unary) (es : List Entry) → op ≡ project es → names_within w op ≡ true → (c : ℕ) → source_within w (source (described op).copying c) ≡ true
+project-within w op es is h c = rw is (entries-within w es c (rw is at h))
 
 pub distinct-within : (w : ℕ) (op : Unary) (cols : List ℕ) → op ≡ distinct cols → names_within w op ≡ true → (c : ℕ) → source_within w (source (described op).copying c) ≡ true
 distinct-within w op cols is h c = rw is (kept-within w cols c (rw is at h))
@@ -43,7 +50,7 @@ group-within w op phase by aggregates is h c = rw is (by-within w phase by aggre
 
 unary_types-width : (op : Unary) (types : List ColType) → length (unary_types op types) ≡ unary_width op (length types)
 unary_types-width (select cs) types = refl
-unary_types-width (project cols) types = length-map cols (type_at types)
+unary_types-width (project es) types = length-map es (entry_type types)
 unary_types-width (distinct cols) types = length-map cols (type_at types)
 unary_types-width (sort of_parts cols) types = refl
 unary_types-width (group phase by aggregates) types =
@@ -75,15 +82,37 @@ condition-names types x h =
     side-names t (column c) k = (and_parts (nat_lt c (length types)) (type_eq t (type_at types c)) k).0
     side-names t (constant v) k = refl
 
-conditions-name : (types : List ColType) (cs : List Condition) → list_all (is_condition types) cs ≡ true → list_all (condition_within (length types)) cs ≡ true
-conditions-name types [] h = refl
-conditions-name types (x ∷ cs) h =
-    let p = and_parts (is_condition types x) (list_all (is_condition types) cs) h in
-    and_from (condition_within (length types) x) (list_all (condition_within (length types)) cs) (condition-names types x p.0) (conditions-name types cs p.1)
+filter-names : (types : List ColType) (x : Filter) → is_filter types x ≡ true → filter_within (length types) x ≡ true
+filter-names types (comparing x) h = condition-names types x h
+filter-names types (computing e) h = refl
+
+filters-name : (types : List ColType) (fs : List Filter) → list_all (is_filter types) fs ≡ true → list_all (filter_within (length types)) fs ≡ true
+filters-name types [] h = refl
+filters-name types (x ∷ fs) h =
+    let p = and_parts (is_filter types x) (list_all (is_filter types) fs) h in
+    and_from (filter_within (length types) x) (list_all (filter_within (length types)) fs) (filter-names types x p.0) (filters-name types fs p.1)
+
+-- the comparisons among conditions are typed as these are
+pub comparisons-typed : (ts : List ColType) (fs : List Filter) → list_all (is_filter ts) fs ≡ true → list_all (is_condition ts) (comparisons fs) ≡ true
+comparisons-typed ts [] h = refl
+comparisons-typed ts (comparing c ∷ fs) h =
+    let p = and_parts (is_condition ts c) (list_all (is_filter ts) fs) h in
+    and_from (is_condition ts c) (list_all (is_condition ts) (comparisons fs)) p.0 (comparisons-typed ts fs p.1)
+comparisons-typed ts (computing e ∷ fs) h = comparisons-typed ts fs (and_parts (is_filter ts (computing e)) (list_all (is_filter ts) fs) h).1
+
+entry-names : (types : List ColType) (x : Entry) → is_entry types x ≡ true → entry_within (length types) x ≡ true
+entry-names types (copy_of c) h = h
+entry-names types (made_by e) h = refl
+
+entries-name : (types : List ColType) (es : List Entry) → list_all (is_entry types) es ≡ true → list_all (entry_within (length types)) es ≡ true
+entries-name types [] h = refl
+entries-name types (x ∷ es) h =
+    let p = and_parts (is_entry types x) (list_all (is_entry types) es) h in
+    and_from (entry_within (length types) x) (list_all (entry_within (length types)) es) (entry-names types x p.0) (entries-name types es p.1)
 
 pub unary-names : (types : List ColType) (op : Unary) → is_unary types op ≡ true → names_within (length types) op ≡ true
-unary-names types (select cs) h = conditions-name types cs (and_parts (is_some_list cs) (list_all (is_condition types) cs) h).1
-unary-names types (project cols) h = (and_parts (is_some_list cols) (all_below (length types) cols) h).1
+unary-names types (select fs) h = filters-name types fs (and_parts (is_some_list fs) (list_all (is_filter types) fs) h).1
+unary-names types (project es) h = entries-name types es (and_parts (is_some_list es) (list_all (is_entry types) es) h).1
 unary-names types (distinct cols) h = (and_parts (is_some_list cols) (all_below (length types) cols) h).1
 unary-names types (sort of_parts cols) h = refl
 unary-names types (group phase by aggregates) h =
@@ -155,9 +184,6 @@ pub typed-sent : (catalog : List Relation) (x : Plan) (n : ℕ) (c : Claim) (k :
 typed-sent catalog x n c k m p is (s, same, typed_x) = let t = rw is at typed_x in (s, same, (and_parts (typed s p) _ t).0)
 
 -- ---- operators that copy columns
-
-pub project-after : (op : Unary) (cols : List ℕ) (w : ℕ) (under own : Facts) → op ≡ project cols → w ≡ length cols → AreCarried (described op).copying w under own → AreAfter op under own
-project-after op cols w under own is wide h = rw is (rw wide at (rw is at h))
 
 pub distinct-after : (op : Unary) (cols : List ℕ) (w : ℕ) (under own : Facts) → op ≡ distinct cols → w ≡ length cols → AreCarried (described op).copying w under own → AreAfter op under own
 distinct-after op cols w under own is wide h = rw is (rw wide at (rw is at h))

@@ -11,17 +11,18 @@ use Rattle.vx_rows_values.proofs.Booleans.{and-left, and-right, and-both}
 use Rattle.vx_rows_values.proofs.Compare.{row_eq-same}
 use Rattle.vx_catalog_relations.specs.Relation.{Relation}
 use Rattle.vx_catalog_relations.specs.Catalog.{relation_at}
-use Rattle.vx_plan_nodes.specs.Plan.{Condition, Aggregate, plain, partial, final, Unary, select, project, distinct, sort, group, limit, Binary, union, join, semi_join, Plan, scan, unary, binary, exchange}
-use Rattle.vx_plan_nodes.specs.Types.{aggregate_type, unary_types, binary_types, types_of, unary_width, binary_width, width}
+use Rattle.vx_plan_nodes.specs.Plan.{Condition, Entry, Aggregate, plain, partial, final, Unary, select, project, distinct, sort, group, limit, Binary, union, join, semi_join, Plan, scan, unary, binary, exchange}
+use Rattle.vx_plan_nodes.specs.Types.{aggregate_type, entry_type, unary_types, binary_types, types_of, unary_width, binary_width, width}
 use Rattle.vx_plan_nodes.specs.Typed.{type_eq, types_eq, is_pair, are_distinct_pairs, has_directions, is_unary, is_binary, is_kind, is_output, are_columns, may_merge, typed}
 use Rattle.vx_plan_nodes.specs.Phases.{phase_fits, both_closed}
-use Rattle.vx_plan_nodes.specs.Describe.{Copying, whole_rows, columns_kept, left_of, right_of}
-use Rattle.vx_plan_nodes.specs.Serial.{passes, firsts, matches, joined_with, is_matched, aggregate_of, of_key, group_keys, group_row, group_fits, group_rows, unary_rows, binary_rows, SerialResult, rows, overflow, or_overflow, after, serial}
-use Rattle.vx_plan_facts.specs.Equal.{Equality, lifted, with_conditions, with_pairs, equal_at}
-use Rattle.vx_plan_facts.specs.Fixed.{Values, carried_values, tested_values, shared_values, has_value, fixed_at}
+use Rattle.vx_plan_nodes.specs.Describe.{Copying, whole_rows, columns_kept, entries_kept, kept_column, left_of, right_of}
+use Rattle.vx_plan_nodes.specs.Serial.{passes, filters_hold, filters_fit, entry_value, entries_row, entries_fit, firsts, matches, joined_with, is_matched, aggregate_of, of_key, group_keys, group_row, group_fits, group_rows, unary_rows, binary_rows, SerialResult, rows, overflow, or_overflow, after, serial}
+use Rattle.vx_plan_facts.specs.Equal.{Equality, lifted, with_conditions, with_pairs, comparisons, equal_at}
+use Rattle.vx_plan_facts.specs.Fixed.{Values, carried_values, tested_values, constants, shared_values, has_value, fixed_at}
 use Rattle.vx_plan_facts.specs.RowFacts.{HasEqual, HasFixed, MeetsFacts, MeetsAt, EachMeets, EachWide, inputs_fit, all_inputs_fit, TypedInputsFit, ScanMeets, UnaryMeets, BinaryMeets, ExchangeMeets, SerialMeets}
 use Rattle.vx_plan_facts.proofs.EachRow.{each-weaken, each-map, each-filter, each-append, each-flat, each-firsts, each-sort, each-take}
-use Rattle.vx_plan_facts.proofs.Columns.{HasCopies, whole-copies, kept-copies, kept-alone, left-copies, right-copies, equal-lifted, equal-either, equal-conditions, equal-pairs, has-filter, fixed-carried, fixed-shared, fixed-both, fixed-conditions}
+use Rattle.vx_plan_facts.proofs.Fitting.{where-fit-is, comparisons-hold}
+use Rattle.vx_plan_facts.proofs.Columns.{HasCopies, whole-copies, kept-copies, kept-alone, entry-copies, left-copies, right-copies, equal-lifted, equal-either, equal-conditions, equal-pairs, has-filter, fixed-carried, fixed-shared, fixed-both, fixed-conditions, fixed-constants}
 
 -- ---- rows read by scans
 
@@ -60,6 +61,21 @@ picked-meet : (cols : List ℕ) (w : ℕ) (e : Equality) (f : Values) (xs : List
 picked-meet cols w e f xs h =
     each-map (MeetsFacts w e f) (MeetsFacts (length cols) (lifted (columns_kept cols) e) (carried_values (columns_kept cols) f)) (pick cols)
     (λ row t. copied-meets (columns_kept cols) w (length cols) e f row (pick cols row) (kept-alone cols row) (length-map cols (value_at row)) t) xs h
+
+-- copies and constants
+projected-meet : (es : List Entry) (w : ℕ) (e : Equality) (f : Values) (xs : List Row) → AllByRecursion (MeetsFacts w e f) xs
+    → AllByRecursion (MeetsFacts (length es) (lifted (entries_kept (map kept_column es)) e) (λ c. carried_values (entries_kept (map kept_column es)) f c ++ constants es c)) (map (entries_row es) xs)
+projected-meet es w e f xs h =
+    let k : Copying = entries_kept (map kept_column es) in
+    each-map (MeetsFacts w e f) (MeetsFacts (length es) (lifted k e) (λ c. carried_values k f c ++ constants es c)) (entries_row es)
+    (λ row t.
+    let out : Row = entries_row es row in
+    let copies : HasCopies k row out = entry-copies es row in
+    record {
+      wide = length-map es (λ x. entry_value x row);
+      alike = equal-lifted k e row out copies t.alike;
+      fixed = fixed-both (carried_values k f) (constants es) out (fixed-carried k f row out copies t.fixed) (fixed-constants es row);
+    }) xs h
 
 -- the row of a group begins with the key of an input row
 grouped-meet : (by : List ℕ) (aggregates : List Aggregate) (w : ℕ) (e : Equality) (f : Values) (xs : List Row) → AllByRecursion (MeetsFacts w e f) xs
@@ -103,14 +119,14 @@ group-meets catalog p by aggregates xs ys e h =
     (grouped-meet by aggregates (width catalog p) (equal_at catalog p) (fixed_at catalog p) xs h)
 
 pub unary-meets : UnaryMeets
-unary-meets catalog n c (select cs) p xs ys e h =
-    let N : Plan = unary n c (select cs) p in
-    subst (EachMeets catalog N) (some-is (filter (passes cs) xs) ys e)
-    (each-filter (MeetsAt catalog p) (MeetsAt catalog N) (passes cs)
-    (λ row t k. selected-meets cs (width catalog p) (equal_at catalog p) (fixed_at catalog p) row t k) xs h)
-unary-meets catalog n c (project cols) p xs ys e h =
-    subst (EachMeets catalog (unary n c (project cols) p)) (some-is (map (pick cols) xs) ys e)
-    (picked-meet cols (width catalog p) (equal_at catalog p) (fixed_at catalog p) xs h)
+unary-meets catalog n c (select fs) p xs ys e h =
+    let N : Plan = unary n c (select fs) p in
+    subst (EachMeets catalog N) (where-fit-is (filters_fit fs) xs (filter (filters_hold fs) xs) ys e)
+    (each-filter (MeetsAt catalog p) (MeetsAt catalog N) (filters_hold fs)
+    (λ row t k. selected-meets (comparisons fs) (width catalog p) (equal_at catalog p) (fixed_at catalog p) row (comparisons-hold fs row t) k) xs h)
+unary-meets catalog n c (project es) p xs ys e h =
+    subst (EachMeets catalog (unary n c (project es) p)) (where-fit-is (entries_fit es) xs (map (entries_row es) xs) ys e)
+    (projected-meet es (width catalog p) (equal_at catalog p) (fixed_at catalog p) xs h)
 unary-meets catalog n c (distinct cols) p xs ys e h =
     let N : Plan = unary n c (distinct cols) p in
     subst (EachMeets catalog N) (some-is (firsts (map (pick cols) xs)) ys e)
@@ -226,7 +242,7 @@ serial-meets catalog db wide (exchange n c k m p) xs fit e = exchange-meets cata
 
 unary_types-width : (op : Unary) (types : List ColType) → length (unary_types op types) ≡ unary_width op (length types)
 unary_types-width (select cs) types = refl
-unary_types-width (project cols) types = length-map cols (type_at types)
+unary_types-width (project es) types = length-map es (entry_type types)
 unary_types-width (distinct cols) types = length-map cols (type_at types)
 unary_types-width (sort of_parts cols) types = refl
 unary_types-width (group phase by aggregates) types =

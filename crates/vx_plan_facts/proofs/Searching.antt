@@ -1,5 +1,5 @@
 -- The search for what columns determine at a node: what is found is within what is determined, and at the end it is that.
-use Rattle.std.proofs.Common.{◌≡◌, ℕ, zero, suc, ◌+◌, ◌*◌, ◌-◌, ◌<◌, ◌≤◌, ◌==◌, nat_lt, nat_le, Bool, true, false, cond, ◌&&◌, inl, ◌⊎◌, ⊎_elim, List, [], ◌∷◌, refl, sym, ap, ◌∙◌, subst, arith, true≢false, Option, Some, None, slice_get}
+use Rattle.std.proofs.Common.{◌≡◌, ℕ, zero, suc, ◌+◌, ◌*◌, ◌-◌, ◌<◌, ◌≤◌, ◌==◌, nat_lt, nat_le, Bool, true, false, cond, ◌&&◌, inl, ◌⊎◌, ⊎_elim, List, [], ◌∷◌, refl, sym, ap, ◌∙◌, subst, arith, true≢false, map, Option, Some, None, slice_get}
 use Rattle.std.specs.Bool.{⊤}
 use Rattle.std.specs.List.{list_all}
 use Rattle.std.proofs.lemmas.Bool.Decides.{nat_tests}
@@ -7,12 +7,12 @@ use Rattle.vx_rows_values.specs.Order.{order_columns}
 use Rattle.vx_rows_values.specs.Limits.{max_columns}
 use Rattle.vx_rows_values.proofs.Booleans.{and-left, and-right, and-both}
 use Rattle.vx_catalog_relations.specs.Relation.{Relation}
-use Rattle.vx_plan_nodes.specs.Plan.{Claim, claim, number, Unary, select, project, distinct, sort, group, limit, plain, partial, final, union, join, semi_join, Plan, scan, unary, binary, exchange}
+use Rattle.vx_plan_nodes.specs.Plan.{Claim, claim, number, Entry, copy_of, made_by, Unary, select, project, distinct, sort, group, limit, plain, partial, final, union, join, semi_join, Plan, scan, unary, binary, exchange}
 use Rattle.vx_plan_nodes.specs.Phases.{phase_fits, both_closed}
 use Rattle.vx_plan_nodes.specs.Numbering.{nodes}
 use Rattle.vx_plan_nodes.specs.Types.{width, unary_width, part_columns, names_columns, well_formed}
-use Rattle.vx_plan_nodes.specs.Describe.{Copying, whole_rows, left_of, right_of, source, described}
-use Rattle.vx_plan_facts.specs.Naming.{names_within}
+use Rattle.vx_plan_nodes.specs.Describe.{Copying, whole_rows, entries_kept, kept_column, left_of, right_of, source, described}
+use Rattle.vx_plan_facts.specs.Naming.{names_within, entry_within}
 use Rattle.vx_catalog_relations.specs.Catalog.{all_below}
 use Rattle.vx_plan_facts.specs.Equal.{equal_at}
 use Rattle.vx_plan_facts.specs.Fixed.{fixed_at}
@@ -253,9 +253,15 @@ kept-reaches v [] h c x e = absurd (none-some x e)
 kept-reaches v (y ∷ ys) h zero x e = let s = some-same y x e in let l = below y v (and-left (nat_lt y v) (all_below v ys) h) in omega (arith, s, l)
 kept-reaches v (y ∷ ys) h (suc c) x e = kept-reaches v ys (and-right (nat_lt y v) (all_below v ys) h) c x e
 
+entries-reach : (v : ℕ) (es : List Entry) → list_all (entry_within v) es ≡ true → (c x : ℕ) → source (entries_kept (map kept_column es)) c ≡ Some x → x < v
+entries-reach v [] h c x e = absurd (none-some x e)
+entries-reach v (copy_of y ∷ es) h zero x e = let s = some-same y x e in let l = below y v (and-left (nat_lt y v) (list_all (entry_within v) es) h) in omega (arith, s, l)
+entries-reach v (made_by y ∷ es) h zero x e = absurd (none-some x e)
+entries-reach v (y ∷ es) h (suc c) x e = entries-reach v es (and-right (entry_within v y) (list_all (entry_within v) es) h) c x e
+
 unary-reaches : (v : ℕ) (op : Unary) → names_within v op ≡ true → Reaches (unary_width op v) (described op).copying v
-unary-reaches v (select cs) h = whole-reaches v
-unary-reaches v (project cols) h = λ c x l e. kept-reaches v cols h c x e
+unary-reaches v (select fs) h = whole-reaches v
+unary-reaches v (project es) h = λ c x l e. entries-reach v es h c x e
 unary-reaches v (distinct cols) h = λ c x l e. kept-reaches v cols h c x e
 unary-reaches v (sort of_parts cols) h = whole-reaches v
 unary-reaches v (group plain by aggregates) h = λ c x l e. kept-reaches v by h c x e

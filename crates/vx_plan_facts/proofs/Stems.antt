@@ -7,10 +7,12 @@ use Rattle.vx_rows_values.specs.Order.{compare_on, insert_sorted, sort_on}
 use Rattle.vx_rows_values.specs.Bags.{count}
 use Rattle.vx_rows_values.proofs.Booleans.{and-left, and-right, and-both}
 use Rattle.vx_rows_values.proofs.Compare.{row_eq-refl, row_eq-same}
-use Rattle.vx_plan_nodes.specs.Plan.{Plan, Condition, Unary, select, project, distinct, sort, group, limit, plain, partial, final, Binary, Aggregate}
-use Rattle.vx_plan_nodes.specs.Describe.{Copying, whole_rows, columns_kept, left_of, right_of, source, described}
-use Rattle.vx_plan_nodes.specs.Serial.{passes, firsts, matches, joined_with, join_rows, is_matched, matched_rows, aggregate_of, of_key, group_keys, group_row, group_fits, group_rows, unary_rows, binary_rows, SerialResult, rows, overflow, or_overflow, after, serial}
+use Rattle.vx_plan_nodes.specs.Plan.{Plan, Condition, Entry, Unary, select, project, distinct, sort, group, limit, plain, partial, final, Binary, Aggregate}
+use Rattle.vx_plan_nodes.specs.Describe.{Copying, whole_rows, columns_kept, entries_kept, kept_column, left_of, right_of, source, described}
+use Rattle.vx_plan_nodes.specs.Serial.{filters_hold, filters_fit, entries_row, entries_fit, firsts, matches, joined_with, join_rows, is_matched, matched_rows, aggregate_of, of_key, group_keys, group_row, group_fits, group_rows, unary_rows, binary_rows, SerialResult, rows, overflow, or_overflow, after, serial}
 use Rattle.vx_plan_facts.specs.DeterminedFacts.{occurs}
+use Rattle.vx_plan_facts.proofs.Columns.{entry-at}
+use Rattle.vx_plan_facts.proofs.Fitting.{where-fit-is}
 use Rattle.vx_plan_facts.proofs.Tests.{or-cases, or-left, or-right, all-more}
 
 -- ---- rows that occur
@@ -131,6 +133,10 @@ copy-itself w a c d l e = ap (λ k. value_at a k) (some-number c d e)
 pub copy-kept : (w : ℕ) (kept : List ℕ) (a x tail : Row) → a ≡ pick kept x ++ tail → IsCopyOf w (columns_kept kept) a x
 copy-kept w kept a x tail is c d l e = ap (λ r. value_at r c) is ∙ value-kept kept c d x tail e
 
+-- a row that a projection makes
+pub copy-entries : (w : ℕ) (es : List Entry) (a x : Row) → a ≡ entries_row es x → IsCopyOf w (entries_kept (map kept_column es)) a x
+copy-entries w es a x is c d l e = ap (λ r. value_at r c) is ∙ entry-at es x c d e
+
 -- a row of the list and the row of the input that it comes from
 abbrev pub Stem : ℕ → Copying → List Row → Row → Type 0
 Stem w k xs a = (x : Row) × (occurs x xs ≡ true) × IsCopyOf w k a x
@@ -165,12 +171,14 @@ group-stem w by aggregates xs ys e a o = go (list_all (group_fits by aggregates 
     go false g = cc
 
 pub unary-stem : (w : ℕ) (op : Unary) (xs ys : List Row) → unary_rows op xs ≡ Some ys → (a : Row) → occurs a ys ≡ true → Stem w (described op).copying xs a
-unary-stem w (select cs) xs ys e a o = whole-stem w (filter (passes cs)) (λ q l h. all-filter q (passes cs) l h) xs ys e a o
-unary-stem w (project cols) xs ys e a o =
-    let is : ys ≡ map (pick cols) xs = cc in
+unary-stem w (select fs) xs ys e a o =
+    whole-stem w (filter (filters_hold fs)) (λ q l h. all-filter q (filters_hold fs) l h) xs ys
+    (ap Some (where-fit-is (filters_fit fs) xs (filter (filters_hold fs) xs) ys e)) a o
+unary-stem w (project es) xs ys e a o =
+    let is : map (entries_row es) xs ≡ ys = where-fit-is (entries_fit es) xs (map (entries_row es) xs) ys e in
     let P : List Row → Type 0 = λ l. occurs a l ≡ true in
-    let stem = occurs-map (pick cols) a xs (subst P is o) in
-    (stem.0, stem.1, copy-kept w cols a stem.0 [] (stem.2 ∙ sym (append-nil (pick cols stem.0))))
+    let stem = occurs-map (entries_row es) a xs (subst P (sym is) o) in
+    (stem.0, stem.1, copy-entries w es a stem.0 stem.2)
 unary-stem w (distinct cols) xs ys e a o =
     let is : ys ≡ firsts (map (pick cols) xs) = cc in
     let P : List Row → Type 0 = λ l. occurs a l ≡ true in

@@ -1,7 +1,7 @@
 -- Columns that are equal in every row of a node: by conditions, by the pairs of joins, and as copies of equal columns. They are derived, never claimed.
 use Rattle.std.specs.Prelude.{ℕ, ◌+◌, ◌==◌, Bool, false, ◌&&◌, ◌||◌, List, [], ◌∷◌, Option, Some}
 use Rattle.vx_catalog_relations.specs.Relation.{Relation}
-use Rattle.vx_plan_nodes.specs.Plan.{column, equal, Test, Side, Condition, Unary, select, Binary, union, join, semi_join, Plan, scan, unary, binary, exchange}
+use Rattle.vx_plan_nodes.specs.Plan.{column, equal, Test, Side, Condition, Filter, comparing, computing, Unary, select, Binary, union, join, semi_join, Plan, scan, unary, binary, exchange}
 use Rattle.vx_plan_nodes.specs.Types.{width}
 use Rattle.vx_plan_nodes.specs.Describe.{Copying, source, left_of, right_of, described}
 
@@ -40,8 +40,14 @@ abbrev pub with_pairs : ℕ → List (ℕ × ℕ) → Equality → Equality
 with_pairs w [] e = e
 with_pairs w (p ∷ on) e = with_pair p.0 (w + p.1) (with_pairs w on e)
 
+-- the comparisons among the conditions of a select: what a function says shows nothing of columns
+abbrev pub comparisons : List Filter → List Condition
+comparisons [] = []
+comparisons (comparing c ∷ fs) = c ∷ comparisons fs
+comparisons (computing e ∷ fs) = comparisons fs
+
 abbrev pub unary_equal : Unary → Equality → Equality
-unary_equal (select cs) e = with_conditions cs e
+unary_equal (select fs) e = with_conditions (comparisons fs) e
 unary_equal op e = lifted (described op).copying e
 
 -- of two inputs, the left one w columns wide: rows side by side have what both have, joined rows what each has and the pairs, and kept left rows what the left

@@ -1,14 +1,14 @@
--- Columns that have one value in every row of a node: by conditions `column = value`, and as what is equal to such a column. They are derived, never claimed.
-use Rattle.std.specs.Prelude.{ℕ, ◌==◌, Bool, cond, List, [], ◌∷◌, ◌++◌, filter, flat_map, Option, Some, None}
+-- Columns that have one value in every row of a node: by conditions `column = value`, as constants of projections, and as what is equal to such a column. They are derived, never claimed.
+use Rattle.std.specs.Prelude.{ℕ, ◌==◌, Bool, cond, List, [], ◌∷◌, ◌++◌, map, filter, flat_map, slice_get, Option, Some, None}
 use Rattle.std.specs.List.{list_any}
 use Rattle.std.specs.Ordering.{is_eq}
 use Rattle.vx_rows_values.specs.Values.{Val, val_cmp}
 use Rattle.vx_catalog_relations.specs.Relation.{Relation}
-use Rattle.vx_plan_nodes.specs.Plan.{constant, equal, Test, Side, Condition, Unary, select, Binary, union, join, semi_join, Plan, scan, unary, binary, exchange}
+use Rattle.vx_plan_nodes.specs.Plan.{constant, equal, Test, Side, Condition, input, value, call, Entry, copy_of, made_by, Unary, select, project, Binary, union, join, semi_join, Plan, scan, unary, binary, exchange}
 use Rattle.vx_plan_nodes.specs.Phases.{first_columns}
 use Rattle.vx_plan_nodes.specs.Types.{width}
-use Rattle.vx_plan_nodes.specs.Describe.{Copying, source, left_of, right_of, described}
-use Rattle.vx_plan_facts.specs.Equal.{Equality, equal_at}
+use Rattle.vx_plan_nodes.specs.Describe.{Copying, entries_kept, kept_column, source, left_of, right_of, described}
+use Rattle.vx_plan_facts.specs.Equal.{Equality, comparisons, equal_at}
 
 -- the values that a column has in every row. One that has two stands where no row comes
 abbrev pub Values : Type 0
@@ -31,6 +31,18 @@ tested_value x test side c = []
 abbrev pub tested_values : List Condition → Values
 tested_values cs c = flat_map (λ d. tested_value d.left d.test d.right c) cs
 
+-- the value of an entry of a projection that is a value: a function's answers show none
+abbrev pub constant_value : Option Entry → List Val
+constant_value None = []
+constant_value (Some (copy_of c)) = []
+constant_value (Some (made_by (input c))) = []
+constant_value (Some (made_by (value v))) = v ∷ []
+constant_value (Some (made_by (call f t es))) = []
+
+-- those of the columns that these entries make
+abbrev pub constants : List Entry → Values
+constants es c = constant_value (slice_get es c)
+
 -- a column has the values of each of the first w columns that is equal to it
 abbrev pub shared_values : ℕ → Equality → Values → Values
 shared_values w e f c = flat_map (λ d. cond (e c d) (f d) []) (first_columns w)
@@ -41,7 +53,8 @@ has_value vs v = list_any (λ u. is_eq (val_cmp u v)) vs
 
 -- over an input of w columns, for these equal columns of the output
 abbrev pub unary_fixed : ℕ → Equality → Unary → Values → Values
-unary_fixed w e (select cs) f = shared_values w e (λ c. tested_values cs c ++ f c)
+unary_fixed w e (select fs) f = shared_values w e (λ c. tested_values (comparisons fs) c ++ f c)
+unary_fixed w e (project es) f = λ c. carried_values (entries_kept (map kept_column es)) f c ++ constants es c
 unary_fixed w e op f = carried_values (described op).copying f
 
 -- over a left input of v columns, for an output of w columns, of which these are equal

@@ -1,7 +1,7 @@
 -- Lists of columns with their values, as they are made.
 use Rattle.std.specs.Prelude.{ℕ, zero, suc, ◌-◌, ◌==◌, nat_lt, cond, List, [], ◌∷◌, ◌++◌, map, filter, flat_map, slice_index}
 use Rattle.vx_rows_values.specs.Values.{Val}
-use Rattle.vx_plan_nodes.specs.Plan.{Test, equal, Side, constant, Condition}
+use Rattle.vx_plan_nodes.specs.Plan.{Test, equal, Side, constant, Filter, comparing, computing}
 use Rattle.vx_plan_nodes.specs.Describe.{Copying, source}
 use Rattle.vx_plan_nodes.specs.Phases.{first_columns}
 use Rattle.vx_plan_facts.specs.Fixed.{Values, values_at, has_value}
@@ -28,8 +28,12 @@ abbrev pub named_value : ℕ → Test → Side → List (ℕ × Val)
 named_value x equal (constant v) = (x, v) ∷ []
 named_value x test side = []
 
-abbrev pub named_values : List Condition → List (ℕ × Val)
-named_values cs = flat_map (λ d. named_value d.left d.test d.right) cs
+abbrev pub named_by : Filter → List (ℕ × Val)
+named_by (comparing c) = named_value c.left c.test c.right
+named_by (computing e) = []
+
+abbrev pub named_values : List Filter → List (ℕ × Val)
+named_values fs = flat_map named_by fs
 
 -- all values of the class of each column, beside its first one
 abbrev pub shared : List ℕ → List (ℕ × Val) → ℕ → List (ℕ × Val)

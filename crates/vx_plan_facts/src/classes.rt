@@ -1,16 +1,16 @@
 //! Classes of equal columns, each by its first column, and how conditions and pairs put two of them together.
 
-ghost use Rattle.std.specs.Prelude.{◌≡◌, ◌<◌, ◌+◌, ◌==◌, true, map, length, IfOk};
+ghost use Rattle.std.specs.Prelude.{◌≡◌, ◌<◌, ◌+◌, ◌==◌, true, [], ◌∷◌, map, length, IfOk};
 ghost use Rattle.std.specs.List.{list_all};
-ghost use Rattle.vx_plan_nodes.specs.Outline.{condition_of};
+ghost use Rattle.vx_plan_nodes.specs.Outline.{condition_of, filter_of};
 ghost use Rattle.vx_plan_nodes.specs.Phases.{first_columns};
-ghost use Rattle.vx_plan_facts.specs.Equal.{Equality, with_pair, with_test, with_conditions, with_pairs};
+ghost use Rattle.vx_plan_facts.specs.Equal.{Equality, with_pair, with_test, with_conditions, with_pairs, comparisons};
 ghost use Rattle.vx_plan_facts.specs.Facts.{NamesFirsts, Tells};
 ghost use Rattle.vx_plan_facts.specs.Labels.{AreReplaced};
-ghost use Rattle.vx_plan_facts.specs.Naming.{condition_within, pair_within};
+ghost use Rattle.vx_plan_facts.specs.Naming.{condition_within, filter_within, pair_within};
 
 use std::alloc::{AllocError, Global};
-use vx_plan_nodes::{Condition, Side};
+use vx_plan_nodes::{Condition, Filter, Side};
 use vx_rows_values::Test;
 
 /// Each of so many columns in a class of its own.
@@ -68,16 +68,29 @@ fn merge_tested(firsts: &mut Vec<usize>, condition: &Condition)
     }
 }
 
-/// Puts the classes of columns together that conditions say are equal.
-pub fn merge_conditions(firsts: &mut Vec<usize>, conditions: &[Condition])
+// Puts the classes of two columns together that a comparison says are equal.
+fn merge_filter(firsts: &mut Vec<usize>, filter: &Filter)
     requires named { NamesFirsts firsts.old.items }
-    requires within { list_all (condition_within (length firsts.old.items)) (map condition_of conditions.now) ≡ true }
+    requires within { filter_within (length firsts.old.items) (filter_of filter.now) ≡ true }
     ensures wide { length firsts.new.items ≡ length firsts.old.items }
     ensures named { NamesFirsts firsts.new.items }
-    ensures equal { (e : Equality) → Tells e firsts.old.items → Tells (with_conditions (map condition_of conditions.now) e) firsts.new.items }
+    ensures equal { (e : Equality) → Tells e firsts.old.items → Tells (with_conditions (comparisons (filter_of filter.now ∷ [])) e) firsts.new.items }
 {
-    for done in 0..conditions.len() {
-        merge_tested(firsts, &conditions[conditions.len() - 1 - done]);
+    if let Filter::Compared(condition) = filter {
+        merge_tested(firsts, condition);
+    }
+}
+
+/// Puts the classes of columns together that comparisons say are equal.
+pub fn merge_conditions(firsts: &mut Vec<usize>, filters: &[Filter])
+    requires named { NamesFirsts firsts.old.items }
+    requires within { list_all (filter_within (length firsts.old.items)) (map filter_of filters.now) ≡ true }
+    ensures wide { length firsts.new.items ≡ length firsts.old.items }
+    ensures named { NamesFirsts firsts.new.items }
+    ensures equal { (e : Equality) → Tells e firsts.old.items → Tells (with_conditions (comparisons (map filter_of filters.now)) e) firsts.new.items }
+{
+    for done in 0..filters.len() {
+        merge_filter(firsts, &filters[filters.len() - 1 - done]);
     }
 }
 

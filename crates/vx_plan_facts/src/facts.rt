@@ -17,7 +17,7 @@ use vx_rows_values::Value;
 #[derive(Clone, Copy)]
 pub struct FixedColumn<'p> {
     pub column: usize,
-    /// The value, which a condition of the plan has.
+    /// The value, which a comparison or a projection of the plan has.
     pub value: &'p Value,
 }
 
@@ -93,7 +93,7 @@ impl<'p> ColumnFacts<'p> {
         is_among(self.fixed.as_slice(), self.firsts[column], value)
     }
 
-    /// The values of a column, each once, in the order in which conditions name them.
+    /// The values of a column, each once, in the order in which the plan names them.
     pub fn values(&self, alloc: Global, column: usize) -> Result<Vec<&'p Value>, AllocError>
         requires { column < width_of self.now }
         ensures kept { IfOk result (λ v. map (λ u. val_of u.now) v.items ≡ values_of (facts_of self.now) column) }

@@ -1,5 +1,5 @@
-//! What the checker knows of columns: which are equal, which have one value, and what some of them determine. It follows from the conditions, joins and keys
-//! of a plan, and is never claimed.
+//! What the checker knows of columns: which are equal, which have one value, and what some of them determine. It follows from the comparisons, joins,
+//! constants and keys of a plan, and is never claimed.
 #![tactic(auto)]
 
 mod answers;
@@ -19,6 +19,7 @@ mod labels;
 mod laws;
 mod numbered;
 mod operators;
+mod projecting;
 mod sharing;
 mod values;
 

@@ -11,6 +11,7 @@ use crate::carrying::{carried, united};
 use crate::classes::each_itself;
 use crate::facts::ColumnFacts;
 use crate::joining::joined;
+use crate::projecting::projected;
 use crate::sharing::selected;
 use std::alloc::{AllocError, Global};
 use vx_plan_nodes::{Binary, Unary};
@@ -36,8 +37,9 @@ pub fn after_unary<'p>(
 {
     let copying = operator.described().copying;
     match operator {
-        Unary::Select(conditions) => selected(alloc, conditions.as_slice(), below),
-        Unary::Project(kept) | Unary::Distinct(kept) => carried(alloc, copying, kept.len(), below),
+        Unary::Select(filters) => selected(alloc, filters.as_slice(), below),
+        Unary::Project(entries) => projected(alloc, entries.as_slice(), below),
+        Unary::Distinct(kept) => carried(alloc, copying, kept.len(), below),
         Unary::Sort(_, _) | Unary::Limit(_) => below.copy(alloc),
         Unary::Group(_, by, aggregates) => {
             carried(alloc, copying, by.len() + aggregates.len(), below)

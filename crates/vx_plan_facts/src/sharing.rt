@@ -3,17 +3,17 @@
 ghost use Rattle.std.specs.Prelude.{◌≡◌, ◌++◌, true, map, length, IfOk, OnOk};
 ghost use Rattle.std.specs.List.{list_all};
 ghost use Rattle.vx_plan_nodes.specs.Plan.{select};
-ghost use Rattle.vx_plan_nodes.specs.Outline.{condition_of};
+ghost use Rattle.vx_plan_nodes.specs.Outline.{filter_of};
 ghost use Rattle.vx_plan_facts.specs.Facts.{values_of, AreAfter};
 ghost use Rattle.vx_plan_facts.specs.FactsView.{fixed_of, facts_of, width_of};
-ghost use Rattle.vx_plan_facts.specs.Naming.{condition_within};
+ghost use Rattle.vx_plan_facts.specs.Naming.{filter_within};
 ghost use Rattle.vx_plan_facts.specs.Listing.{listed, shared};
 
 use crate::classes::merge_conditions;
 use crate::facts::{ColumnFacts, FixedColumn};
 use crate::values::{add_values, named_values, put_column};
 use std::alloc::{AllocError, Global};
-use vx_plan_nodes::Condition;
+use vx_plan_nodes::Filter;
 
 /// The values of all columns of each class, beside its first column, each once. These are those of each column.
 pub fn shared<'p>(
@@ -43,15 +43,15 @@ fn put_all<'p>(fixed: &mut Vec<FixedColumn<'p>>, below: &ColumnFacts<'p>) -> Res
 /// The columns of a selection.
 pub fn selected<'p>(
     alloc: Global,
-    conditions: &'p [Condition],
+    filters: &'p [Filter],
     below: &ColumnFacts<'p>,
 ) -> Result<ColumnFacts<'p>, AllocError>
-    requires { list_all (condition_within (width_of below.now)) (map condition_of conditions.now) ≡ true }
-    ensures { IfOk result (λ k. AreAfter (select (map condition_of conditions.now)) (facts_of below.now) (facts_of k)) }
+    requires { list_all (filter_within (width_of below.now)) (map filter_of filters.now) ≡ true }
+    ensures { IfOk result (λ k. AreAfter (select (map filter_of filters.now)) (facts_of below.now) (facts_of k)) }
 {
     let mut firsts = Vec::from_slice(alloc, below.firsts.as_slice())?;
-    merge_conditions(&mut firsts, conditions);
-    let mut given = named_values(alloc, conditions)?;
+    merge_conditions(&mut firsts, filters);
+    let mut given = named_values(alloc, filters)?;
     put_all(&mut given, below)?;
     let fixed = shared(alloc, firsts.as_slice(), given.as_slice())?;
     Ok(ColumnFacts { firsts, fixed })

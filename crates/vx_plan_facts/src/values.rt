@@ -5,15 +5,15 @@ ghost use Rattle.std.specs.Ordering.{is_eq};
 ghost use Rattle.vx_rows_values.specs.Values.{val_cmp};
 ghost use Rattle.vx_rows_values.specs.Lists.{is_some_list};
 ghost use Rattle.vx_rows_values.specs.ValueView.{val_of};
-ghost use Rattle.vx_plan_nodes.specs.Outline.{condition_of};
+ghost use Rattle.vx_plan_nodes.specs.Outline.{condition_of, filter_of};
 ghost use Rattle.vx_plan_facts.specs.Fixed.{has_value};
 ghost use Rattle.vx_plan_facts.specs.Facts.{values_in, values_of};
 ghost use Rattle.vx_plan_facts.specs.FactsView.{fixed_of, facts_of, width_of};
-ghost use Rattle.vx_plan_facts.specs.Listing.{beside, common, with_fixed, with_all, named_value, named_values};
+ghost use Rattle.vx_plan_facts.specs.Listing.{beside, common, with_fixed, with_all, named_value, named_by, named_values};
 
 use crate::facts::{ColumnFacts, FixedColumn};
 use std::alloc::{AllocError, Global};
-use vx_plan_nodes::{Condition, Side};
+use vx_plan_nodes::{Condition, Filter, Side};
 use vx_rows_values::{Test, Value, compare_cells};
 
 fn are_same(value: &Value, other: &Value) -> bool
@@ -174,16 +174,26 @@ fn put_named<'p>(
     Ok(())
 }
 
-/// The values that conditions say columns have.
+// Puts the value behind the others that a comparison names.
+fn put_named_by<'p>(fixed: &mut Vec<FixedColumn<'p>>, filter: &'p Filter) -> Result<(), AllocError>
+    ensures { OnOk result (map fixed_of fixed.new.items ≡ map fixed_of fixed.old.items ++ named_by (filter_of filter.now)) }
+{
+    match filter {
+        Filter::Compared(condition) => put_named(fixed, condition),
+        Filter::Computed(_) => Ok(()),
+    }
+}
+
+/// The values that comparisons say columns have.
 pub fn named_values<'p>(
     alloc: Global,
-    conditions: &'p [Condition],
+    filters: &'p [Filter],
 ) -> Result<Vec<FixedColumn<'p>>, AllocError>
-    ensures { IfOk result (λ v. map fixed_of v.items ≡ named_values (map condition_of conditions.now)) }
+    ensures { IfOk result (λ v. map fixed_of v.items ≡ named_values (map filter_of filters.now)) }
 {
     let mut fixed = Vec::new(alloc);
-    for condition in conditions {
-        put_named(&mut fixed, condition)?;
+    for filter in filters {
+        put_named_by(&mut fixed, filter)?;
     }
     Ok(fixed)
 }

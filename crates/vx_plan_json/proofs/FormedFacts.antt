@@ -1,5 +1,7 @@
 -- What is read has the form.
-use Rattle.std.proofs.Common.{◌≡◌, ℕ, List, [], ◌∷◌, Bool, true, false, cond, ◌&&◌, Option, Some, None, option_map, option_and_then, codes, bytes_eq, refl}
+use Rattle.std.proofs.Common.{◌≡◌, ℕ, zero, suc, ◌≤◌, List, [], ◌∷◌, Bool, true, false, cond, ◌&&◌, Option, Some, None, option_map, option_and_then, codes, bytes_eq, refl, ap, nat_le, arith}
+use Rattle.std.proofs.lemmas.Bool.Decides.{nat_tests}
+use Rattle.std.proofs.Math.Nat.{max-le}
 use Rattle.std.specs.List.{list_all}
 use Rattle.serde_json.specs.Data.{Data}
 use Rattle.serde_json.specs.Find.{get, as_str, as_number, as_i64}
@@ -8,10 +10,11 @@ use Rattle.vx_rows_values.specs.Types.{is_held}
 use Rattle.vx_catalog_json.specs.Look.{as_list, has_only, some_entry, name_in, each_onto, OrderText, flag_in, directed_in, order_entry_by, order_entry_in}
 use Rattle.vx_plan_json.specs.Look.{name_at, text_at, value_or, if_held, value_in, each_in, some_in, or_default}
 use Rattle.vx_rows_values.specs.Lists.{is_some_list}
-use Rattle.vx_plan_json.specs.Document.{one, any, all, hash_part, range_part, column, constant, least, greatest, sum, count_rows}
-use Rattle.vx_plan_json.specs.Form.{names_in, some_names_in, order_in, some_order_in, part_named, hash_part_in, range_part_in, part_by, part_in, keys_in, claim_in, claimed, test_named, side_in, condition_in, renamed_in, output_by, output_in, function_named, function_at, aggregate_in, as_pair, pair_in}
-use Rattle.vx_plan_json.specs.Formed.{are_names, are_some_names, is_order_entry, is_order, is_some_order, is_part_form, is_claim_form, is_side_form, is_condition_form, is_output_form, is_function_form, is_aggregate_form, is_pair_form}
-use Rattle.vx_plan_json.proofs.Holds.{and-both, Within, within_then, within_any, within_map, within_if, within_each, within_some}
+use Rattle.vx_rows_values.specs.declared.value.ColType.TheVariants.{Int}
+use Rattle.vx_plan_json.specs.Document.{one, any, all, hash_part, range_part, column, constant, OperandForm, operand_column, operand_value, operand_call, operands_from, computed, compared, kept, made, EntryForm, least, greatest, sum, count_rows}
+use Rattle.vx_plan_json.specs.Form.{names_in, some_names_in, order_in, some_order_in, part_named, hash_part_in, range_part_in, part_by, part_in, keys_in, claim_in, claimed, test_named, side_in, condition_in, renamed_in, output_by, output_in, type_named, constant_in, call_in, object_in, operand_by, operand_in, operands_in, answer_in, filter_in, named_entry, projected_in, function_named, function_at, aggregate_in, as_pair, pair_in}
+use Rattle.vx_plan_json.specs.Formed.{are_names, are_some_names, is_order_entry, is_order, is_some_order, is_part_form, is_claim_form, is_side_form, is_condition_form, is_output_form, is_operand_form, are_operand_forms, is_made, is_filter_form, is_entry_form, operand_levels, operands_levels, is_filter_low, is_entry_low, is_function_form, is_aggregate_form, is_pair_form}
+use Rattle.vx_plan_json.proofs.Holds.{and-left, and-right, and-both, Within, within_then, within_any, within_map, within_weaker, within_both, within_if, within_each, within_some}
 
 entry_some : {X : Type 0} (xs : List X) → Within is_some_list (some_entry xs)
 entry_some [] = tt
@@ -170,6 +173,174 @@ output_by-within (Some s) d =
 pub output-within : (d : Data) → Within is_output_form (output_in d)
 unfolding output_in
 output-within d = output_by-within (as_str d) d
+
+-- ---- functions of columns and values
+
+forms-from : (os : List OperandForm) → list_all is_operand_form os ≡ true → are_operand_forms (operands_from os) ≡ true
+forms-from [] h = refl
+forms-from (o ∷ os) h =
+    and-both (is_operand_form o) (are_operand_forms (operands_from os)) (and-left (is_operand_form o) (list_all is_operand_form os) h) (forms-from os (and-right (is_operand_form o) (list_all is_operand_form os) h))
+
+-- what is computed has the form, and is no column as it is
+abbrev is_object : OperandForm → Bool
+is_object o = is_made o && is_operand_form o
+
+constant-within : (d : Data) → Within is_object (constant_in d)
+unfolding constant_in
+constant-within d = within_map is_held is_object operand_value (option_and_then value_in (get (codes "value") d)) (within_any is_held value_in (get (codes "value") d) value_held) (λ v h. h)
+
+call-within : (f : Data → Option (List OperandForm)) → ((e : Data) → Within (list_all is_operand_form) (f e)) → (d : Data) → Within is_object (call_in f d)
+unfolding call_in
+call-within f k d =
+    within_then is_some_list is_object
+    (λ n. option_and_then (λ os. option_and_then (λ t. Some (operand_call n t (operands_from os))) (option_and_then type_named (text_at (codes "type") d))) (option_and_then f (get (codes "of") d)))
+    (name_at (codes "fn") d) (name_at-some (codes "fn") d)
+    (λ n h. within_then (list_all is_operand_form) is_object (λ os. option_and_then (λ t. Some (operand_call n t (operands_from os))) (option_and_then type_named (text_at (codes "type") d))) (option_and_then f (get (codes "of") d))
+    (within_any (list_all is_operand_form) f (get (codes "of") d) k)
+    (λ os w. within_any is_object (λ t. Some (operand_call n t (operands_from os))) (option_and_then type_named (text_at (codes "type") d))
+    (λ t. and-both (is_some_list n) (are_operand_forms (operands_from os)) h (forms-from os w))))
+
+operand_by-within : (f : Data → Option (List OperandForm)) → ((e : Data) → Within (list_all is_operand_form) (f e)) → (o : Option (List ℕ)) (d : Data) → Within is_operand_form (operand_by f o d)
+operand_by-within f k None d =
+    within_weaker is_object is_operand_form (λ o h. and-right (is_made o) (is_operand_form o) h) (object_in f d)
+    (within_if is_object (has_only (codes "value" ∷ []) d) (constant_in d) _ (constant-within d)
+    (within_if is_object (has_only (codes "fn" ∷ codes "of" ∷ codes "type" ∷ []) d) (call_in f d) None (call-within f k d) tt))
+operand_by-within f k (Some s) d = within_map is_some_list is_operand_form operand_column (name_in d) (name_some d) (λ n h. h)
+
+operand-within : (levels : ℕ) (d : Data) → Within is_operand_form (operand_in levels d)
+unfolding operand_in
+operand-within zero d = within_map is_some_list is_operand_form operand_column (name_in d) (name_some d) (λ n h. h)
+operand-within (suc zero) d = operand_by-within (λ e. None) (λ e. tt) (as_str d) d
+operand-within (suc (suc levels)) d = operand_by-within (each_in (operand_in levels)) (each_within is_operand_form (operand_in levels) (operand-within levels)) (as_str d) d
+
+operands-within : (levels : ℕ) (d : Data) → Within (list_all is_operand_form) (operands_in levels d)
+operands-within zero d = tt
+operands-within (suc levels) d = each_within is_operand_form (operand_in levels) (operand-within levels) d
+
+answer-within : (levels : ℕ) (d : Data) → Within is_filter_form (answer_in levels d)
+unfolding answer_in
+answer-within levels d =
+    within_then is_some_list is_filter_form (λ n. option_and_then (λ os. Some (computed (operand_call n Int (operands_from os)))) (option_and_then (operands_in levels) (get (codes "of") d)))
+    (name_at (codes "fn") d) (name_at-some (codes "fn") d)
+    (λ n h. within_then (list_all is_operand_form) is_filter_form (λ os. Some (computed (operand_call n Int (operands_from os)))) (option_and_then (operands_in levels) (get (codes "of") d))
+    (within_any (list_all is_operand_form) (operands_in levels) (get (codes "of") d) (operands-within levels))
+    (λ os w. and-both (is_some_list n) (are_operand_forms (operands_from os)) h (forms-from os w)))
+
+filter-form : (levels : ℕ) (d : Data) → Within is_filter_form (filter_in levels d)
+unfolding filter_in
+filter-form levels d =
+    within_if is_filter_form (has_only (codes "fn" ∷ codes "of" ∷ []) d) (answer_in levels d) _ (answer-within levels d)
+    (within_map is_condition_form is_filter_form compared (condition_in d) (condition-within d) (λ c h. h))
+
+named-within : (form : Option OperandForm) (d : Data) → Within is_object form → Within is_entry_form (named_entry form d)
+named-within form d w =
+    within_then is_object is_entry_form (λ o. option_and_then (λ n. Some (made o n)) (name_at (codes "as") d)) form w
+    (λ o h. within_then is_some_list is_entry_form (λ n. Some (made o n)) (name_at (codes "as") d) (name_at-some (codes "as") d)
+    (λ n k. and-both (is_made o) (is_operand_form o && is_some_list n) (and-left (is_made o) (is_operand_form o) h) (and-both (is_operand_form o) (is_some_list n) (and-right (is_made o) (is_operand_form o) h) k)))
+
+entry-form : (levels : ℕ) (d : Data) → Within is_entry_form (projected_in levels d)
+unfolding projected_in
+entry-form levels d =
+    within_if is_entry_form (has_only (codes "value" ∷ codes "as" ∷ []) d) (named_entry (constant_in d) d) _ (named-within (constant_in d) d (constant-within d))
+    (within_if is_entry_form (has_only (codes "fn" ∷ codes "of" ∷ codes "type" ∷ codes "as" ∷ []) d) (named_entry (call_in (operands_in levels) d) d) _
+    (named-within (call_in (operands_in levels) d) d (call-within (operands_in levels) (operands-within levels) d))
+    (within_map is_output_form is_entry_form kept (output_in d) (output-within d) (λ o h. h)))
+
+-- ---- levels of JSON
+
+test-le : (m n : ℕ) → nat_le m n ≡ true → m ≤ n
+test-le m n h = grind (arith, nat_tests, h)
+
+le-test : (m n : ℕ) → m ≤ n → nat_le m n ≡ true
+le-test m n h = grind (arith, nat_tests, h)
+
+abbrev is_low : ℕ → OperandForm → Bool
+is_low levels o = nat_le (operand_levels o) levels
+
+-- operands in a list of so many levels
+abbrev are_low : ℕ → List OperandForm → Bool
+are_low levels os = nat_le (suc (operands_levels (operands_from os))) levels
+
+levels-from : (levels : ℕ) (os : List OperandForm) → list_all (is_low levels) os ≡ true → operands_levels (operands_from os) ≤ levels
+levels-from levels [] h = omega arith
+levels-from levels (o ∷ os) h = max-le (test-le (operand_levels o) levels (and-left (is_low levels o) (list_all (is_low levels) os) h)) (levels-from levels os (and-right (is_low levels o) (list_all (is_low levels) os) h))
+
+each-low : (levels : ℕ) (os : List OperandForm) → list_all (is_low levels) os ≡ true → are_low (suc levels) os ≡ true
+each-low levels os h = let l = levels-from levels os h in le-test (suc (operands_levels (operands_from os))) (suc levels) (omega (arith, l))
+
+constant-low : (levels : ℕ) (d : Data) → Within (is_low (suc levels)) (constant_in d)
+unfolding constant_in
+constant-low levels d =
+    within_map is_held (is_low (suc levels)) operand_value (option_and_then value_in (get (codes "value") d)) (within_any is_held value_in (get (codes "value") d) value_held) (λ v h. le-test 1 (suc levels) (omega arith))
+
+call_levels : (levels : ℕ) (os : List OperandForm) → are_low levels os ≡ true → nat_le (suc (suc (operands_levels (operands_from os)))) (suc levels) ≡ true
+call_levels levels os h = let l = test-le (suc (operands_levels (operands_from os))) levels h in le-test (suc (suc (operands_levels (operands_from os)))) (suc levels) (omega (arith, l))
+
+call-low : (levels : ℕ) (f : Data → Option (List OperandForm)) → ((e : Data) → Within (are_low levels) (f e)) → (d : Data) → Within (is_low (suc levels)) (call_in f d)
+unfolding call_in
+call-low levels f k d =
+    within_any (is_low (suc levels))
+    (λ n. option_and_then (λ os. option_and_then (λ t. Some (operand_call n t (operands_from os))) (option_and_then type_named (text_at (codes "type") d))) (option_and_then f (get (codes "of") d)))
+    (name_at (codes "fn") d)
+    (λ n. within_then (are_low levels) (is_low (suc levels)) (λ os. option_and_then (λ t. Some (operand_call n t (operands_from os))) (option_and_then type_named (text_at (codes "type") d))) (option_and_then f (get (codes "of") d))
+    (within_any (are_low levels) f (get (codes "of") d) k)
+    (λ os w. within_any (is_low (suc levels)) (λ t. Some (operand_call n t (operands_from os))) (option_and_then type_named (text_at (codes "type") d)) (λ t. call_levels levels os w)))
+
+column-low : (levels : ℕ) (d : Data) → Within (is_low levels) (option_map operand_column (name_in d))
+column-low levels d = within_map is_some_list (is_low levels) operand_column (name_in d) (name_some d) (λ n h. le-test 0 levels (omega arith))
+
+operand_by-low : (levels : ℕ) (f : Data → Option (List OperandForm)) → ((e : Data) → Within (are_low levels) (f e)) → (o : Option (List ℕ)) (d : Data) → Within (is_low (suc levels)) (operand_by f o d)
+operand_by-low levels f k None d =
+    within_if (is_low (suc levels)) (has_only (codes "value" ∷ []) d) (constant_in d) _ (constant-low levels d)
+    (within_if (is_low (suc levels)) (has_only (codes "fn" ∷ codes "of" ∷ codes "type" ∷ []) d) (call_in f d) None (call-low levels f k d) tt)
+operand_by-low levels f k (Some s) d = column-low (suc levels) d
+
+operand-low : (levels : ℕ) (d : Data) → Within (is_low levels) (operand_in levels d)
+unfolding operand_in
+operand-low zero d = column-low zero d
+operand-low (suc zero) d = operand_by-low zero (λ e. None) (λ e. tt) (as_str d) d
+operand-low (suc (suc levels)) d =
+    operand_by-low (suc levels) (each_in (operand_in levels))
+    (λ e. within_weaker (list_all (is_low levels)) (are_low (suc levels)) (each-low levels) (each_in (operand_in levels) e) (each_within (is_low levels) (operand_in levels) (operand-low levels) e)) (as_str d) d
+
+operands-low : (levels : ℕ) (d : Data) → Within (are_low levels) (operands_in levels d)
+operands-low zero d = tt
+operands-low (suc levels) d = within_weaker (list_all (is_low levels)) (are_low (suc levels)) (each-low levels) (each_in (operand_in levels) d) (each_within (is_low levels) (operand_in levels) (operand-low levels) d)
+
+answer-low : (levels : ℕ) (d : Data) → Within (is_filter_low levels) (answer_in levels d)
+unfolding answer_in
+answer-low levels d =
+    within_any (is_filter_low levels) (λ n. option_and_then (λ os. Some (computed (operand_call n Int (operands_from os)))) (option_and_then (operands_in levels) (get (codes "of") d))) (name_at (codes "fn") d)
+    (λ n. within_then (are_low levels) (is_filter_low levels) (λ os. Some (computed (operand_call n Int (operands_from os)))) (option_and_then (operands_in levels) (get (codes "of") d))
+    (within_any (are_low levels) (operands_in levels) (get (codes "of") d) (operands-low levels)) (λ os w. call_levels levels os w))
+
+filter-low : (levels : ℕ) (d : Data) → Within (is_filter_low levels) (filter_in levels d)
+unfolding filter_in
+filter-low levels d =
+    within_if (is_filter_low levels) (has_only (codes "fn" ∷ codes "of" ∷ []) d) (answer_in levels d) _ (answer-low levels d)
+    (within_map is_condition_form (is_filter_low levels) compared (condition_in d) (condition-within d) (λ c h. refl))
+
+named-low : (levels : ℕ) (form : Option OperandForm) (d : Data) → Within (is_low (suc levels)) form → Within (is_entry_low levels) (named_entry form d)
+named-low levels form d w =
+    within_then (is_low (suc levels)) (is_entry_low levels) (λ o. option_and_then (λ n. Some (made o n)) (name_at (codes "as") d)) form w
+    (λ o h. within_any (is_entry_low levels) (λ n. Some (made o n)) (name_at (codes "as") d) (λ n. h))
+
+entry-low : (levels : ℕ) (d : Data) → Within (is_entry_low levels) (projected_in levels d)
+unfolding projected_in
+entry-low levels d =
+    within_if (is_entry_low levels) (has_only (codes "value" ∷ codes "as" ∷ []) d) (named_entry (constant_in d) d) _ (named-low levels (constant_in d) d (constant-low levels d))
+    (within_if (is_entry_low levels) (has_only (codes "fn" ∷ codes "of" ∷ codes "type" ∷ codes "as" ∷ []) d) (named_entry (call_in (operands_in levels) d) d) _
+    (named-low levels (call_in (operands_in levels) d) d (call-low levels (operands_in levels) (operands-low levels) d))
+    (within_map is_output_form (is_entry_low levels) kept (output_in d) (output-within d) (λ o h. refl)))
+
+-- a condition of a select, and a column of a projection
+pub filter-within : (levels : ℕ) (d : Data) → Within (λ f. is_filter_low levels f && is_filter_form f) (filter_in levels d)
+filter-within levels d = within_both (is_filter_low levels) is_filter_form (filter_in levels d) (filter-low levels d) (filter-form levels d)
+
+pub projected-within : (levels : ℕ) (d : Data) → Within (λ e. is_entry_low levels e && is_entry_form e) (projected_in levels d)
+projected-within levels d = within_both (is_entry_low levels) is_entry_form (projected_in levels d) (entry-low levels d) (entry-form levels d)
+
+-- ---- aggregates and pairs
 
 function_named-within : (s : List ℕ) (c : Name) → is_some_list c ≡ true → Within is_function_form (function_named s c)
 function_named-within s c h = within_if is_function_form (bytes_eq s (codes "min")) (Some (least c)) _ h

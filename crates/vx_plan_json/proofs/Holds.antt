@@ -24,9 +24,28 @@ pub within_map : {A B : Type 0} (q : A → Bool) (p : B → Bool) (f : A → B) 
 within_map q p f None h k = tt
 within_map q p f (Some x) h k = k x h
 
+pub within_weaker : {A : Type 0} (q p : A → Bool) → ((x : A) → q x ≡ true → p x ≡ true) → (o : Option A) → Within q o → Within p o
+within_weaker q p k None h = tt
+within_weaker q p k (Some x) h = k x h
+
+-- any two tests that both hold
+pub within_both : {A : Type 0} (q p : A → Bool) (o : Option A) → Within q o → Within p o → Within (λ x. q x && p x) o
+within_both q p None h k = tt
+within_both q p (Some x) h k = and-both (q x) (p x) h k
+
 pub within_if : {A : Type 0} (p : A → Bool) (b : Bool) (o u : Option A) → Within p o → Within p u → Within p (cond b o u)
 within_if p true o u h k = h
 within_if p false o u h k = k
+
+pub all_left : {A : Type 0} (p q : A → Bool) (xs : List A) → list_all (λ x. p x && q x) xs ≡ true → list_all p xs ≡ true
+all_left p q [] h = refl
+all_left p q (x ∷ xs) h =
+    and-both (p x) (list_all p xs) (and-left (p x) (q x) (and-left (p x && q x) (list_all (λ x. p x && q x) xs) h)) (all_left p q xs (and-right (p x && q x) (list_all (λ x. p x && q x) xs) h))
+
+pub all_right : {A : Type 0} (p q : A → Bool) (xs : List A) → list_all (λ x. p x && q x) xs ≡ true → list_all q xs ≡ true
+all_right p q [] h = refl
+all_right p q (x ∷ xs) h =
+    and-both (q x) (list_all q xs) (and-right (p x) (q x) (and-left (p x && q x) (list_all (λ x. p x && q x) xs) h)) (all_right p q xs (and-right (p x && q x) (list_all (λ x. p x && q x) xs) h))
 
 pub all_push : {A : Type 0} (p : A → Bool) (xs : List A) (x : A) → list_all p xs ≡ true → p x ≡ true → list_all p (xs ++ x ∷ []) ≡ true
 all_push p [] x h k = and-both (p x) true k refl

@@ -5,7 +5,7 @@ use Rattle.vx_plan_json.specs.Fault.{Refusal, too_deep, ◌>>=◌}
 use Rattle.vx_plan_json.specs.Document.{Tree, unary, binary, exchange}
 use Rattle.vx_plan_json.specs.Operators.{OwnForm, own_scan, own_unary, own_binary, own_exchange, own_in, own_claim, if_few_keys, own_under}
 use Rattle.vx_plan_json.specs.Reading.{node_in, with_inputs}
-use Rattle.vx_plan_json.specs.Formed.{has_few_keys, are_keys_few}
+use Rattle.vx_plan_json.specs.Formed.{has_few_keys, are_keys_few, levels_left}
 use Rattle.vx_plan_json.proofs.Holds.{and-both, Within, within_any, Holds, holds_then}
 
 abbrev has_few : Bool → OwnForm → Bool
@@ -18,9 +18,9 @@ if-few derives own = go (has_few derives own) refl
     go true h = h
     go false h = tt
 
-under-few : (derives : Bool) (d : Data) → Within (has_few derives) (own_under derives d)
+under-few : (derives : Bool) (levels : ℕ) (d : Data) → Within (has_few derives) (own_under derives levels d)
 unfolding own_under
-under-few derives d = within_any (has_few derives) (if_few_keys derives) (own_in d) (if-few derives)
+under-few derives levels d = within_any (has_few derives) (if_few_keys derives) (own_in levels d) (if-few derives)
 
 abbrev AreFew : Bool → Tree × ℕ → Type 0
 AreFew derives r = are_keys_few derives r.0 ≡ true
@@ -49,4 +49,5 @@ pub node-few : (derives : Bool) (levels seen : ℕ) (path : List ℕ) (d : Data)
 unfolding node_in
 node-few derives zero seen path d = tt
 node-few derives (suc levels) seen path d =
-    few_if derives (ltb seen 1000) (with_inputs (node_in derives levels) seen path (own_under derives d)) (inputs-few derives (node_in derives levels) (node-few derives levels) seen path (own_under derives d) (under-few derives d))
+    few_if derives (ltb seen 1000) (with_inputs (node_in derives levels) seen path (own_under derives (levels_left levels) d))
+    (inputs-few derives (node_in derives levels) (node-few derives levels) seen path (own_under derives (levels_left levels) d) (under-few derives (levels_left levels) d))

@@ -5,6 +5,7 @@ use Rattle.serde_json.specs.Data.{Data}
 use Rattle.vx_plan_json.specs.Fault.{Refusal, too_deep, ◌>>=◌}
 use Rattle.vx_plan_json.specs.Document.{Tree, scan, unary, binary, exchange, tree_levels}
 use Rattle.vx_plan_json.specs.Operators.{OwnForm, own_scan, own_unary, own_binary, own_exchange, own_under}
+use Rattle.vx_plan_json.specs.Formed.{levels_left}
 use Rattle.vx_plan_json.specs.Reading.{node_in, with_inputs}
 use Rattle.vx_plan_json.proofs.NodeCounts.{both_ok}
 
@@ -45,8 +46,8 @@ inputs_low levels below low seen path (Some (own_exchange c k m d)) r h =
     subst P e (omega (arith, n))
 
 low_if : (derives : Bool) (levels : ℕ) (below : ℕ → List ℕ → Data → Result (Tree × ℕ) Refusal) → AreLow levels below → (seen : ℕ) (path : List ℕ) (d : Data) (r : Tree × ℕ) (b : Bool)
-    → cond b (with_inputs below seen path (own_under derives d)) (Err too_deep) ≡ Ok r → IsLow (suc levels) r
-low_if derives levels below low seen path d r true h = inputs_low levels below low seen path (own_under derives d) r h
+    → cond b (with_inputs below seen path (own_under derives (levels_left levels) d)) (Err too_deep) ≡ Ok r → IsLow (suc levels) r
+low_if derives levels below low seen path d r true h = inputs_low levels below low seen path (own_under derives (levels_left levels) d) r h
 low_if derives levels below low seen path d r false h = cc
 
 node_low : (derives : Bool) (levels : ℕ) → AreLow levels (node_in derives levels)

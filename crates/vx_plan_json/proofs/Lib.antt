@@ -10,3 +10,4 @@ pub mod HeadFacts
 pub mod PlainFacts
 pub mod BackFacts
 pub mod OrderFacts
+pub mod OperandFacts

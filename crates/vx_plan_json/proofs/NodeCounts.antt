@@ -5,6 +5,7 @@ use Rattle.serde_json.specs.Data.{Data}
 use Rattle.vx_plan_json.specs.Fault.{Refusal, too_deep, ◌>>=◌}
 use Rattle.vx_plan_json.specs.Document.{Tree, scan, unary, binary, exchange, tree_nodes}
 use Rattle.vx_plan_json.specs.Operators.{OwnForm, own_scan, own_unary, own_binary, own_exchange, own_under}
+use Rattle.vx_plan_json.specs.Formed.{levels_left}
 use Rattle.vx_plan_json.specs.Reading.{node_in, with_inputs}
 
 -- what the first step gave, where both steps gave something
@@ -49,17 +50,17 @@ inputs_counted below counts seen path (Some (own_exchange c k m d)) r few h =
     let P : Tree × ℕ → Type 0 = λ p. IsCounted seen p.0 p.1 in
     subst P e (record { count = omega (arith, n.count); few = n.few })
 
-counted_if : (derives : Bool) (below : ℕ → List ℕ → Data → Result (Tree × ℕ) Refusal) → Counts below → (seen : ℕ) (path : List ℕ) (d : Data) (r : Tree × ℕ) (b : Bool)
-    → ltb seen 1000 ≡ b → cond b (with_inputs below seen path (own_under derives d)) (Err too_deep) ≡ Ok r → IsCounted seen r.0 r.1
-counted_if derives below counts seen path d r true e h =
+counted_if : (derives : Bool) (levels : ℕ) (below : ℕ → List ℕ → Data → Result (Tree × ℕ) Refusal) → Counts below → (seen : ℕ) (path : List ℕ) (d : Data) (r : Tree × ℕ) (b : Bool)
+    → ltb seen 1000 ≡ b → cond b (with_inputs below seen path (own_under derives levels d)) (Err too_deep) ≡ Ok r → IsCounted seen r.0 r.1
+counted_if derives levels below counts seen path d r true e h =
     let few : seen < 1000 = ltb-true seen 1000 e in
-    inputs_counted below counts seen path (own_under derives d) r few h
-counted_if derives below counts seen path d r false e h = cc
+    inputs_counted below counts seen path (own_under derives levels d) r few h
+counted_if derives levels below counts seen path d r false e h = cc
 
 pub node_counted : (derives : Bool) (levels : ℕ) → Counts (node_in derives levels)
 unfolding node_in
 node_counted derives zero seen path d r h = cc
-node_counted derives (suc levels) seen path d r h = counted_if derives (node_in derives levels) (node_counted derives levels) seen path d r (ltb seen 1000) refl h
+node_counted derives (suc levels) seen path d r h = counted_if derives (levels_left levels) (node_in derives levels) (node_counted derives levels) seen path d r (ltb seen 1000) refl h
 
 pub few_nodes : (derives : Bool) (levels : ℕ) (path : List ℕ) (d : Data) (t : Tree) (after : ℕ) → node_in derives levels 0 path d ≡ Ok (t, after) → tree_nodes t ≤ 1000
 few_nodes derives levels path d t after h = let n = node_counted derives levels 0 path d (t, after) h in omega (arith, n.count, n.few)

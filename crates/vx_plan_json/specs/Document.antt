@@ -1,11 +1,12 @@
 -- Plans as their documents say them: relations, columns, sizes and ranges by name.
-use Rattle.std.specs.Prelude.{ℕ, suc, ◌+◌, max, List, map, Bool, true, false, Option, option_map, string_bytes, String}
+use Rattle.std.specs.Prelude.{ℕ, suc, ◌+◌, max, List, [], ◌∷◌, map, Bool, true, false, Option, option_map, string_bytes, String}
 use Rattle.std.specs.declared.alloc.Global.{Global}
 use Rattle.vx_catalog_json.specs.Look.{OrderText}
 use Rattle.vx_rows_values.specs.Values.{Name, Val}
 use Rattle.vx_rows_values.specs.ValueView.{val_of, test_of}
 use Rattle.vx_rows_values.specs.Test as comparison
 use Rattle.vx_rows_values.specs.Ranges.{RangeForm}
+use Rattle.vx_rows_values.specs.declared.value.ColType.{ColType}
 use Rattle.vx_plan_json.specs.declared.plan.NamedPart.{NamedPart}
 use Rattle.vx_plan_json.specs.declared.plan.NamedPart.TheVariants as part
 use Rattle.vx_plan_json.specs.declared.plan.NamedClaim.{NamedClaim}
@@ -13,6 +14,12 @@ use Rattle.vx_plan_json.specs.declared.plan.NamedSide.{NamedSide}
 use Rattle.vx_plan_json.specs.declared.plan.NamedSide.TheVariants as side
 use Rattle.vx_plan_json.specs.declared.plan.NamedCondition.{NamedCondition}
 use Rattle.vx_plan_json.specs.declared.plan.NamedOutput.{NamedOutput}
+use Rattle.vx_plan_json.specs.declared.plan.NamedOperand.{NamedOperand, Row_of-NamedOperand, end_of-NamedOperand, more_of-NamedOperand}
+use Rattle.vx_plan_json.specs.declared.plan.NamedOperand.TheVariants as operand
+use Rattle.vx_plan_json.specs.declared.plan.NamedFilter.{NamedFilter}
+use Rattle.vx_plan_json.specs.declared.plan.NamedFilter.TheVariants as filter
+use Rattle.vx_plan_json.specs.declared.plan.NamedEntry.{NamedEntry}
+use Rattle.vx_plan_json.specs.declared.plan.NamedEntry.TheVariants as entry
 use Rattle.vx_plan_json.specs.declared.plan.NamedFunction.{NamedFunction}
 use Rattle.vx_plan_json.specs.declared.plan.NamedFunction.TheVariants as function
 use Rattle.vx_plan_json.specs.declared.plan.NamedAggregate.{NamedAggregate}
@@ -52,6 +59,28 @@ pub record OutputForm : Type 0 where
   pub column : Name
   pub renamed : Option Name
 
+-- what is computed of a row: the value in a column, a value that is always the same, or what a function answers of operands, with the type
+-- that is said of the answer
+mutual
+  pub data OperandForm : Type 0 where
+    operand_column : Name → OperandForm
+    operand_value : Val → OperandForm
+    operand_call : (function : Name) → ColType → OperandForms → OperandForm
+
+  pub data OperandForms : Type 0 where
+    no_operands : OperandForms
+    more_operands : OperandForm → OperandForms → OperandForms
+
+-- a condition of a select: a comparison, or a function that is to answer a number other than 0
+pub data FilterForm : Type 0 where
+  compared : ConditionForm → FilterForm
+  computed : OperandForm → FilterForm
+
+-- a column of a projection's output: one that is kept, or what is computed, under a name
+pub data EntryForm : Type 0 where
+  kept : OutputForm → EntryForm
+  made : OperandForm → Name → EntryForm
+
 pub data FunctionForm : Type 0 where
   least : Name → FunctionForm
   greatest : Name → FunctionForm
@@ -71,8 +100,8 @@ pub record ScanForm : Type 0 where
 
 -- a partial sort is of parts of groups; a final group has the columns and the aggregates of the partial one below it
 pub data UnaryForm : Type 0 where
-  select : List ConditionForm → UnaryForm
-  project : List OutputForm → UnaryForm
+  select : List FilterForm → UnaryForm
+  project : List EntryForm → UnaryForm
   distinct : List OutputForm → UnaryForm
   sort : List OrderText → UnaryForm
   partial_sort : List OrderText → UnaryForm
@@ -145,6 +174,29 @@ condition_form c = record { left = string_bytes c.left; test = test_of c.test; r
 abbrev pub output_form : NamedOutput → OutputForm
 output_form o = record { column = string_bytes o.column; renamed = option_map string_bytes o.renamed }
 
+-- the operands in a list
+abbrev pub operands_from : List OperandForm → OperandForms
+operands_from [] = no_operands
+operands_from (o ∷ os) = more_operands o (operands_from os)
+
+abbrev mutual
+  pub operand_form : NamedOperand → OperandForm
+  operand_form (operand.Column name) = operand_column (string_bytes name)
+  operand_form (operand.Constant value) = operand_value (val_of value)
+  operand_form (operand.Call' name t shape os) = operand_call (string_bytes name) t (operand_forms os)
+
+  pub operand_forms : {n : _} → Row_of-NamedOperand n → OperandForms
+  operand_forms end_of-NamedOperand = no_operands
+  operand_forms (more_of-NamedOperand o os) = more_operands (operand_form o) (operand_forms os)
+
+abbrev pub filter_form : NamedFilter → FilterForm
+filter_form (filter.Compared c) = compared (condition_form c)
+filter_form (filter.Computed o) = computed (operand_form o)
+
+abbrev pub entry_form : NamedEntry → EntryForm
+entry_form (entry.Kept o) = kept (output_form o)
+entry_form (entry.Made o name) = made (operand_form o) (string_bytes name)
+
 abbrev pub function_form : NamedFunction → FunctionForm
 function_form (function.Least col) = least (string_bytes col)
 function_form (function.Greatest col) = greatest (string_bytes col)
@@ -158,8 +210,8 @@ abbrev pub scan_form : NamedScan → ScanForm
 scan_form s = record { relation = string_bytes s.relation; shared = s.shared; size = string_bytes s.size; prefix = string_bytes s.prefix }
 
 abbrev pub unary_form : NamedUnary → UnaryForm
-unary_form (op.Select conditions) = select (map condition_form conditions.items)
-unary_form (op.Project outputs) = project (map output_form outputs.items)
+unary_form (op.Select filters) = select (map filter_form filters.items)
+unary_form (op.Project entries) = project (map entry_form entries.items)
 unary_form (op.Distinct outputs) = distinct (map output_form outputs.items)
 unary_form (op.Sort order) = sort order.items
 unary_form (op.PartialSort order) = partial_sort order.items

@@ -1,12 +1,14 @@
 -- Which plan a JSON value is: the forms of a claim, of each operator and of a node's own members.
-use Rattle.std.specs.Prelude.{ℕ, List, [], ◌∷◌, Option, Some, None, option_map, option_and_then, bytes_eq, codes, if◌then◌else◌}
+use Rattle.std.specs.Prelude.{ℕ, zero, suc, List, [], ◌∷◌, Option, Some, None, option_map, option_and_then, bytes_eq, codes, if◌then◌else◌}
 use Rattle.serde_json.specs.Data.{Data}
 use Rattle.serde_json.specs.Find.{get, as_str}
 use Rattle.vx_rows_values.specs.Test as comparison
 use Rattle.vx_catalog_json.specs.Look.{as_list, has_only, some_entry, name_in, OrderText, order_entry_in}
 use Rattle.vx_plan_json.specs.Look.{name_at, text_at, value_in, each_in, some_in, or_default}
+use Rattle.vx_rows_values.specs.declared.value.ColType.{ColType}
+use Rattle.vx_rows_values.specs.declared.value.ColType.TheVariants.{Int, Text}
 use Rattle.vx_rows_values.specs.Values.{Name}
-use Rattle.vx_plan_json.specs.Document.{PartForm, one, any, all, hash_part, range_part, ClaimForm, SideForm, column, constant, ConditionForm, OutputForm, FunctionForm, least, greatest, sum, count_rows, AggregateForm}
+use Rattle.vx_plan_json.specs.Document.{PartForm, one, any, all, hash_part, range_part, ClaimForm, SideForm, column, constant, ConditionForm, OutputForm, OperandForm, operand_column, operand_value, operand_call, operands_from, FilterForm, compared, computed, EntryForm, kept, made, FunctionForm, least, greatest, sum, count_rows, AggregateForm}
 
 infixl 10 ◌>>=◌
 abbrev ◌>>=◌ : {A B : Type 0} → Option A → (A → Option B) → Option B
@@ -72,7 +74,7 @@ claim_in d = if has_only (codes "part" ∷ codes "order" ∷ codes "keys" ∷ []
 unfoldable pub claimed : Data → Option ClaimForm
 claimed d = or_default (record { part = any; order = []; keys = [] }) claim_in (get (codes "claim") d)
 
--- ---- conditions, kept columns, aggregates and pairs
+-- ---- conditions and kept columns
 
 abbrev pub test_named : List ℕ → Option comparison.Test
 test_named s =
@@ -110,6 +112,69 @@ output_by (Some s) d = option_map (λ n. record { column = n; renamed = None }) 
 -- a name, or a column with its new name
 unfoldable pub output_in : Data → Option OutputForm
 output_in d = output_by (as_str d) d
+
+-- ---- functions of columns and values
+
+abbrev pub type_named : List ℕ → Option ColType
+type_named s = if bytes_eq s (codes "int") then Some Int else (if bytes_eq s (codes "text") then Some Text else None)
+
+-- a constant in `value`
+unfoldable pub constant_in : Data → Option OperandForm
+constant_in d = option_map operand_value (option_and_then value_in (get (codes "value") d))
+
+-- the name of a function in `fn`, its operands in `of` and the type of its answer in `type`; `operands` reads the operands
+unfoldable pub call_in : (operands : Data → Option (List OperandForm)) → Data → Option OperandForm
+call_in operands d = do
+  f ← name_at (codes "fn") d
+  os ← option_and_then operands (get (codes "of") d)
+  t ← option_and_then type_named (text_at (codes "type") d)
+  Some (operand_call f t (operands_from os))
+
+-- `{"value": value}`, or `{"fn": name, "of": [operand, ..], "type": type}`
+abbrev pub object_in : (operands : Data → Option (List OperandForm)) → Data → Option OperandForm
+object_in operands d = if has_only (codes "value" ∷ []) d then constant_in d
+    else (if has_only (codes "fn" ∷ codes "of" ∷ codes "type" ∷ []) d then call_in operands d else None)
+
+abbrev pub operand_by : (operands : Data → Option (List OperandForm)) → Option (List ℕ) → Data → Option OperandForm
+operand_by operands None d = object_in operands d
+operand_by operands (Some s) d = option_map operand_column (name_in d)
+
+-- the name of a column, or an object; of so many levels of JSON at most
+unfoldable pub operand_in : ℕ → Data → Option OperandForm
+operand_in zero d = option_map operand_column (name_in d)
+operand_in (suc zero) d = operand_by (λ e. None) (as_str d) d
+operand_in (suc (suc levels)) d = operand_by (each_in (operand_in levels)) (as_str d) d
+
+-- a list of operands, of so many levels at most
+abbrev pub operands_in : ℕ → Data → Option (List OperandForm)
+operands_in zero d = None
+operands_in (suc levels) d = each_in (operand_in levels) d
+
+-- a function of operands, whose answer is a number; its operands have so many levels at most
+unfoldable pub answer_in : ℕ → Data → Option FilterForm
+answer_in levels d = do
+  f ← name_at (codes "fn") d
+  os ← option_and_then (operands_in levels) (get (codes "of") d)
+  Some (computed (operand_call f Int (operands_from os)))
+
+-- `{"fn": name, "of": [operand, ..]}`, or a comparison
+unfoldable pub filter_in : ℕ → Data → Option FilterForm
+filter_in levels d = if has_only (codes "fn" ∷ codes "of" ∷ []) d then answer_in levels d else option_map compared (condition_in d)
+
+-- what is computed, under the name in `as`
+abbrev pub named_entry : Option OperandForm → Data → Option EntryForm
+named_entry form d = do
+  o ← form
+  n ← name_at (codes "as") d
+  Some (made o n)
+
+-- `{"value": value, "as": name}`, `{"fn": name, "of": [operand, ..], "type": type, "as": name}`, or a column that is kept
+unfoldable pub projected_in : ℕ → Data → Option EntryForm
+projected_in levels d = if has_only (codes "value" ∷ codes "as" ∷ []) d then named_entry (constant_in d) d
+    else (if has_only (codes "fn" ∷ codes "of" ∷ codes "type" ∷ codes "as" ∷ []) d then named_entry (call_in (operands_in levels) d) d
+    else option_map kept (output_in d))
+
+-- ---- aggregates and pairs
 
 abbrev pub function_named : List ℕ → Name → Option FunctionForm
 function_named s c =

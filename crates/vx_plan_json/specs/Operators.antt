@@ -6,8 +6,8 @@ use Rattle.serde_json.specs.View.{view}
 use Rattle.vx_catalog_json.specs.Look.{has_only, OrderText}
 use Rattle.vx_plan_json.specs.Look.{name_at, text_at, each_in, some_in, or_default}
 use Rattle.vx_rows_values.specs.Values.{Name}
-use Rattle.vx_plan_json.specs.Document.{ClaimForm, ScanForm, ConditionForm, OutputForm, AggregateForm, UnaryForm, select, project, distinct, sort, partial_sort, group, partial_group, final_group, limit, BinaryForm, union, join, semi_join, KindForm, hash, range, round, broadcast, gather, concat, claim_form, scan_form, unary_form, binary_form, kind_form}
-use Rattle.vx_plan_json.specs.Form.{names_in, some_names_in, some_order_in, claimed, condition_in, output_in, aggregate_in, pair_in}
+use Rattle.vx_plan_json.specs.Document.{ClaimForm, ScanForm, ConditionForm, OutputForm, EntryForm, AggregateForm, UnaryForm, select, project, distinct, sort, partial_sort, group, partial_group, final_group, limit, BinaryForm, union, join, semi_join, KindForm, hash, range, round, broadcast, gather, concat, claim_form, scan_form, unary_form, binary_form, kind_form}
+use Rattle.vx_plan_json.specs.Form.{names_in, some_names_in, some_order_in, claimed, condition_in, filter_in, output_in, projected_in, aggregate_in, pair_in}
 use Rattle.vx_plan_json.specs.Formed.{has_few_keys}
 use Rattle.vx_plan_json.specs.declared.operators.Own.{Own}
 use Rattle.vx_plan_json.specs.declared.operators.Own.TheVariants as own
@@ -49,11 +49,17 @@ scan_own d = if has_only (codes "op" ∷ codes "relation" ∷ codes "mode" ∷ c
       Some (own_scan c s))
     else None
 
-unfoldable pub select_in : Data → Option UnaryForm
-select_in d = if has_only (codes "op" ∷ codes "where" ∷ codes "input" ∷ codes "claim" ∷ []) d
-    then option_map select (option_and_then (some_in condition_in) (get (codes "where") d)) else None
+-- conditions; what stands in the objects of functions has so many levels of JSON at most
+unfoldable pub select_in : ℕ → Data → Option UnaryForm
+select_in levels d = if has_only (codes "op" ∷ codes "where" ∷ codes "input" ∷ codes "claim" ∷ []) d
+    then option_map select (option_and_then (some_in (filter_in levels)) (get (codes "where") d)) else None
 
--- the kept columns of a projection or a distinct
+-- the kept and the computed columns of a projection
+unfoldable pub project_in : ℕ → Data → Option UnaryForm
+project_in levels d = if has_only (codes "op" ∷ codes "columns" ∷ codes "input" ∷ codes "claim" ∷ []) d
+    then option_map project (option_and_then (some_in (projected_in levels)) (get (codes "columns") d)) else None
+
+-- the kept columns of a distinct
 unfoldable pub outputs_in : Data → Option (List OutputForm)
 outputs_in d = if has_only (codes "op" ∷ codes "columns" ∷ codes "input" ∷ codes "claim" ∷ []) d
     then option_and_then (some_in output_in) (get (codes "columns") d) else None
@@ -123,18 +129,18 @@ unfoldable pub limit_in : Data → Option UnaryForm
 limit_in d = if has_only (codes "op" ∷ codes "rows" ∷ codes "input" ∷ codes "claim" ∷ []) d
     then option_map limit (option_and_then rows_in (get (codes "rows") d)) else None
 
-unfoldable pub unary_in : List ℕ → Data → Option UnaryForm
-unary_in s d =
-    if bytes_eq s (codes "select") then select_in d
-    else (if bytes_eq s (codes "project") then option_map project (outputs_in d)
+unfoldable pub unary_in : ℕ → List ℕ → Data → Option UnaryForm
+unary_in levels s d =
+    if bytes_eq s (codes "select") then select_in levels d
+    else (if bytes_eq s (codes "project") then project_in levels d
     else (if bytes_eq s (codes "distinct") then option_map distinct (outputs_in d)
     else (if bytes_eq s (codes "sort") then sorted_in d
     else (if bytes_eq s (codes "group") then phased_in d
     else (if bytes_eq s (codes "limit") then limit_in d else None)))))
 
-unfoldable pub unary_own : List ℕ → Data → Option OwnForm
-unary_own s d = do
-  op ← unary_in s d
+unfoldable pub unary_own : ℕ → List ℕ → Data → Option OwnForm
+unary_own levels s d = do
+  op ← unary_in levels s d
   c ← claimed d
   i ← get (codes "input") d
   Some (own_unary c op i)
@@ -248,15 +254,15 @@ exchange_own d = do
   i ← get (codes "input") d
   Some (own_exchange c k m i)
 
-abbrev pub own_named : List ℕ → Data → Option OwnForm
-own_named s d =
+abbrev pub own_named : ℕ → List ℕ → Data → Option OwnForm
+own_named levels s d =
     if bytes_eq s (codes "scan") then scan_own d
     else (if bytes_eq s (codes "union") then binary_own (union_in d) d
     else (if bytes_eq s (codes "join") then binary_own (join_in d) d
-    else (if bytes_eq s (codes "exchange") then exchange_own d else unary_own s d)))
+    else (if bytes_eq s (codes "exchange") then exchange_own d else unary_own levels s d)))
 
-unfoldable pub own_in : Data → Option OwnForm
-own_in d = option_and_then (λ s. own_named s d) (text_at (codes "op") d)
+unfoldable pub own_in : ℕ → Data → Option OwnForm
+own_in levels d = option_and_then (λ s. own_named levels s d) (text_at (codes "op") d)
 
 abbrev pub own_claim : OwnForm → ClaimForm
 own_claim (own_scan c s) = c
@@ -268,5 +274,5 @@ abbrev pub if_few_keys : (derives : Bool) → OwnForm → Option OwnForm
 if_few_keys derives own = if has_few_keys derives (own_claim own) then Some own else None
 
 -- the same in a plan that asks for what is known of its columns, or does not: there a claim has at most 16 keys
-unfoldable pub own_under : (derives : Bool) → Data → Option OwnForm
-own_under derives d = option_and_then (if_few_keys derives) (own_in d)
+unfoldable pub own_under : (derives : Bool) → ℕ → Data → Option OwnForm
+own_under derives levels d = option_and_then (if_few_keys derives) (own_in levels d)

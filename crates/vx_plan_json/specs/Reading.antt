@@ -13,6 +13,7 @@ use Rattle.vx_rows_values.specs.Values.{Name}
 use Rattle.vx_plan_json.specs.Document.{Tree, scan, unary, binary, exchange, Document}
 use Rattle.vx_rows_values.specs.Ranges.{range_form, RangeForm}
 use Rattle.vx_plan_json.specs.Form.{names_in}
+use Rattle.vx_plan_json.specs.Formed.{levels_left}
 use Rattle.vx_plan_json.specs.Operators.{OwnForm, own_scan, own_unary, own_binary, own_exchange, own_under}
 use Rattle.vx_rows_values.specs.Limits.{max_levels, max_nodes}
 
@@ -28,7 +29,7 @@ with_inputs below seen path (Some (own_exchange c k m d)) = below (seen + 1) (pa
 -- the tree of a value, and how many nodes have been seen after it, in preorder
 unfoldable pub node_in : (derives : Bool) → ℕ → ℕ → List ℕ → Data → Result (Tree × ℕ) Refusal
 node_in derives zero seen path d = Err too_deep
-node_in derives (suc levels) seen path d = if nat_lt seen max_nodes then with_inputs (node_in derives levels) seen path (own_under derives d) else Err too_deep
+node_in derives (suc levels) seen path d = if nat_lt seen max_nodes then with_inputs (node_in derives levels) seen path (own_under derives (levels_left levels) d) else Err too_deep
 
 -- `{"name": name, "bounds": [value, ..]}`
 unfoldable pub declared_in : Data → Option RangeForm

@@ -1,12 +1,14 @@
 -- The JSON of a plan: each member that a document has, but those that have their defaults.
 use Rattle.std.specs.Prelude.{ℕ, List, [], ◌∷◌, map, Bool, true, false, Option, Some, None, codes, if◌then◌else◌}
-use Rattle.serde_json.specs.Data.{Data, boolean, number, unsigned, string, array, object, Members, no_members, member, put}
+use Rattle.serde_json.specs.Data.{Data, boolean, number, unsigned, string, array, object, Items, no_items, item, Members, no_members, member, put}
 use Rattle.serde_json.specs.Find.{of_integer}
 use Rattle.serde_json.specs.View.{items_of}
 use Rattle.vx_catalog_json.specs.Look.{OrderText}
 use Rattle.vx_rows_values.specs.Values.{Val, num, text, Name}
 use Rattle.vx_rows_values.specs.Test as comparison
-use Rattle.vx_plan_json.specs.Document.{PartForm, one, any, all, hash_part, range_part, ClaimForm, SideForm, column, constant, ConditionForm, OutputForm, FunctionForm, least, greatest, sum, count_rows, AggregateForm, ScanForm, UnaryForm, select, project, distinct, sort, partial_sort, group, partial_group, final_group, limit, BinaryForm, union, join, semi_join, KindForm, hash, range, round, broadcast, gather, concat, Tree, scan, unary, binary, exchange, Document}
+use Rattle.vx_rows_values.specs.declared.value.ColType.{ColType}
+use Rattle.vx_rows_values.specs.declared.value.ColType.TheVariants.{Int, Text}
+use Rattle.vx_plan_json.specs.Document.{PartForm, one, any, all, hash_part, range_part, ClaimForm, SideForm, column, constant, ConditionForm, OutputForm, OperandForm, operand_column, operand_value, operand_call, OperandForms, no_operands, more_operands, FilterForm, compared, computed, EntryForm, kept, made, FunctionForm, least, greatest, sum, count_rows, AggregateForm, ScanForm, UnaryForm, select, project, distinct, sort, partial_sort, group, partial_group, final_group, limit, BinaryForm, union, join, semi_join, KindForm, hash, range, round, broadcast, gather, concat, Tree, scan, unary, binary, exchange, Document}
 use Rattle.vx_rows_values.specs.Ranges.{RangeForm}
 
 abbrev pub list_json : {X : Type 0} → (X → Data) → List X → Data
@@ -69,7 +71,7 @@ with_object key (member k d more) ms = put key (object (member k d more)) ms
 abbrev pub with_claim : ClaimForm → Members → Members
 with_claim c ms = with_object (codes "claim") (claim_members c) ms
 
--- ---- conditions, kept columns, aggregates and pairs
+-- ---- conditions and kept columns
 
 abbrev pub with_side : SideForm → Members → Members
 with_side (column name) ms = with_text (codes "column2") name ms
@@ -84,6 +86,55 @@ renamed_json col (Some name) = object (with_text (codes "as") name (with_text (c
 
 abbrev pub output_json : OutputForm → Data
 output_json o = renamed_json o.column o.renamed
+
+-- ---- functions of columns and values
+
+abbrev pub type_text : ColType → List ℕ
+type_text Int = codes "int"
+type_text Text = codes "text"
+
+-- with a function and its operands
+abbrev pub with_applied : Name → Items → Members → Members
+with_applied f operands ms = put (codes "of") (array operands) (with_text (codes "fn") f ms)
+
+-- with the type of its answer, too
+abbrev pub with_typed : Name → ColType → Items → Members → Members
+with_typed f t operands ms = with_text (codes "type") (type_text t) (with_applied f operands ms)
+
+abbrev pub with_constant : Val → Members → Members
+with_constant v ms = put (codes "value") (value_json v) ms
+
+abbrev mutual
+  pub operand_json : OperandForm → Data
+  operand_json (operand_column n) = string n
+  operand_json (operand_value v) = object (with_constant v no_members)
+  operand_json (operand_call f t os) = object (with_typed f t (operand_items os) no_members)
+
+  pub operand_items : OperandForms → Items
+  operand_items no_operands = no_items
+  operand_items (more_operands o os) = item (operand_json o) (operand_items os)
+
+-- a function that is a condition, without the type of its answer, which is a number
+abbrev pub answer_json : OperandForm → Data
+answer_json (operand_column n) = operand_json (operand_column n)
+answer_json (operand_value v) = operand_json (operand_value v)
+answer_json (operand_call f t os) = object (with_applied f (operand_items os) no_members)
+
+abbrev pub filter_json : FilterForm → Data
+filter_json (compared c) = condition_json c
+filter_json (computed o) = answer_json o
+
+-- with what is computed
+abbrev pub with_operand : OperandForm → Members → Members
+with_operand (operand_column n) ms = with_text (codes "column") n ms
+with_operand (operand_value v) ms = with_constant v ms
+with_operand (operand_call f t os) ms = with_typed f t (operand_items os) ms
+
+abbrev pub projected_json : EntryForm → Data
+projected_json (kept o) = output_json o
+projected_json (made o n) = object (with_text (codes "as") n (with_operand o no_members))
+
+-- ---- aggregates and pairs
 
 -- an aggregate over a column
 abbrev pub with_call : List ℕ → Name → Members → Members
@@ -125,8 +176,8 @@ abbrev pub with_phase : List ℕ → Members → Members
 with_phase phase ms = with_text (codes "phase") phase (with_text (codes "op") (codes "group") ms)
 
 abbrev pub with_unary : UnaryForm → Members → Members
-with_unary (select cs) ms = put (codes "where") (list_json condition_json cs) (with_text (codes "op") (codes "select") ms)
-with_unary (project os) ms = put (codes "columns") (list_json output_json os) (with_text (codes "op") (codes "project") ms)
+with_unary (select fs) ms = put (codes "where") (list_json filter_json fs) (with_text (codes "op") (codes "select") ms)
+with_unary (project es) ms = put (codes "columns") (list_json projected_json es) (with_text (codes "op") (codes "project") ms)
 with_unary (distinct os) ms = put (codes "columns") (list_json output_json os) (with_text (codes "op") (codes "distinct") ms)
 with_unary (sort order) ms = put (codes "columns") (order_json order) (with_text (codes "op") (codes "sort") ms)
 with_unary (partial_sort order) ms = put (codes "columns") (order_json order) (with_text (codes "phase") (codes "partial") (with_text (codes "op") (codes "sort") ms))

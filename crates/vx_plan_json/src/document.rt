@@ -1,7 +1,7 @@
 //! A plan as it was read.
 
 ghost use Rattle.std.specs.Prelude.{◌≡◌, ◌≤◌, true, map, string_bytes};
-ghost use Rattle.vx_plan_json.specs.Formed.{is_tree_form, is_head_form, are_keys_few};
+ghost use Rattle.vx_plan_json.specs.Formed.{is_tree_form, is_head_form, are_keys_few, are_operands_low};
 ghost use Rattle.vx_plan_json.specs.Document.{tree_of, tree_nodes, tree_levels};
 ghost use Rattle.vx_rows_values.specs.Ranges.{range_form};
 ghost use Rattle.vx_rows_values.specs.Limits.{max_levels, max_nodes};
@@ -14,7 +14,8 @@ use std::alloc::Global;
 use vx_rows_values::NamedRange;
 
 /// A plan that was read, with names in place of positions. It has at most 1,000 nodes, 64 below one another, and no name in
-/// it is empty. Where it asks for what is known of its columns, a claim has at most 16 keys.
+/// it is empty. Where it asks for what is known of its columns, a claim has at most 16 keys. Its JSON nests no deeper than a
+/// text may.
 pub struct Plan {
     sizes: Vec<String>,
     ranges: Vec<NamedRange>,
@@ -25,6 +26,7 @@ pub struct Plan {
     ghost few_levels: { tree_levels (tree_of root) ≤ max_levels },
     ghost declared: { is_head_form (map string_bytes sizes.items) (map range_form ranges.items) ≡ true },
     ghost formed: { is_tree_form (tree_of root) ≡ true },
+    ghost low_operands: { are_operands_low max_levels (tree_of root) ≡ true },
     ghost few_keys: { are_keys_few derives (tree_of root) ≡ true },
 }
 
@@ -59,6 +61,7 @@ impl Plan {
         requires low { tree_levels (tree_of root) ≤ max_levels }
         requires declared { is_head_form (map string_bytes sizes.items) (map range_form ranges.items) ≡ true }
         requires formed { is_tree_form (tree_of root) ≡ true }
+        requires low_operands { are_operands_low max_levels (tree_of root) ≡ true }
         requires few_keys { are_keys_few derives (tree_of root) ≡ true }
         ensures sizes { (document_of result).sizes ≡ map string_bytes sizes.items }
         ensures ranges { (document_of result).ranges ≡ map range_form ranges.items }
@@ -126,6 +129,7 @@ impl Plan {
         ensures low { tree_levels (tree_of result.now) ≤ max_levels }
         ensures declared { is_head_form (document_of self.now).sizes (document_of self.now).ranges ≡ true }
         ensures formed { is_tree_form (tree_of result.now) ≡ true }
+        ensures low_operands { are_operands_low max_levels (tree_of result.now) ≡ true }
         ensures few_keys { are_keys_few (document_of self.now).derives (tree_of result.now) ≡ true }
     {
         &self.root
@@ -140,6 +144,7 @@ impl Plan {
         ensures low { tree_levels (tree_of result.2) ≤ max_levels }
         ensures declared { is_head_form (document_of self).sizes (document_of self).ranges ≡ true }
         ensures formed { is_tree_form (tree_of result.2) ≡ true }
+        ensures low_operands { are_operands_low max_levels (tree_of result.2) ≡ true }
         ensures few_keys { are_keys_few (document_of self).derives (tree_of result.2) ≡ true }
     {
         let Plan {

@@ -1,28 +1,29 @@
 //! A plan as JSON.
 
 ghost use Rattle.std.specs.Prelude.{◌≡◌, ℕ, List, map, true, string_bytes, codes, Ok, IfOk, OnOk};
-ghost use Rattle.serde_json.specs.Data.{object, string, put};
-ghost use Rattle.serde_json.specs.View.{view, members_view};
+ghost use Rattle.serde_json.specs.Data.{object, string, no_members, put};
+ghost use Rattle.serde_json.specs.View.{view, items_of, members_view};
 ghost use Rattle.serde_json.specs.Written.{compact_text};
 ghost use Rattle.vx_catalog_json.specs.Look.{OrderText};
 ghost use Rattle.vx_rows_values.specs.Values.{Name, Val};
 ghost use Rattle.vx_rows_values.specs.ValueView.{val_of};
-ghost use Rattle.vx_plan_json.specs.Document.{hash_part, range_part, part_form, claim_form, side_form, ConditionForm, condition_form, OutputForm, output_form, function_form, AggregateForm, aggregate_form, scan_form, unary_form, pair_form, binary_form, kind_form, tree_of};
+ghost use Rattle.vx_plan_json.specs.Document.{hash_part, range_part, part_form, claim_form, side_form, ConditionForm, condition_form, OutputForm, output_form, operand_value, operand_form, FilterForm, filter_form, EntryForm, entry_form, made, function_form, AggregateForm, aggregate_form, scan_form, unary_form, pair_form, binary_form, kind_form, tree_of};
 ghost use Rattle.vx_rows_values.specs.Ranges.{RangeForm, range_form};
 ghost use Rattle.vx_plan_json.specs.PlanView.{document_of};
 ghost use Rattle.vx_plan_json.specs.Reading.{document_of_text};
-ghost use Rattle.vx_plan_json.specs.Written.{names_json, entry_json, order_json, list_json, value_json, with_some, with_text, range_json, part_json, with_part, claim_members, with_object, with_claim, with_side, condition_json, output_json, with_function, with_call, aggregate_json, pair_json, scan_json, unary_json, binary_json, exchange_json, node_json, with_flag, document_json};
+ghost use Rattle.vx_plan_json.specs.Written.{names_json, entry_json, order_json, list_json, value_json, with_some, with_text, range_json, part_json, with_part, claim_members, with_object, with_claim, with_side, condition_json, output_json, with_applied, with_typed, with_constant, type_text, operand_json, answer_json, filter_json, with_operand, projected_json, with_function, with_call, aggregate_json, pair_json, scan_json, unary_json, binary_json, exchange_json, node_json, with_flag, document_json};
 
 use crate::document::Plan;
 use crate::operators::{put_binary, put_kind, put_scan, put_unary};
 use crate::plan::{
-    NamedAggregate, NamedBinary, NamedClaim, NamedCondition, NamedFunction, NamedKind, NamedOutput,
-    NamedPart, NamedScan, NamedSide, NamedUnary, Node,
+    NamedAggregate, NamedBinary, NamedClaim, NamedCondition, NamedEntry, NamedFilter,
+    NamedFunction, NamedKind, NamedOperand, NamedOutput, NamedPart, NamedScan, NamedSide,
+    NamedUnary, Node,
 };
 use serde_json::{Map, Value as Json, put};
 use std::alloc::{AllocError, Global};
 use vx_catalog_json::OrderText;
-use vx_rows_values::{NamedRange, Value};
+use vx_rows_values::{ColType, NamedRange, Value};
 
 /// The members of an object.
 pub type Members = Map<String, Json>;
@@ -321,6 +322,165 @@ impl ToJson for NamedOutput {
         put_text(&mut members, alloc, "column", self.column.as_str())?;
         put_text(&mut members, alloc, "as", name.as_str())?;
         Ok(Json::Object(members))
+    }
+}
+
+fn type_text(kind: ColType) -> &'static str
+    ensures { result.now ≡ type_text kind }
+{
+    match kind {
+        ColType::Int => "int",
+        ColType::Text => "text",
+    }
+}
+
+// A function and its operands.
+fn put_applied(
+    members: &mut Members,
+    alloc: Global,
+    name: &str,
+    operands: Vec<Json>,
+) -> Result<(), AllocError>
+    ensures { OnOk result (members_view members.new.entries ≡ with_applied name.now (items_of (map view operands.items)) (members_view members.old.entries)) }
+{
+    put_text(members, alloc, "fn", name)?;
+    put(members, alloc, "of", Json::Array(operands))
+}
+
+// The type of its answer, too.
+fn put_typed(
+    members: &mut Members,
+    alloc: Global,
+    name: &str,
+    answer: ColType,
+    operands: Vec<Json>,
+) -> Result<(), AllocError>
+    ensures { OnOk result (members_view members.new.entries ≡ with_typed name.now answer (items_of (map view operands.items)) (members_view members.old.entries)) }
+{
+    put_applied(members, alloc, name, operands)?;
+    put_text(members, alloc, "type", type_text(answer))
+}
+
+fn put_constant(members: &mut Members, alloc: Global, value: &Value) -> Result<(), AllocError>
+    ensures { OnOk result (members_view members.new.entries ≡ with_constant (val_of value.now) (members_view members.old.entries)) }
+{
+    put(members, alloc, "value", value.to_value(alloc)?)
+}
+
+fn constant_json(alloc: Global, value: &Value) -> Result<Json, AllocError>
+    ensures { IfOk result (λ d. view d ≡ operand_json (operand_value (val_of value.now))) }
+{
+    let mut members = Map::new(alloc);
+    put_constant(&mut members, alloc, value)?;
+    Ok(Json::Object(members))
+}
+
+fn call_json(
+    alloc: Global,
+    name: &str,
+    answer: ColType,
+    operands: Vec<Json>,
+) -> Result<Json, AllocError>
+    ensures { IfOk result (λ d. view d ≡ object (with_typed name.now answer (items_of (map view operands.items)) no_members)) }
+{
+    let mut members = Map::new(alloc);
+    put_typed(&mut members, alloc, name, answer, operands)?;
+    Ok(Json::Object(members))
+}
+
+// An operand: the name of a column, or an object.
+#[cycle(operands)]
+fn operand_json(alloc: Global, operand: &NamedOperand) -> Result<Json, AllocError>
+    ensures { IfOk result (λ d. view d ≡ operand_json (operand_form operand.now)) }
+{
+    match operand {
+        NamedOperand::Column(name) => text(alloc, name.as_str()),
+        NamedOperand::Constant(value) => constant_json(alloc, value),
+        NamedOperand::Call(name, answer, operands) => {
+            let list = operands_json(alloc, operands.as_slice())?;
+            call_json(alloc, name.as_str(), *answer, list)
+        }
+    }
+}
+
+#[cycle(operands)]
+fn operands_json(alloc: Global, operands: &[NamedOperand]) -> Result<Vec<Json>, AllocError>
+    ensures { IfOk result (λ v. map view v.items ≡ map (λ o. operand_json (operand_form o)) operands.now) }
+{
+    let mut list = Vec::new(alloc);
+    for operand in operands {
+        list.push(operand_json(alloc, operand)?)?;
+    }
+    Ok(list)
+}
+
+// What is computed, as members.
+fn put_operand(
+    members: &mut Members,
+    alloc: Global,
+    operand: &NamedOperand,
+) -> Result<(), AllocError>
+    ensures { OnOk result (members_view members.new.entries ≡ with_operand (operand_form operand.now) (members_view members.old.entries)) }
+{
+    match operand {
+        NamedOperand::Column(name) => put_text(members, alloc, "column", name.as_str()),
+        NamedOperand::Constant(value) => put_constant(members, alloc, value),
+        NamedOperand::Call(name, answer, operands) => {
+            let list = operands_json(alloc, operands.as_slice())?;
+            put_typed(members, alloc, name.as_str(), *answer, list)
+        }
+    }
+}
+
+// A function that is a condition, without the type of its answer.
+fn answer_json(alloc: Global, operand: &NamedOperand) -> Result<Json, AllocError>
+    ensures { IfOk result (λ d. view d ≡ answer_json (operand_form operand.now)) }
+{
+    let NamedOperand::Call(name, _, operands) = operand else {
+        return operand_json(alloc, operand);
+    };
+    let mut members = Map::new(alloc);
+    let list = operands_json(alloc, operands.as_slice())?;
+    put_applied(&mut members, alloc, name.as_str(), list)?;
+    Ok(Json::Object(members))
+}
+
+impl ToJson for NamedFilter {
+    ghost Form = { FilterForm };
+
+    ghost look = { filter_form };
+
+    ghost json = { filter_json };
+
+    fn to_value(&self, alloc: Global) -> Result<Json, AllocError> {
+        match self {
+            NamedFilter::Compared(condition) => condition.to_value(alloc),
+            NamedFilter::Computed(operand) => answer_json(alloc, operand),
+        }
+    }
+}
+
+fn made_json(alloc: Global, operand: &NamedOperand, name: &str) -> Result<Json, AllocError>
+    ensures { IfOk result (λ d. view d ≡ projected_json (made (operand_form operand.now) name.now)) }
+{
+    let mut members = Map::new(alloc);
+    put_operand(&mut members, alloc, operand)?;
+    put_text(&mut members, alloc, "as", name)?;
+    Ok(Json::Object(members))
+}
+
+impl ToJson for NamedEntry {
+    ghost Form = { EntryForm };
+
+    ghost look = { entry_form };
+
+    ghost json = { projected_json };
+
+    fn to_value(&self, alloc: Global) -> Result<Json, AllocError> {
+        match self {
+            NamedEntry::Kept(output) => output.to_value(alloc),
+            NamedEntry::Made(operand, name) => made_json(alloc, operand, name.as_str()),
+        }
     }
 }
 

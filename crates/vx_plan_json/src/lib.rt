@@ -6,6 +6,7 @@ mod fault;
 mod forms;
 mod json;
 mod look;
+mod operands;
 mod operators;
 mod plan;
 mod reading;
@@ -14,6 +15,7 @@ pub use document::Plan;
 pub use fault::PlanFault;
 pub use json::{claim_text, to_json};
 pub use plan::{
-    NamedAggregate, NamedBinary, NamedClaim, NamedCondition, NamedFunction, NamedKind, NamedOutput,
-    NamedPart, NamedScan, NamedSide, NamedUnary, Node,
+    NamedAggregate, NamedBinary, NamedClaim, NamedCondition, NamedEntry, NamedFilter,
+    NamedFunction, NamedKind, NamedOperand, NamedOutput, NamedPart, NamedScan, NamedSide,
+    NamedUnary, Node,
 };

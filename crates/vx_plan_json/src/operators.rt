@@ -7,12 +7,13 @@ ghost use Rattle.vx_catalog_json.specs.Look.{Finds, Parses};
 ghost use Rattle.vx_plan_json.specs.Look.{some_in, or_default};
 ghost use Rattle.vx_plan_json.specs.Document.{semi_join, claim_form, output_form, aggregate_form, scan_form, unary_form, condition_form, pair_form, binary_form, kind_form};
 ghost use Rattle.vx_plan_json.specs.Form.{some_names_in, condition_in};
-ghost use Rattle.vx_plan_json.specs.Operators.{own_form, mode_named, scan_in, scan_own, select_in, outputs_in, sort_in, partial_sort_in, sort_named, sorted_in, lists_in, group_in, partial_in, final_in, phase_named, phased_in, rows_in, limit_in, unary_in, unary_own, method_named, inner_in, matches_by, matches_in, join_named, join_in, union_in, binary_own, hash_in, range_in, sized_in, gather_in, concat_in, kind_in, merge_by, exchange_own, own_named, own_in, own_claim, own_under};
+ghost use Rattle.vx_plan_json.specs.Operators.{own_form, mode_named, scan_in, scan_own, select_in, project_in, outputs_in, sort_in, partial_sort_in, sort_named, sorted_in, lists_in, group_in, partial_in, final_in, phase_named, phased_in, rows_in, limit_in, unary_in, unary_own, method_named, inner_in, matches_by, matches_in, join_named, join_in, union_in, binary_own, hash_in, range_in, sized_in, gather_in, concat_in, kind_in, merge_by, exchange_own, own_named, own_in, own_claim, own_under};
 ghost use Rattle.vx_plan_json.specs.Written.{with_text, with_some_text, with_scan, with_lists, with_phase, with_unary, with_join, with_matches, with_binary, with_kind};
 
 use crate::forms::{AggregateReader, ConditionReader, OutputReader, PairReader, read_node_claim};
 use crate::json::{Members, put_list, put_order, put_some, put_text};
 use crate::look::{get_text_at, read_name_at, read_some_order};
+use crate::operands::{read_entries, read_filters};
 use crate::plan::{
     NamedAggregate, NamedBinary, NamedClaim, NamedCondition, NamedKind, NamedOutput, NamedScan,
     NamedUnary,
@@ -96,16 +97,26 @@ fn read_scan_node<'v>(alloc: Global, value: &'v Json) -> Result<Own<'v>, Misread
     Ok(Own::Scan(claim, scan))
 }
 
+// What stands in the objects of functions has so many levels of JSON at most.
 #[tactic(auto, unfolding(crate::specs::Operators::select_in))]
-fn read_select(alloc: Global, value: &Json) -> Result<NamedUnary, Misread>
-    ensures { Parses unary_form result (select_in (view value.now)) }
+fn read_select(alloc: Global, levels: u32, value: &Json) -> Result<NamedUnary, Misread>
+    ensures { Parses unary_form result (select_in levels (view value.now)) }
 {
     test_members(value, &["op", "where", "input", "claim"])?;
-    let conditions = read_some::<ConditionReader>(alloc, get_member(value, "where")?)?;
-    Ok(NamedUnary::Select(conditions))
+    let filters = read_filters(alloc, levels, get_member(value, "where")?)?;
+    Ok(NamedUnary::Select(filters))
 }
 
-// The kept columns of a projection or a distinct.
+#[tactic(auto, unfolding(crate::specs::Operators::project_in))]
+fn read_project(alloc: Global, levels: u32, value: &Json) -> Result<NamedUnary, Misread>
+    ensures { Parses unary_form result (project_in levels (view value.now)) }
+{
+    test_members(value, &["op", "columns", "input", "claim"])?;
+    let entries = read_entries(alloc, levels, get_member(value, "columns")?)?;
+    Ok(NamedUnary::Project(entries))
+}
+
+// The kept columns of a distinct.
 #[tactic(auto, unfolding(crate::specs::Operators::outputs_in))]
 fn read_outputs(alloc: Global, value: &Json) -> Result<Vec<NamedOutput>, Misread>
     ensures { Parses (λ v. map output_form v.items) result (outputs_in (view value.now)) }
@@ -232,12 +243,12 @@ fn read_limit(value: &Json) -> Result<NamedUnary, Misread>
 }
 
 #[tactic(auto, unfolding(crate::specs::Operators::unary_in))]
-fn read_unary(alloc: Global, op: &str, value: &Json) -> Result<NamedUnary, Misread>
-    ensures { Parses unary_form result (unary_in op.now (view value.now)) }
+fn read_unary(alloc: Global, levels: u32, op: &str, value: &Json) -> Result<NamedUnary, Misread>
+    ensures { Parses unary_form result (unary_in levels op.now (view value.now)) }
 {
     match op {
-        "select" => read_select(alloc, value),
-        "project" => Ok(NamedUnary::Project(read_outputs(alloc, value)?)),
+        "select" => read_select(alloc, levels, value),
+        "project" => read_project(alloc, levels, value),
         "distinct" => Ok(NamedUnary::Distinct(read_outputs(alloc, value)?)),
         "sort" => read_sort(alloc, value),
         "group" => read_group(alloc, value),
@@ -247,10 +258,15 @@ fn read_unary(alloc: Global, op: &str, value: &Json) -> Result<NamedUnary, Misre
 }
 
 #[tactic(auto, unfolding(crate::specs::Operators::unary_own))]
-fn read_unary_node<'v>(alloc: Global, op: &str, value: &'v Json) -> Result<Own<'v>, Misread>
-    ensures { Parses own_form result (unary_own op.now (view value.now)) }
+fn read_unary_node<'v>(
+    alloc: Global,
+    levels: u32,
+    op: &str,
+    value: &'v Json,
+) -> Result<Own<'v>, Misread>
+    ensures { Parses own_form result (unary_own levels op.now (view value.now)) }
 {
-    let unary = read_unary(alloc, op, value)?;
+    let unary = read_unary(alloc, levels, op, value)?;
     let claim = read_node_claim(alloc, value)?;
     let input = get_member(value, "input")?;
     Ok(Own::Unary(claim, unary, input))
@@ -487,33 +503,43 @@ fn read_exchange_node<'v>(alloc: Global, value: &'v Json) -> Result<Own<'v>, Mis
     Ok(Own::Exchange(claim, kind, merge, input))
 }
 
-fn read_node_of<'v>(alloc: Global, op: &str, value: &'v Json) -> Result<Own<'v>, Misread>
-    ensures { Parses own_form result (own_named op.now (view value.now)) }
+fn read_node_of<'v>(
+    alloc: Global,
+    levels: u32,
+    op: &str,
+    value: &'v Json,
+) -> Result<Own<'v>, Misread>
+    ensures { Parses own_form result (own_named levels op.now (view value.now)) }
 {
     match op {
         "scan" => read_scan_node(alloc, value),
         "union" => read_binary_node(alloc, read_union(value)?, value),
         "join" => read_binary_node(alloc, read_join(alloc, value)?, value),
         "exchange" => read_exchange_node(alloc, value),
-        _ => read_unary_node(alloc, op, value),
+        _ => read_unary_node(alloc, levels, op, value),
     }
 }
 
 // What a value says of a node, if it is a node.
 #[tactic(auto, unfolding(crate::specs::Operators::own_in))]
-fn read_any_own<'v>(alloc: Global, value: &'v Json) -> Result<Own<'v>, Misread>
-    ensures { Parses own_form result (own_in (view value.now)) }
+fn read_any_own<'v>(alloc: Global, levels: u32, value: &'v Json) -> Result<Own<'v>, Misread>
+    ensures { Parses own_form result (own_in levels (view value.now)) }
 {
-    read_node_of(alloc, get_text_at(value, "op")?, value)
+    read_node_of(alloc, levels, get_text_at(value, "op")?, value)
 }
 
 /// What a value says of a node, if it is a node. In a plan that asks for what is known of its columns, a claim has at most
-/// 16 keys.
+/// 16 keys. What stands in the objects of functions has so many levels of JSON at most.
 #[tactic(auto, unfolding(crate::specs::Operators::own_under))]
-pub fn read_own<'v>(alloc: Global, derives: bool, value: &'v Json) -> Result<Own<'v>, Misread>
-    ensures { Parses own_form result (own_under derives (view value.now)) }
+pub fn read_own<'v>(
+    alloc: Global,
+    derives: bool,
+    levels: u32,
+    value: &'v Json,
+) -> Result<Own<'v>, Misread>
+    ensures { Parses own_form result (own_under derives levels (view value.now)) }
 {
-    let own = read_any_own(alloc, value)?;
+    let own = read_any_own(alloc, levels, value)?;
     if derives && own.claim().keys.len() > MAX_KEYS {
         return Err(Misread::NotOfForm);
     }
@@ -573,13 +599,13 @@ pub fn put_unary(members: &mut Members, alloc: Global, unary: &NamedUnary) -> Re
     ensures { OnOk result (members_view members.new.entries ≡ with_unary (unary_form unary.now) (members_view members.old.entries)) }
 {
     match unary {
-        NamedUnary::Select(conditions) => {
+        NamedUnary::Select(filters) => {
             put_text(members, alloc, "op", "select")?;
-            put_list(members, alloc, "where", conditions.as_slice())
+            put_list(members, alloc, "where", filters.as_slice())
         }
-        NamedUnary::Project(outputs) => {
+        NamedUnary::Project(entries) => {
             put_text(members, alloc, "op", "project")?;
-            put_list(members, alloc, "columns", outputs.as_slice())
+            put_list(members, alloc, "columns", entries.as_slice())
         }
         NamedUnary::Distinct(outputs) => {
             put_text(members, alloc, "op", "distinct")?;

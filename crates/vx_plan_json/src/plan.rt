@@ -1,7 +1,7 @@
 //! Plans as their documents say them: relations, columns, sizes and ranges by name.
 
 use vx_catalog_json::OrderText;
-use vx_rows_values::{Test, Value};
+use vx_rows_values::{ColType, Test, Value};
 
 /// How rows lie on workers, as a claim says it.
 #[derive(Drop)]
@@ -57,6 +57,33 @@ pub struct NamedOutput {
     pub renamed: Option<String>,
 }
 
+/// What is computed of a row.
+#[derive(Drop)]
+pub enum NamedOperand {
+    /// The value in a column.
+    Column(String),
+    /// The same value for every row.
+    Constant(Value),
+    /// What the function of this name answers of these operands. The type of the answer is what the plan says.
+    Call(String, ColType, Vec<NamedOperand>),
+}
+
+/// A condition of a select.
+#[derive(Drop)]
+pub enum NamedFilter {
+    Compared(NamedCondition),
+    /// A function that answers a number: it holds where that is another than 0.
+    Computed(NamedOperand),
+}
+
+/// A column of a projection's output.
+#[derive(Drop)]
+pub enum NamedEntry {
+    Kept(NamedOutput),
+    /// What is computed, which is no column as it is, and its name.
+    Made(NamedOperand, String),
+}
+
 /// What is computed of the rows of a group.
 #[derive(Drop)]
 pub enum NamedFunction {
@@ -96,8 +123,8 @@ impl Drop for NamedScan {
 /// An operator over one input. A group in two phases is a partial group, exchanges and partial sorts, and a final group that has the columns
 /// and the aggregates of the partial one.
 pub enum NamedUnary {
-    Select(Vec<NamedCondition>),
-    Project(Vec<NamedOutput>),
+    Select(Vec<NamedFilter>),
+    Project(Vec<NamedEntry>),
     Distinct(Vec<NamedOutput>),
     Sort(Vec<OrderText>),
     PartialSort(Vec<OrderText>),

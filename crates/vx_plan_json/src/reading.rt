@@ -1,6 +1,6 @@
 //! Plans from JSON values and texts.
 
-ghost use Rattle.std.specs.Prelude.{◌≡◌, ◌+◌, ◌++◌, string_bytes, IfOk};
+ghost use Rattle.std.specs.Prelude.{◌≡◌, ◌<◌, ◌≤◌, ◌+◌, ◌++◌, string_bytes, IfOk};
 ghost use Rattle.serde_json.specs.View.{view};
 ghost use Rattle.vx_catalog_json.specs.Look.{Parses};
 ghost use Rattle.vx_plan_json.specs.Fault.{Gives};
@@ -8,6 +8,8 @@ ghost use Rattle.vx_plan_json.specs.Document.{tree_of};
 ghost use Rattle.vx_rows_values.specs.Ranges.{RangeForm, range_form};
 ghost use Rattle.vx_plan_json.specs.Reading.{node_in, declared_in, head_in, head_form, document_in, document_of_text};
 ghost use Rattle.vx_plan_json.specs.PlanView.{document_of};
+ghost use Rattle.vx_plan_json.specs.Formed.{levels_left};
+ghost use Rattle.vx_rows_values.specs.Limits.{max_levels};
 
 use crate::document::Plan;
 use crate::fault::PlanFault;
@@ -52,6 +54,15 @@ fn path_of(alloc: Global, path: &str, step: &str) -> Result<String, AllocError>
     Ok(below)
 }
 
+// How many levels of JSON the operands of a node may have below which so many levels of nodes may stand. A text has 127, of
+// which the document has one and each node one; 60 are left below the lowest node, its list and an object in that.
+fn levels_left(below: u32) -> u32
+    requires { below < max_levels }
+    ensures { result ≡ levels_left below }
+{
+    below + 60
+}
+
 // The tree of an input, which is a step below the operator with this path.
 #[cycle(nodes)]
 fn read_input(
@@ -63,6 +74,7 @@ fn read_input(
     step: &str,
     value: &Json,
 ) -> Result<(Box<Node>, u32), PlanFault>
+    requires { levels ≤ max_levels }
     ensures { Gives (λ r. (tree_of r.0.value, r.1)) result (node_in derives levels seen (path.now ++ step.now) (view value.now)) }
 {
     let below = path_of(alloc, path, step)?;
@@ -81,12 +93,14 @@ pub fn read_node(
     path: &str,
     value: &Json,
 ) -> Result<(Node, u32), PlanFault>
+    requires { levels ≤ max_levels }
     ensures { Gives (λ r. (tree_of r.0, r.1)) result (node_in derives levels seen path.now (view value.now)) }
 {
     if levels == 0 || seen >= MAX_NODES {
         return Err(PlanFault::TooDeep);
     }
-    let own = match read_own(alloc, derives, value) {
+    let below = levels - 1;
+    let own = match read_own(alloc, derives, levels_left(below), value) {
         Ok(own) => own,
         Err(Misread::NoMemory) => return Err(PlanFault::NoMemory),
         Err(Misread::NotOfForm) => {
@@ -94,7 +108,6 @@ pub fn read_node(
             return Err(PlanFault::BadNode { path });
         }
     };
-    let below = levels - 1;
     match own {
         Own::Scan(claim, scan) => Ok((Node::Scan(claim, scan), seen + 1)),
         Own::Unary(claim, unary, input) => {

@@ -23,8 +23,8 @@ erased-closed i (scan n c r m z) = refl
 erased-closed i (unary n c op p) = go (is_final op) (erased-closed i p)
   where
     plain_op : (op : Unary) (below : Bool) → unary_open (at_once op) below ≡ false
-    plain_op (select cs) below = refl
-    plain_op (project cols) below = refl
+    plain_op (select fs) below = refl
+    plain_op (project es) below = refl
     plain_op (distinct cols) below = refl
     plain_op (sort of_parts order) below = refl
     plain_op (group phase by aggregates) below = refl
@@ -90,8 +90,8 @@ final-types-of ts by aggregates =
 
 pub final-types : (catalog : ℕ → Relation) (keys : List ℕ) (puts : List Aggregate) (p : Plan) → opens keys puts p ≡ true → unary_types (group final keys puts) (types_of catalog p) ≡ types_of catalog p
 final-types catalog keys puts (scan n c r m z) e = absurd (true≢false (sym e))
-final-types catalog keys puts (unary n c (select cs) p) e = absurd (true≢false (sym e))
-final-types catalog keys puts (unary n c (project cols) p) e = absurd (true≢false (sym e))
+final-types catalog keys puts (unary n c (select fs) p) e = absurd (true≢false (sym e))
+final-types catalog keys puts (unary n c (project es) p) e = absurd (true≢false (sym e))
 final-types catalog keys puts (unary n c (distinct cols) p) e = absurd (true≢false (sym e))
 final-types catalog keys puts (unary n c (sort false order) p) e = absurd (true≢false (sym e))
 final-types catalog keys puts (unary n c (sort true order) p) e =
@@ -111,24 +111,24 @@ final-types catalog keys puts (binary n c op p q) e = absurd (true≢false (sym 
 final-types catalog keys puts (exchange n c k m p) e = final-types catalog keys puts p e
 
 pub once-types : (op : Unary) (ts : List ColType) → unary_types (at_once op) ts ≡ unary_types op ts
-once-types (select cs) ts = refl
-once-types (project cols) ts = refl
+once-types (select fs) ts = refl
+once-types (project es) ts = refl
 once-types (distinct cols) ts = refl
 once-types (sort of_parts order) ts = refl
 once-types (group phase by aggregates) ts = refl
 once-types (limit m) ts = refl
 
 once-unary : (op : Unary) (ts : List ColType) → is_unary ts (at_once op) ≡ is_unary ts op
-once-unary (select cs) ts = refl
-once-unary (project cols) ts = refl
+once-unary (select fs) ts = refl
+once-unary (project es) ts = refl
 once-unary (distinct cols) ts = refl
 once-unary (sort of_parts order) ts = refl
 once-unary (group phase by aggregates) ts = refl
 once-unary (limit m) ts = refl
 
 once-fits : (op : Unary) (p : Plan) → is_open p ≡ false → phase_fits (at_once op) p ≡ true
-once-fits (select cs) p e = ap not e
-once-fits (project cols) p e = ap not e
+once-fits (select fs) p e = ap not e
+once-fits (project es) p e = ap not e
 once-fits (distinct cols) p e = ap not e
 once-fits (sort of_parts order) p e = ap not e
 once-fits (group phase by aggregates) p e = ap not e
@@ -152,8 +152,8 @@ erased-types s i (unary n c op p) h =
 
     go : (op : Unary) → phase_fits op p ≡ true → ((j : ℕ) → types_of (relation_at s.catalog) (erase_from j p) ≡ types_of (relation_at s.catalog) p)
         → types_of (relation_at s.catalog) (erase_from i (unary n c op p)) ≡ types_of (relation_at s.catalog) (unary n c op p)
-    go (select cs) f ih = over (select cs) ih
-    go (project cols) f ih = over (project cols) ih
+    go (select fs) f ih = over (select fs) ih
+    go (project es) f ih = over (project es) ih
     go (distinct cols) f ih = over (distinct cols) ih
     go (sort of_parts order) f ih = over (sort of_parts order) ih
     go (group plain by aggregates) f ih = over (group plain by aggregates) ih

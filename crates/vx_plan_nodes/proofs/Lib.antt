@@ -3,3 +3,4 @@ pub mod HalfFacts
 pub mod PhaseEqual
 pub mod ErasedFacts
 pub mod OutputFacts
+pub mod ExpressionFacts

@@ -1,6 +1,7 @@
 -- The descriptions of operators, as the program holds them.
 use Rattle.std.specs.Prelude.{ℕ, List, map, length, option_map}
-use Rattle.vx_plan_nodes.specs.Describe.{Copying, whole_rows, columns_kept, left_of, right_of, no_columns, OrderAfter, order_kept, sorted_on, KeysAfter, keys_kept, key_of_first, no_key, Described, Meeting, side_by_side, paired_on, matched_on, DescribedBoth}
+use Rattle.vx_plan_nodes.specs.Describe.{Copying, whole_rows, columns_kept, entries_kept, kept_column, left_of, right_of, no_columns, OrderAfter, order_kept, sorted_on, KeysAfter, keys_kept, key_of_first, no_key, Described, Meeting, side_by_side, paired_on, matched_on, DescribedBoth}
+use Rattle.vx_plan_nodes.specs.Outline.{entry_of}
 use Rattle.vx_plan_nodes.specs.declared.describe.KeptColumns as rust_kept
 use Rattle.vx_plan_nodes.specs.declared.describe.KeptColumns.TheVariants as kept
 use Rattle.vx_plan_nodes.specs.declared.describe.Copying as rust_copying
@@ -22,6 +23,7 @@ kept_columns (kept.Keys by) = by.now
 abbrev pub copying_of : rust_copying.Copying → Copying
 copying_of copies.WholeRows = whole_rows
 copying_of (copies.Kept k) = columns_kept (kept_columns k)
+copying_of (copies.Entries entries) = entries_kept (map (λ e. kept_column (entry_of e)) entries.now)
 copying_of (copies.Left types) = left_of (length types.now)
 copying_of (copies.Right types) = right_of (length types.now)
 copying_of copies.NoColumns = no_columns

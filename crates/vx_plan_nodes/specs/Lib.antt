@@ -3,6 +3,7 @@ pub mod Parts
 pub mod Types
 pub mod Describe
 pub mod Numbering
+pub mod Expressions
 pub mod Serial
 pub mod Phases
 pub mod Erase
@@ -12,6 +13,7 @@ pub mod Runs
 pub mod Outline
 pub mod Conditions
 pub mod Typed
+pub mod Known
 pub mod Outputs
 pub mod OutputProps
 pub mod Names

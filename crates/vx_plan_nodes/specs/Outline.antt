@@ -1,10 +1,10 @@
 -- Typed plans with the names that they keep, and the plan of the definitions that each stands for.
-use Rattle.std.specs.Prelude.{ℕ, List, [], map, Bool, true, false, string_bytes}
+use Rattle.std.specs.Prelude.{ℕ, List, [], map, Bool, true, false, string_bytes, option_and_then}
 use Rattle.vx_rows_values.specs.declared.order.OrderEntry.{OrderEntry}
 use Rattle.std.specs.Arc.{arc_value}
 use Rattle.vx_rows_values.specs.declared.value.ColType.{ColType}
 use Rattle.vx_rows_values.specs.ValueView.{val_of, test_of}
-use Rattle.vx_plan_nodes.specs.Plan.{Size, one_worker, group_of, Route, by_hash, by_range, Part, one, any, all, routed, Claim, Side, column, constant, Condition, Aggregate, least, greatest, sum, count_rows, Unary, select, project, distinct, sort, group, limit, Phase, plain, partial, final, by_hashing, by_merging, Binary, union, join, semi_join, ExchangeKind, route_to, round, broadcast, gather, concat, Plan}
+use Rattle.vx_plan_nodes.specs.Plan.{Size, one_worker, group_of, Route, by_hash, by_range, Part, one, any, all, routed, Claim, Side, column, constant, Condition, Function, Expression, input, value, call, Operands, no_operands, operand, Filter, comparing, computing, Entry, copy_of, made_by, Aggregate, least, greatest, sum, count_rows, Unary, select, project, distinct, sort, group, limit, Phase, plain, partial, final, by_hashing, by_merging, Binary, union, join, semi_join, ExchangeKind, route_to, round, broadcast, gather, concat, Plan}
 use Rattle.vx_plan_nodes.specs.Plan as plan
 use Rattle.vx_rows_values.specs.Values.{Name}
 use Rattle.vx_plan_nodes.specs.declared.typed.Size as rust_size
@@ -17,6 +17,14 @@ use Rattle.vx_plan_nodes.specs.declared.typed.Claim as rust_claim
 use Rattle.vx_plan_nodes.specs.declared.typed.Side as rust_side
 use Rattle.vx_plan_nodes.specs.declared.typed.Side.TheVariants as side
 use Rattle.vx_plan_nodes.specs.declared.typed.Condition as rust_condition
+use Rattle.vx_functions.specs.Standard.{named, signature, meaning}
+use Rattle.vx_plan_nodes.specs.declared.typed.Expression as rust_expression
+use Rattle.vx_plan_nodes.specs.declared.typed.Expression.{Row_of-Expression, end_of-Expression, more_of-Expression}
+use Rattle.vx_plan_nodes.specs.declared.typed.Expression.TheVariants as expression
+use Rattle.vx_plan_nodes.specs.declared.typed.Filter as rust_filter
+use Rattle.vx_plan_nodes.specs.declared.typed.Filter.TheVariants as filter
+use Rattle.vx_plan_nodes.specs.declared.typed.Entry as rust_entry
+use Rattle.vx_plan_nodes.specs.declared.typed.Entry.TheVariants as entry
 use Rattle.vx_plan_nodes.specs.declared.typed.Aggregate as rust_aggregate
 use Rattle.vx_plan_nodes.specs.declared.typed.Aggregate.TheVariants as aggregate
 use Rattle.vx_plan_nodes.specs.declared.typed.Columns as rust_columns
@@ -95,6 +103,37 @@ side_of (side.Constant v) = constant (val_of v)
 abbrev pub condition_of : rust_condition.Condition → Condition
 condition_of c = record { left = c.left; test = test_of c.test; right = side_of c.right }
 
+-- the function of this name: one of the program's, or else one that takes no values
+abbrev pub function_of : Name → Function
+function_of name = record {
+  name = name;
+  signature = λ types. option_and_then (λ f. signature f types) (named name);
+  answer = λ values. option_and_then (λ f. meaning f values) (named name);
+}
+
+abbrev mutual
+  pub expression_of : rust_expression.Expression → Expression
+  expression_of (expression.Input c) = input c
+  expression_of (expression.Value v) = value (val_of v)
+  expression_of (expression.Call' name t shape es) = call (function_of (string_bytes name)) t (operands_of es)
+
+  pub operands_of : {n : _} → Row_of-Expression n → Operands
+  operands_of end_of-Expression = no_operands
+  operands_of (more_of-Expression e es) = operand (expression_of e) (operands_of es)
+
+abbrev pub filter_of : rust_filter.Filter → Filter
+filter_of (filter.Compared c) = comparing (condition_of c)
+filter_of (filter.Computed e) = computing (expression_of (arc_value e))
+
+abbrev pub entry_of : rust_entry.Entry → Entry
+entry_of (entry.Kept k) = copy_of k.column
+entry_of (entry.Made e) = made_by (expression_of (arc_value e))
+
+-- whether it has a name that is not its input column's
+abbrev pub is_renamed : rust_entry.Entry → Bool
+is_renamed (entry.Kept k) = k.renamed
+is_renamed (entry.Made e) = true
+
 abbrev pub aggregate_of : rust_aggregate.Aggregate → Aggregate
 aggregate_of (aggregate.Least c) = least c
 aggregate_of (aggregate.Greatest c) = greatest c
@@ -117,17 +156,17 @@ is_of_parts sort_phase.Plain = false
 is_of_parts sort_phase.Partial = true
 
 abbrev pub unary_of : rust_unary.Unary → Unary
-unary_of (op.Select conditions) = select (map condition_of conditions.items)
-unary_of (op.Project kept) = project (map (λ k. k.column) kept.items)
+unary_of (op.Select filters) = select (map filter_of filters.items)
+unary_of (op.Project entries) = project (map entry_of entries.items)
 unary_of (op.Distinct kept) = distinct (map (λ k. k.column) kept.items)
 unary_of (op.Sort phase cols) = sort (is_of_parts phase) cols.items
 unary_of (op.Group phase by aggregates) = group (phase_of phase) by.items (map aggregate_of aggregates.items)
 unary_of (op.Limit n) = limit n
 
--- which kept columns have a new name
+-- which kept columns have a new name; one that is computed always has
 abbrev pub renamed_of : rust_unary.Unary → List Bool
-renamed_of (op.Select conditions) = []
-renamed_of (op.Project kept) = map (λ k. k.renamed) kept.items
+renamed_of (op.Select filters) = []
+renamed_of (op.Project entries) = map is_renamed entries.items
 renamed_of (op.Distinct kept) = map (λ k. k.renamed) kept.items
 renamed_of (op.Sort phase cols) = []
 renamed_of (op.Group phase by aggregates) = []

@@ -1,7 +1,8 @@
 -- Typed plans: columns by position, nodes by their numbers in preorder. The exchange is Graefe's: producers below it, consumers above it.
-use Rattle.std.specs.Prelude.{ℕ, ◌==◌, Bool, true, false, List, map}
+use Rattle.std.specs.Prelude.{ℕ, ◌==◌, Bool, true, false, List, map, Option}
 use Rattle.vx_rows_values.specs.Order.{in_directions}
 use Rattle.vx_rows_values.specs.declared.order.OrderEntry.{OrderEntry}
+use Rattle.vx_rows_values.specs.declared.value.ColType.{ColType}
 use Rattle.vx_rows_values.specs.Values.{Val}
 pub use Rattle.vx_rows_values.specs.Test.{Test, equal, unequal, below, at_most, above, at_least}
 
@@ -39,6 +40,34 @@ pub record Condition : Type 0 where
   pub test : Test
   pub right : Side
 
+-- a function of values: its name; the type of its answer of values of these types, none if it takes no such values; and what it answers, none if it overflows
+pub record Function : Type 0 where
+  pub name : List ℕ
+  pub signature : List ColType → Option ColType
+  pub answer : List Val → Option Val
+
+-- what is computed of a row: the value in one of its columns, a value that is always the same, or what a function answers of other expressions,
+-- with the type that the plan says of it
+mutual
+  pub data Expression : Type 0 where
+    input : ℕ → Expression
+    value : Val → Expression
+    call : Function → ColType → Operands → Expression
+
+  pub data Operands : Type 0 where
+    no_operands : Operands
+    operand : Expression → Operands → Operands
+
+-- a condition of a select: a comparison, or an expression that is to answer a number other than 0
+pub data Filter : Type 0 where
+  comparing : Condition → Filter
+  computing : Expression → Filter
+
+-- a column of a projection's output: a column of the input, or what an expression answers
+pub data Entry : Type 0 where
+  copy_of : ℕ → Entry
+  made_by : Expression → Entry
+
 -- the least, the greatest or the sum of a column, or how many rows
 pub data Aggregate : Type 0 where
   least : ℕ → Aggregate
@@ -52,12 +81,12 @@ pub data Phase : Type 0 where
   partial : Phase
   final : Phase
 
--- operators over one input; of a projection, a distinct and a group the columns are those of the input that are kept.
+-- operators over one input; of a distinct and a group the columns are those of the input that are kept.
 -- A sort of parts stands between a partial grouping and its final one. A final grouping has the columns and the aggregates that it takes from its partial's output.
 -- A limit takes so many first rows
 pub data Unary : Type 0 where
-  select : List Condition → Unary
-  project : List ℕ → Unary
+  select : List Filter → Unary
+  project : List Entry → Unary
   distinct : List ℕ → Unary
   sort : (of_parts : Bool) → List OrderEntry → Unary
   group : Phase → List ℕ → List Aggregate → Unary

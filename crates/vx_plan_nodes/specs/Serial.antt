@@ -7,7 +7,8 @@ use Rattle.vx_rows_values.specs.Values.{Val, num, text, Row, val_cmp, row_eq, va
 use Rattle.vx_rows_values.specs.Order.{sort_on}
 use Rattle.vx_rows_values.specs.Types.{fits_64}
 use Rattle.vx_rows_values.specs.Bags.{total, count}
-use Rattle.vx_plan_nodes.specs.Plan.{Side, column, constant, Test, equal, unequal, below, at_most, above, at_least, Condition, Aggregate, least, greatest, sum, count_rows, Unary, select, project, distinct, sort, group, limit, Binary, union, join, semi_join, Plan, scan, unary, binary, exchange, partial}
+use Rattle.vx_plan_nodes.specs.Expressions.{answer, is_answered, answered, says_yes}
+use Rattle.vx_plan_nodes.specs.Plan.{Side, column, constant, Test, equal, unequal, below, at_most, above, at_least, Condition, Filter, comparing, computing, Entry, copy_of, made_by, Aggregate, least, greatest, sum, count_rows, Unary, select, project, distinct, sort, group, limit, Binary, union, join, semi_join, Plan, scan, unary, binary, exchange, partial}
 
 -- the value of a condition's right side
 abbrev pub side : Side → Row → Val
@@ -23,9 +24,49 @@ answers at_most o = is_le o
 answers above o = is_gt o
 answers at_least o = is_ge o
 
--- all conditions hold of the row
+-- a comparison holds of the row
+abbrev pub compares : Condition → Row → Bool
+compares c row = answers c.test (val_cmp (value_at row c.left) (side c.right row))
+
+-- all comparisons hold of the row
 abbrev pub passes : List Condition → Row → Bool
-passes cs row = list_all (λ c. answers c.test (val_cmp (value_at row c.left) (side c.right row))) cs
+passes cs row = list_all (λ c. compares c row) cs
+
+-- a condition of a select holds of the row
+abbrev pub filter_holds : Filter → Row → Bool
+filter_holds (comparing c) row = compares c row
+filter_holds (computing e) row = says_yes (answer e row)
+
+abbrev pub filters_hold : List Filter → Row → Bool
+filters_hold fs row = list_all (λ f. filter_holds f row) fs
+
+-- nothing overflows in it
+abbrev pub filter_fits : Filter → Row → Bool
+filter_fits (comparing c) row = true
+filter_fits (computing e) row = is_answered (answer e row)
+
+abbrev pub filters_fit : List Filter → Row → Bool
+filters_fit fs row = list_all (λ f. filter_fits f row) fs
+
+-- a column of a projection's output
+abbrev pub entry_value : Entry → Row → Val
+entry_value (copy_of c) row = value_at row c
+entry_value (made_by e) row = answered (answer e row)
+
+abbrev pub entries_row : List Entry → Row → Row
+entries_row es row = map (λ e. entry_value e row) es
+
+-- nothing overflows in it
+abbrev pub entry_fits : Entry → Row → Bool
+entry_fits (copy_of c) row = true
+entry_fits (made_by e) row = is_answered (answer e row)
+
+abbrev pub entries_fit : List Entry → Row → Bool
+entries_fit es row = list_all (λ e. entry_fits e row) es
+
+-- a list, or none where something overflows in one of these rows
+abbrev pub where_fit : (fits : Row → Bool) → (xs : List Row) → List Row → Option (List Row)
+where_fit fits xs ys = cond (list_all fits xs) (Some ys) None
 
 -- the first occurrence of each row
 abbrev pub firsts : List Row → List Row
@@ -130,8 +171,8 @@ group_rows by aggregates xs =
 
 -- the list that an operator makes of its input's list, or none on overflow
 abbrev pub unary_rows : Unary → List Row → Option (List Row)
-unary_rows (select cs) xs = Some (filter (passes cs) xs)
-unary_rows (project cols) xs = Some (map (pick cols) xs)
+unary_rows (select fs) xs = where_fit (filters_fit fs) xs (filter (filters_hold fs) xs)
+unary_rows (project es) xs = where_fit (entries_fit es) xs (map (entries_row es) xs)
 unary_rows (distinct cols) xs = Some (firsts (map (pick cols) xs))
 unary_rows (sort of_parts cols) xs = Some (sort_on cols xs)
 unary_rows (group phase by aggregates) xs = group_rows by aggregates xs

@@ -11,8 +11,8 @@ use Rattle.vx_rows_values.specs.Values.{Val, val_cmp}
 use Rattle.vx_rows_values.specs.Types.{type_of, type_at, is_held}
 use Rattle.vx_catalog_relations.specs.Relation.{Relation}
 use Rattle.vx_catalog_relations.specs.Catalog.{relation_at, all_below, are_distinct}
-use Rattle.vx_plan_nodes.specs.Plan.{Size, one_worker, group_of, Route, by_hash, by_range, Part, routed, Claim, Side, column, constant, Condition, Aggregate, least, greatest, sum, count_rows, Unary, select, project, distinct, sort, group, limit, JoinMethod, by_hashing, by_merging, Binary, union, join, semi_join, ExchangeKind, route_to, round, broadcast, gather, Plan, scan, unary, binary, exchange, concat}
-use Rattle.vx_plan_nodes.specs.Types.{types_of}
+use Rattle.vx_plan_nodes.specs.Plan.{Size, one_worker, group_of, Route, by_hash, by_range, Part, routed, Claim, Side, column, constant, Condition, Expression, input, value, call, Operands, no_operands, operand, Filter, comparing, computing, Entry, copy_of, made_by, Aggregate, least, greatest, sum, count_rows, Unary, select, project, distinct, sort, group, limit, JoinMethod, by_hashing, by_merging, Binary, union, join, semi_join, ExchangeKind, route_to, round, broadcast, gather, Plan, scan, unary, binary, exchange, concat}
+use Rattle.vx_plan_nodes.specs.Types.{expression_type, types_of}
 use Rattle.vx_plan_nodes.specs.Numbering.{is_numbered}
 use Rattle.vx_plan_nodes.specs.Phases.{phase_fits, both_closed, is_open}
 use Rattle.vx_rows_values.specs.Limits.{max_columns, max_size_names}
@@ -89,6 +89,26 @@ is_side types t (constant v) = is_held v && type_eq t (type_of v)
 abbrev pub is_condition : List ColType → Condition → Bool
 is_condition types c = nat_lt c.left (length types) && is_side types (type_at types c.left) c.right
 
+-- columns there are; functions may have any name, and take what they are given
+abbrev mutual
+  pub is_expression : List ColType → Expression → Bool
+  is_expression types (input c) = nat_lt c (length types)
+  is_expression types (value v) = is_held v
+  is_expression types (call f t es) = are_operands types es
+
+  pub are_operands : List ColType → Operands → Bool
+  are_operands types no_operands = true
+  are_operands types (operand e es) = is_expression types e && are_operands types es
+
+-- an expression that is a condition is a number
+abbrev pub is_filter : List ColType → Filter → Bool
+is_filter types (comparing c) = is_condition types c
+is_filter types (computing e) = is_expression types e && type_eq (expression_type types e) Int
+
+abbrev pub is_entry : List ColType → Entry → Bool
+is_entry types (copy_of c) = nat_lt c (length types)
+is_entry types (made_by e) = is_expression types e
+
 -- only numbers are summed
 abbrev pub is_aggregate : List ColType → Aggregate → Bool
 is_aggregate types (least c) = nat_lt c (length types)
@@ -98,8 +118,8 @@ is_aggregate types count_rows = true
 
 -- columns there are, in lists with an entry where one is asked for
 abbrev pub is_unary : List ColType → Unary → Bool
-is_unary types (select cs) = is_some_list cs && list_all (is_condition types) cs
-is_unary types (project cols) = is_some_list cols && all_below (length types) cols
+is_unary types (select fs) = is_some_list fs && list_all (is_filter types) fs
+is_unary types (project es) = is_some_list es && list_all (is_entry types) es
 is_unary types (distinct cols) = is_some_list cols && all_below (length types) cols
 is_unary types (sort of_parts order) = is_some_list order && are_columns (length types) (order_columns order)
 is_unary types (group phase by aggregates) =

@@ -4,10 +4,10 @@ use Rattle.vx_rows_values.specs.Order.{order_columns}
 use Rattle.std.specs.List.{list_all}
 use Rattle.vx_rows_values.specs.declared.value.ColType.{ColType}
 use Rattle.vx_rows_values.specs.declared.value.ColType.TheVariants.{Int}
-use Rattle.vx_rows_values.specs.Types.{type_at}
+use Rattle.vx_rows_values.specs.Types.{type_of, type_at}
 use Rattle.vx_catalog_relations.specs.Relation.{Relation}
 use Rattle.vx_catalog_relations.specs.Catalog.{all_below}
-use Rattle.vx_plan_nodes.specs.Plan.{Part, routed, Claim, Aggregate, least, greatest, sum, count_rows, Unary, select, project, distinct, sort, group, limit, Binary, union, join, semi_join, Plan, scan, unary, binary, exchange}
+use Rattle.vx_plan_nodes.specs.Plan.{Part, routed, Claim, Expression, input, value, call, Entry, copy_of, made_by, Aggregate, least, greatest, sum, count_rows, Unary, select, project, distinct, sort, group, limit, Binary, union, join, semi_join, Plan, scan, unary, binary, exchange}
 use Rattle.vx_plan_nodes.specs.Phases.{phase_fits, both_closed}
 
 -- a least and a greatest value have the column's type, a sum and a count are numbers
@@ -17,10 +17,20 @@ aggregate_type types (greatest c) = type_at types c
 aggregate_type types (sum c) = Int
 aggregate_type types count_rows = Int
 
+-- the type of an expression: of a function's answer the one that the plan says
+abbrev pub expression_type : List ColType → Expression → ColType
+expression_type types (input c) = type_at types c
+expression_type types (value v) = type_of v
+expression_type types (call f t es) = t
+
+abbrev pub entry_type : List ColType → Entry → ColType
+entry_type types (copy_of c) = type_at types c
+entry_type types (made_by e) = expression_type types e
+
 -- of an operator over one input with these types
 abbrev pub unary_types : Unary → List ColType → List ColType
-unary_types (select cs) types = types
-unary_types (project cols) types = map (type_at types) cols
+unary_types (select fs) types = types
+unary_types (project es) types = map (entry_type types) es
 unary_types (distinct cols) types = map (type_at types) cols
 unary_types (sort of_parts cols) types = types
 unary_types (group phase by aggregates) types = map (type_at types) by ++ map (aggregate_type types) aggregates
@@ -41,8 +51,8 @@ types_of catalog (exchange n c k m p) = types_of catalog p
 
 -- the same, counted
 abbrev pub unary_width : Unary → ℕ → ℕ
-unary_width (select cs) w = w
-unary_width (project cols) w = length cols
+unary_width (select fs) w = w
+unary_width (project es) w = length es
 unary_width (distinct cols) w = length cols
 unary_width (sort of_parts cols) w = w
 unary_width (group phase by aggregates) w = length by + length aggregates

@@ -2,18 +2,18 @@
 
 ghost use Rattle.std.specs.Prelude.{◌≡◌, ◌==◌, nat_le, cond, length, position, slice_get};
 ghost use Rattle.std.specs.List.{list_any};
-ghost use Rattle.vx_plan_nodes.specs.Describe.{place, right_of, key_of_first, keys_kept, described, described_both};
+ghost use Rattle.vx_plan_nodes.specs.Describe.{place, right_of, is_column, kept_column, key_of_first, keys_kept, described, described_both};
 ghost use Rattle.vx_plan_nodes.specs.DescribeView.{keys_after_of, described_of, described_both_of};
-ghost use Rattle.vx_plan_nodes.specs.Outline.{unary_of, binary_of};
+ghost use Rattle.vx_plan_nodes.specs.Outline.{entry_of, unary_of, binary_of};
 
-use crate::typed::{Binary, Phase, Projected, SortPhase, Unary};
+use crate::typed::{Binary, Entry, Phase, Projected, SortPhase, Unary};
 use vx_rows_values::limits::MAX_COLUMNS;
 use vx_rows_values::{ColType, OrderEntry};
 
 /// The columns of its input that an operator keeps.
 #[derive(Clone, Copy)]
 pub enum KeptColumns<'p> {
-    /// Those of a projection or a distinct.
+    /// Those of a distinct.
     Outputs(&'p [Projected]),
     /// The keys of a group.
     Keys(&'p [usize]),
@@ -26,6 +26,8 @@ pub enum Copying<'p> {
     WholeRows,
     /// They are those that are kept, as far as these go.
     Kept(KeptColumns<'p>),
+    /// They are those that these entries keep; what entries compute is no copy.
+    Entries(&'p [Entry]),
     /// The first ones are those of a left input, whose columns have these types.
     Left(&'p [ColType]),
     /// Those behind a left input's columns, which have these types, are those of a right input.
@@ -92,6 +94,38 @@ fn is_among_outputs(kept: &[Projected], column: usize) -> bool
     ensures { result ≡ list_any (λ k. column == k.column) kept.now }
 {
     kept.iter().any(|output| column == output.column)
+}
+
+impl Entry {
+    ghost use Rattle.vx_plan_nodes.specs.Describe.{kept_column};
+    ghost use Rattle.vx_plan_nodes.specs.Outline.{entry_of};
+
+    /// The column of the input that it keeps; none if it is computed.
+    pub fn kept_column(&self) -> Option<usize>
+        ensures { result ≡ kept_column (entry_of self.now) }
+    {
+        match self {
+            Entry::Kept(kept) => Some(kept.column),
+            Entry::Made(_) => None,
+        }
+    }
+}
+
+// Whether the entry keeps the column.
+fn keeps(entry: &Entry, column: usize) -> bool
+    ensures { result ≡ is_column column (kept_column (entry_of entry.now)) }
+{
+    match entry {
+        Entry::Kept(kept) => column == kept.column,
+        Entry::Made(_) => false,
+    }
+}
+
+// Where the first of the entries stands that keeps the column.
+fn place_of_entry(entries: &[Entry], column: usize) -> Option<usize>
+    ensures { result ≡ position (λ e. is_column column (kept_column (entry_of e))) entries.now }
+{
+    entries.iter().position(|entry| keeps(entry, column))
 }
 
 // Where the column first stands among the keys.
@@ -166,6 +200,7 @@ impl Copying<'_> {
         match self {
             Copying::WholeRows => Some(column),
             Copying::Kept(kept) => kept.get(column),
+            Copying::Entries(entries) => entries.get(column).and_then(|e| e.kept_column()),
             Copying::Left(types) => (column < types.len()).then_some(column),
             Copying::Right(types) => column.checked_sub(types.len()),
             Copying::NoColumns => None,
@@ -179,6 +214,7 @@ impl Copying<'_> {
         match self {
             Copying::WholeRows => Some(column),
             Copying::Kept(kept) => kept.position(column),
+            Copying::Entries(entries) => place_of_entry(entries, column),
             Copying::Left(types) => (column < types.len()).then_some(column),
             Copying::Right(types) => place_behind(types, column),
             Copying::NoColumns => None,
@@ -208,8 +244,8 @@ impl Unary {
                 order: OrderAfter::Kept,
                 keys: KeysAfter::Kept,
             },
-            Unary::Project(kept) => Described {
-                copying: Copying::Kept(KeptColumns::Outputs(kept.as_slice())),
+            Unary::Project(entries) => Described {
+                copying: Copying::Entries(entries.as_slice()),
                 meets: None,
                 order: OrderAfter::Kept,
                 keys: KeysAfter::Kept,

@@ -4,6 +4,7 @@
 mod conditions;
 mod describe;
 mod halves;
+mod known;
 mod name;
 mod outputs;
 mod parts;
@@ -11,16 +12,17 @@ mod router;
 mod typed;
 mod typed_plan;
 
-pub use conditions::copied_conditions;
+pub use conditions::{copied_conditions, copied_entries, copied_filters};
 pub use describe::{
     Copying, Described, DescribedBoth, KeptColumns, KeysAfter, Meeting, OrderAfter,
 };
+pub use known::first_unknown;
 pub use name::{Name, find_output_name, name_texts, share_names};
 pub use outputs::output_types;
 pub use parts::{copied_part, kind_part, routed_part};
 pub use router::Router;
 pub use typed::{
-    Aggregate, Binary, Claim, Columns, Condition, Exchange, ExchangeKind, Head, Part, Phase,
-    Projected, Route, ScanNode, Side, Size, SortPhase, TypedNode, Unary,
+    Aggregate, Binary, Claim, Columns, Condition, Entry, Exchange, ExchangeKind, Expression,
+    Filter, Head, Part, Phase, Projected, Route, ScanNode, Side, Size, SortPhase, TypedNode, Unary,
 };
 pub use typed_plan::{TypedParts, TypedPlan};

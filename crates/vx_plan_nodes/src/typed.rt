@@ -73,6 +73,25 @@ pub struct Condition {
     pub right: Side,
 }
 
+/// What is computed of a row by columns.
+#[derive(Drop)]
+pub enum Expression {
+    /// The value in a column.
+    Input(usize),
+    /// The same value for every row.
+    Value(Value),
+    /// What the function of this name answers of these operands. The type of the answer is what the plan says.
+    Call(String, ColType, Vec<Expression>),
+}
+
+/// A condition of a select.
+#[derive(Drop)]
+pub enum Filter {
+    Compared(Condition),
+    /// It holds where the answer is a number other than 0.
+    Computed(Arc<Expression>),
+}
+
 /// What is computed of the rows of a group.
 #[derive(Clone, Copy, PartialEq, Eq)]
 pub enum Aggregate {
@@ -91,6 +110,15 @@ pub enum Aggregate {
 pub struct Projected {
     pub column: usize,
     pub renamed: bool,
+}
+
+/// A column of a projection's output.
+#[derive(Drop)]
+pub enum Entry {
+    /// A column of the input.
+    Kept(Projected),
+    /// What is computed of each row.
+    Made(Arc<Expression>),
 }
 
 /// The columns of an output: as many names as types.
@@ -165,9 +193,9 @@ pub enum SortPhase {
 /// An operator over one input, by the columns of that input.
 pub enum Unary {
     /// The rows of which all conditions hold.
-    Select(Vec<Condition>),
-    /// These columns of each row.
-    Project(Vec<Projected>),
+    Select(Vec<Filter>),
+    /// These columns, kept and computed.
+    Project(Vec<Entry>),
     /// These columns of each row, each list of values once.
     Distinct(Vec<Projected>),
     /// The rows in this order; rows that are equal on its columns stay as they stood.

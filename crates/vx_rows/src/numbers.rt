@@ -1,6 +1,7 @@
 //! Numbers that take 4 bytes each while all of them fit 32 bits, and 8 bytes each from then on.
 
-ghost use Rattle.std.specs.Prelude.{◌≡◌, ◌<◌, ◌≤◌, ◌++◌, ◌∷◌, [], length, take, pos, slice_index_or, slice_range, OnOk, OnErr, IfOk, IfSome};
+ghost use Rattle.std.specs.Prelude.{◌≡◌, ℕ, true, ◌<◌, ◌≤◌, ◌++◌, ◌∷◌, [], length, take, pos, slice_index_or, slice_range, OnOk, OnErr, IfOk, IfSome};
+ghost use Rattle.vx_rows_values.specs.Types.{fits_64};
 ghost use Rattle.vx_rows.specs.View.{ArePositions};
 ghost use Rattle.vx_rows.specs.Numbers.{kept_numbers, seen_numbers, numbers_at, KeepsNumbers};
 
@@ -120,6 +121,15 @@ fn push_widened_at(
         wide.push(numbers[*i] as i64)?;
     }
     Ok(())
+}
+
+// Reads each number, and does nothing with it: so it is known that each has 64 bits.
+fn read_all(numbers: &[i64])
+    ensures { (k : ℕ) → k < length numbers.now → fits_64 (slice_index_or numbers.now k (pos 0)) ≡ true }
+{
+    for i in 0..numbers.len() {
+        let _number = numbers[i];
+    }
 }
 
 impl NumberWidth {
@@ -253,6 +263,17 @@ impl Numbers {
     {
         Numbers {
             width: NumberWidth::Narrow(Vec::new(alloc)),
+        }
+    }
+
+    /// These numbers, each of which takes 8 bytes.
+    pub(crate) fn of(numbers: Vec<i64>) -> Numbers
+        ensures same { result ≡ numbers.items }
+        ensures held { (k : ℕ) → k < length numbers.items → fits_64 (slice_index_or numbers.items k (pos 0)) ≡ true }
+    {
+        read_all(numbers.as_slice());
+        Numbers {
+            width: NumberWidth::Wide(numbers),
         }
     }
 

@@ -7,6 +7,8 @@ ghost use Rattle.vx_rows_values.specs.ValueView.{val_of, cell_val};
 ghost use Rattle.vx_rows.specs.View.{HasTypes, row, AreColumns, ArePositions};
 ghost use Rattle.vx_rows_values.specs.Types.{type_at, Fits};
 ghost use Rattle.vx_rows.specs.Columns.{column_type, size, entry, rows_of, AreRows};
+ghost use Rattle.vx_rows_values.specs.declared.value.ColType.TheVariants as kind;
+ghost use Rattle.vx_rows_values.specs.Values.{num};
 
 use crate::column::Column;
 use crate::numbers::Numbers;
@@ -95,6 +97,18 @@ impl Table {
             columns,
             count,
         }
+    }
+
+    /// Rows of one number each, these in order.
+    pub fn of_numbers(alloc: Global, numbers: Vec<i64>) -> Result<Table, AllocError>
+        ensures types { IfOk result (λ r. r.types ≡ kind.Int ∷ []) }
+        ensures rows { IfOk result (λ r. r.rows ≡ map (λ z. num z ∷ []) numbers.items) }
+    {
+        let count = numbers.len();
+        let types = Vec::from_slice(alloc, &[ColType::Int])?;
+        let mut columns = Vec::new(alloc);
+        columns.push(Column::Int(Numbers::of(numbers)))?;
+        Ok(Table::of_columns(types, columns, count))
     }
 
     /// How many rows there are.
@@ -279,8 +293,7 @@ impl Table {
 // The values of a column where they lie, for loops over one column.
 impl Table {
     ghost use Rattle.std.specs.Prelude.{ℕ, pos, slice_index_or, IfSome, IfNone};
-    ghost use Rattle.vx_rows_values.specs.declared.value.ColType.TheVariants as kind;
-    ghost use Rattle.vx_rows_values.specs.Values.{num, text};
+    ghost use Rattle.vx_rows_values.specs.Values.{text};
 
     /// The numbers of a column, that of row i at position i, where it has numbers. More may follow the last row's.
     pub fn numbers(&self, column: usize) -> Option<&Numbers>

@@ -10,19 +10,19 @@ abbrev pub Agrees : Type 0 → SerialResult → SerialResult → Type 0
 Agrees T (rows xs) o = o ≡ rows xs
 Agrees T (overflow n) o = (o ≡ overflow n) ⊎ T
 
+itself : (U : Type 0) (o : SerialResult) → Agrees U o o
+itself U (rows ys) = refl
+itself U (overflow k) = inl refl
+
 one-group : (T : Type 0) (n : ℕ) (by : List ℕ) (aggregates : List Aggregate) (xs : List Row) (b : Bool) → nat_lt 4611686018427387904 (length xs) ≡ b
     → Agrees (T ⊎ (4611686018427387904 < length xs)) (or_overflow n (cond b None (group_rows by aggregates xs))) (or_overflow n (group_rows by aggregates xs))
 one-group T n by aggregates xs true e = inr (inr (ltb-true 4611686018427387904 (length xs) e))
 one-group T n by aggregates xs false e = itself (T ⊎ (4611686018427387904 < length xs)) (or_overflow n (group_rows by aggregates xs))
-  where
-    itself : (U : Type 0) (o : SerialResult) → Agrees U o o
-    itself U (rows ys) = refl
-    itself U (overflow k) = inl refl
 
 one-operator : (T : Type 0) (n : ℕ) (op : Unary) (xs : List Row)
     → Agrees (T ⊎ IsTooLong op (rows xs)) (or_overflow n (evaluated_rows op xs)) (or_overflow n (unary_rows op xs))
-one-operator T n (select cs) xs = refl
-one-operator T n (project cols) xs = refl
+one-operator T n (select fs) xs = itself (T ⊎ ⊥) (or_overflow n (unary_rows (select fs) xs))
+one-operator T n (project es) xs = itself (T ⊎ ⊥) (or_overflow n (unary_rows (project es) xs))
 one-operator T n (distinct cols) xs = refl
 one-operator T n (sort of_parts order) xs = refl
 one-operator T n (limit m) xs = refl

@@ -3,6 +3,7 @@ use Rattle.std.specs.Prelude.{ℕ, ◌≡◌, ◌<◌, nat_lt, Bool, true, false
 use Rattle.vx_rows_values.specs.Values.{Row}
 use Rattle.vx_catalog_relations.specs.Relation.{Relation}
 use Rattle.vx_catalog_relations.specs.Catalog.{relation_at}
+use Rattle.vx_plan_nodes.specs.Known.{unary_known}
 use Rattle.vx_plan_nodes.specs.Plan.{Unary, group, Plan, scan, unary, binary, exchange}
 use Rattle.vx_plan_nodes.specs.Serial.{unary_rows, binary_rows, SerialResult, rows, or_overflow, after}
 use Rattle.vx_plan_nodes.specs.Typed.{is_unary, is_binary}
@@ -36,10 +37,11 @@ evaluated db (unary n c op p) = after (evaluated db p) (λ xs. or_overflow n (ev
 evaluated db (binary n c op p q) = after (evaluated db p) (λ xs. after (evaluated db q) (λ ys. rows (binary_rows op xs ys)))
 evaluated db (exchange n c k m p) = evaluated db p
 
--- what evaluation needs of a typed plan: relations there are, and operators that fit the types of their inputs
+-- what evaluation needs of a typed plan: relations there are, and operators that fit the types of their inputs, with functions that the program has
 abbrev pub IsFit : List Relation → Plan → Type 0
 IsFit catalog (scan n c r m z) = r < length catalog
-IsFit catalog (unary n c op p) = IsFit catalog p × (is_unary (types_of (relation_at catalog) p) op ≡ true)
+IsFit catalog (unary n c op p) =
+    IsFit catalog p × (is_unary (types_of (relation_at catalog) p) op ≡ true) × (unary_known (types_of (relation_at catalog) p) op ≡ true)
 IsFit catalog (binary n c op p q) =
     IsFit catalog p × IsFit catalog q × (is_binary (types_of (relation_at catalog) p) (types_of (relation_at catalog) q) op ≡ true)
 IsFit catalog (exchange n c k m p) = IsFit catalog p

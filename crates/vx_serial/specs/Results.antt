@@ -5,6 +5,7 @@ use Rattle.vx_rows.specs.View.{RowsView}
 use Rattle.vx_catalog_relations.specs.Catalog.{relation_at}
 use Rattle.vx_catalog.specs.Database.{Database, rows_at}
 use Rattle.vx_plan_nodes.specs.Outline.{plan_in}
+use Rattle.vx_plan_nodes.specs.Known.{first_unknown}
 use Rattle.vx_plan_nodes.specs.Plan.{Plan}
 use Rattle.vx_plan_nodes.specs.Names.{TypedPlanView}
 use Rattle.vx_plan_nodes.specs.Serial.{SerialResult, rows, overflow, serial, HasTooLong}
@@ -30,9 +31,14 @@ pub record IsPlain (p : TypedPlanView) (db : Database) : Type 0 where
   pub same : db.catalog ≡ p.names.catalog
   pub none : first_exchange (plan_in p.root) ≡ None
 
+-- the number of the first node with a function that the program does not have
+abbrev pub unknown_in : TypedPlanView → Option ℕ
+unknown_in p = first_unknown (relation_at p.names.catalog) (plan_in p.root)
+
 -- rows of a plan over a database: those of its serial meaning, of the output's types
 pub record IsSerialOf (p : TypedPlanView) (db : Database) (t : RowsView) : Type 0 where
   pub plain : IsPlain p db
+  pub known : unknown_in p ≡ None
   pub meaning : serial (rows_at db) (plan_in p.root) ≡ rows t.rows
   pub types : t.types ≡ types_of (relation_at p.names.catalog) (plan_in p.root)
 
@@ -41,9 +47,11 @@ pub record EndsAt (db : ℕ → List Row) (p : Plan) (node : ℕ) : Type 0 where
   pub first : evaluated db p ≡ overflow node
   pub real : (serial db p ≡ overflow node) ⊎ HasTooLong db p
 
--- why a plan has no rows over a database: another catalog, its first exchange, or the first overflow; want of memory may come anywhere
+-- why a plan has no rows over a database: another catalog, its first exchange, the first node with a function that the program does not have, or the first
+-- overflow; want of memory may come anywhere
 abbrev pub EvalFails : TypedPlanView → Database → EvalFault → Type 0
 EvalFails p db fault.OtherCatalog = db.catalog ≢ p.names.catalog
 EvalFails p db (fault.HasExchange node) = (db.catalog ≡ p.names.catalog) × (first_exchange (plan_in p.root) ≡ Some node)
-EvalFails p db (fault.Overflow node) = IsPlain p db × EndsAt (rows_at db) (plan_in p.root) node
+EvalFails p db (fault.BadFunction node) = IsPlain p db × (unknown_in p ≡ Some node)
+EvalFails p db (fault.Overflow node) = IsPlain p db × (unknown_in p ≡ None) × EndsAt (rows_at db) (plan_in p.root) node
 EvalFails p db fault.NoMemory = Unit {0}

@@ -15,7 +15,7 @@ use crate::operators::{binary_rows, unary_rows};
 use std::alloc::Global;
 use vx_catalog::Database;
 use vx_exec_setup::EvalFault;
-use vx_plan_nodes::{TypedNode, TypedPlan};
+use vx_plan_nodes::{TypedNode, TypedPlan, first_unknown};
 use vx_rows_views::Rows;
 
 // The rows of a node. Each input is read to its end, also where no further row can come of it. An exchange returns its
@@ -47,7 +47,8 @@ fn eval_node(alloc: Global, database: &Database, node: &TypedNode) -> Result<Row
 
 /// The rows of a plan without exchanges over a database of its catalog: those of its serial meaning.
 ///
-/// It is refused for another catalog first, then for its first exchange, then for the first node that overflows.
+/// It is refused for another catalog first, then for its first exchange, then for the first node with a function that the program does not have,
+/// then for the first node that overflows.
 pub fn eval(alloc: Global, plan: &TypedPlan, database: &Database) -> Result<Rows, EvalFault>
     ensures rows { IfOk result (IsSerialOf (resolved_of plan.now) database.now) }
     ensures refused { IfErr result (EvalFails (resolved_of plan.now) database.now) }
@@ -57,6 +58,10 @@ pub fn eval(alloc: Global, plan: &TypedPlan, database: &Database) -> Result<Rows
     }
     if let Some(node) = first_exchange(plan.root()) {
         return Err(EvalFault::HasExchange { node });
+    }
+    let unknown = first_unknown(alloc, plan.root())?;
+    if let Some(node) = unknown {
+        return Err(EvalFault::BadFunction { node });
     }
     eval_node(alloc, database, plan.root())
 }

@@ -6,8 +6,9 @@ ghost use Rattle.vx_rows_values.specs.Types.{type_at};
 ghost use Rattle.vx_rows_values.specs.Values.{pick};
 ghost use Rattle.vx_rows.specs.View.{AreColumns};
 ghost use Rattle.vx_plan_nodes.specs.Conditions.{conditions_of};
-ghost use Rattle.vx_plan_nodes.specs.Outline.{aggregate_of, unary_of, binary_of};
-ghost use Rattle.vx_plan_nodes.specs.Plan.{group, plain};
+ghost use Rattle.vx_plan_nodes.specs.Known.{unary_known};
+ghost use Rattle.vx_plan_nodes.specs.Outline.{filter_of, entry_of, aggregate_of, unary_of, binary_of};
+ghost use Rattle.vx_plan_nodes.specs.Plan.{select, project, group, plain};
 ghost use Rattle.vx_plan_nodes.specs.Serial.{binary_rows, firsts, join_rows, matched_rows};
 ghost use Rattle.vx_plan_nodes.specs.Typed.{is_unary, is_binary, is_pair};
 ghost use Rattle.vx_plan_nodes.specs.Types.{unary_types, binary_types};
@@ -19,8 +20,9 @@ use vx_exec_setup::EvalFault;
 use vx_match_grouping::{GroupFault, grouped};
 use vx_match_join::{Matching, hash_join, semi_join};
 use vx_match_keys::Seen;
-use vx_ops_kernels::{chosen, kept_columns, left_columns, right_columns, sorted_chunks};
-use vx_plan_nodes::{Aggregate, Binary, Condition, Unary, copied_conditions};
+use vx_ops_computing::{ComputeFault, filtered, projected};
+use vx_ops_kernels::{kept_columns, left_columns, right_columns, sorted_chunks};
+use vx_plan_nodes::{Aggregate, Binary, Condition, Entry, Filter, Unary, copied_conditions};
 use vx_rows_values::KeySeed;
 use vx_rows_views::Rows;
 
@@ -77,6 +79,40 @@ fn groups_of(
     }
 }
 
+// The rows of which all conditions hold, at the node with this number.
+fn selected(alloc: Global, number: u32, rows: &Rows, filters: &[Filter]) -> Result<Rows, EvalFault>
+    requires { unary_known rows.now.types (select (map filter_of filters.now)) ≡ true }
+    ensures types { IfOk result (λ t. t.types ≡ rows.now.types) }
+    ensures rows { IfOk result (λ t. evaluated_rows (select (map filter_of filters.now)) rows.now.rows ≡ Some t.rows) }
+    ensures fault { IfErr result (IsFaultAt number (evaluated_rows (select (map filter_of filters.now)) rows.now.rows)) }
+{
+    match filtered(alloc, rows, filters) {
+        Ok(found) => Ok(found),
+        Err(ComputeFault::Overflow) => Err(EvalFault::Overflow { node: number }),
+        Err(ComputeFault::NoMemory) => Err(EvalFault::NoMemory),
+    }
+}
+
+// These columns of each row, kept and computed, at the node with this number.
+fn with_entries(
+    alloc: Global,
+    number: u32,
+    rows: &Rows,
+    entries: &[Entry],
+) -> Result<Rows, EvalFault>
+    requires typed { is_unary rows.now.types (project (map entry_of entries.now)) ≡ true }
+    requires known { unary_known rows.now.types (project (map entry_of entries.now)) ≡ true }
+    ensures types { IfOk result (λ t. t.types ≡ unary_types (project (map entry_of entries.now)) rows.now.types) }
+    ensures rows { IfOk result (λ t. evaluated_rows (project (map entry_of entries.now)) rows.now.rows ≡ Some t.rows) }
+    ensures fault { IfErr result (IsFaultAt number (evaluated_rows (project (map entry_of entries.now)) rows.now.rows)) }
+{
+    match projected(alloc, rows, entries) {
+        Ok(found) => Ok(found),
+        Err(ComputeFault::Overflow) => Err(EvalFault::Overflow { node: number }),
+        Err(ComputeFault::NoMemory) => Err(EvalFault::NoMemory),
+    }
+}
+
 /// What the operator with this number makes of its input's rows. Keys are hashed by the seed.
 pub fn unary_rows(
     alloc: Global,
@@ -85,17 +121,15 @@ pub fn unary_rows(
     unary: &Unary,
     rows: &Rows,
 ) -> Result<Rows, EvalFault>
-    requires { is_unary rows.now.types (unary_of unary.now) ≡ true }
+    requires typed { is_unary rows.now.types (unary_of unary.now) ≡ true }
+    requires known { unary_known rows.now.types (unary_of unary.now) ≡ true }
     ensures types { IfOk result (λ t. t.types ≡ unary_types (unary_of unary.now) rows.now.types) }
     ensures rows { IfOk result (λ t. evaluated_rows (unary_of unary.now) rows.now.rows ≡ Some t.rows) }
     ensures fault { IfErr result (IsFaultAt number (evaluated_rows (unary_of unary.now) rows.now.rows)) }
 {
     match unary {
-        Unary::Select(conditions) => Ok(chosen(alloc, conditions.as_slice(), rows)?),
-        Unary::Project(kept) => {
-            let columns = kept_columns(alloc, kept.as_slice())?;
-            Ok(rows.project(alloc, columns.as_slice())?)
-        }
+        Unary::Select(filters) => selected(alloc, number, rows, filters.as_slice()),
+        Unary::Project(entries) => with_entries(alloc, number, rows, entries.as_slice()),
         Unary::Distinct(kept) => {
             let columns = kept_columns(alloc, kept.as_slice())?;
             Ok(distinct(alloc, seed, rows, columns.as_slice())?)

@@ -1,8 +1,9 @@
 use Rattle.std.proofs.Common.{rules, ◌≡◌, ◌∙◌, ap}
+use Rattle.vx_rows_values.specs.Limits.{max_levels}
 use Rattle.vx_plan_json.specs.PlanView.{document_of}
 use Rattle.vx_check_annotate.specs.Unclaimed.{without_claims, unclaimed}
 use Rattle.vx_check_annotate.specs.Claimed.{with_forms, forms_in}
-use Rattle.vx_check_annotate.proofs.TreeFacts.{same_nodes, same_levels, same_form}
+use Rattle.vx_check_annotate.proofs.TreeFacts.{same_nodes, same_levels, same_low, same_form}
 use Rattle.vx_check_annotate.proofs.ClaimedFacts.{without-with, unclaimed-with, unclaimed-none}
 use Rattle.vx_check_annotate.proofs.FewKeys.{tree-few}
 use Rattle.vx_check_annotate.proofs.rewriting.claimed_plan.Goals as goal
@@ -12,6 +13,9 @@ new-requires-clause-few c = rw (same_nodes _ _ (ap without_claims c.put_claims.e
 
 pub new-requires-clause-low : goal.new-requires-clause-low
 new-requires-clause-low c = rw (same_levels _ _ (ap without_claims c.put_claims.ensures.placed ∙ without-with _ _)) c.into_parts-sizes.ensures.low
+
+pub new-requires-clause-low_operands : goal.new-requires-clause-low_operands
+new-requires-clause-low_operands c = rw (same_low max_levels _ _ (ap without_claims c.put_claims.ensures.placed ∙ without-with _ _)) c.into_parts-sizes.ensures.low_operands
 
 pub new-requires-clause-formed : goal.new-requires-clause-formed
 new-requires-clause-formed c = same_form _ _ (ap without_claims c.put_claims.ensures.placed ∙ without-with _ _) c.into_parts-sizes.ensures.formed c.put_claims.ensures.formed

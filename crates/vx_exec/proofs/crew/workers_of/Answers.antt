@@ -8,10 +8,10 @@ use Rattle.vx_exec.proofs.Parts.{root-is-part}
 use Rattle.vx_exec.proofs.crew.workers_of.Goals as goal
 
 pub root_worker-requires : goal.root_worker-requires
-root_worker-requires c = root-is-part c.args.job.now c.plan.result.now c.root-root.result.now c.plan.ensures.same c.root-root.ensures.root
+root_worker-requires c = root-is-part c.args.job.now c.requires c.plan.result.now c.root-root.result.now c.plan.ensures.same c.root-root.ensures.root
 
 pub add_below-requires-clause-part : goal.add_below-requires-clause-part
-add_below-requires-clause-part c = root-is-part c.args.job.now c.plan.result.now c.root-root.result.now c.plan.ensures.same c.root-root.ensures.root
+add_below-requires-clause-part c = root-is-part c.args.job.now c.requires c.plan.result.now c.root-root.result.now c.plan.ensures.same c.root-root.ensures.root
 
 pub returns-clause-duties : goal.returns-clause-duties
 returns-clause-duties c = λ hash.

@@ -1,7 +1,11 @@
-use Rattle.std.proofs.Common.{subst, sym}
-use Rattle.vx_plan_nodes.specs.Outline.{plan_of, claim_of, unary_of, binary_of, kind_of, size_of}
+use Rattle.std.proofs.Common.{◌≡◌, ◌<◌, ◌+◌, ◌∙◌, ap, arith, subst, sym}
+use Rattle.vx_plan_nodes.specs.Numbering.{nodes}
+use Rattle.vx_plan_nodes.specs.Outline.{top_of, outline_of, plan_of, claim_of, unary_of, renamed_of, binary_of, kind_of, size_of}
+use Rattle.vx_plan_nodes.specs.Plan.{Plan}
 use Rattle.vx_worker.specs.declared.tree.Tree.{Leaf, One, Two}
 use Rattle.vx_exec.specs.Crew.{IsOperatorOf, IsTreeOf}
+use Rattle.vx_exec.specs.Part.{IsPartOf}
+use Rattle.vx_exec.proofs.Parts.{unary-part, left-part, right-part}
 use Rattle.vx_exec.proofs.Fragments.{scan-tree, exchange-tree, unary-tree, binary-tree}
 use Rattle.vx_exec.proofs.fragment.+tree_of.Goals as goal
 
@@ -54,3 +58,45 @@ returns-in_ok-right-in-Binary t c =
     (subst (λ z. IsTreeOf j c.args.place (plan_of z) c.in_ok-tree_of-in-Binary.field-0) c.deref-in-Binary.ensures c.in_ok-tree_of-in-Binary.ensures))
     (subst (λ z. IsTreeOf j c.args.place q z) (sym c.in_ok-right-in-Binary.ensures.ok)
     (subst (λ z. IsTreeOf j c.args.place (plan_of z) c.in_ok-tree_of-in-Binary-2.field-0) c.deref-in-Binary-2.ensures c.in_ok-tree_of-in-Binary-2.ensures)))
+
+pub tree_of-requires : goal.tree_of-requires
+tree_of-requires t c =
+    let j = c.args.job.now in
+    let node : Plan = plan_of c.args.node.now in
+    let all : nodes node ≡ nodes (plan_of c.in-Unary.input.value) + 1 = ap (λ n. nodes (plan_of n)) c.in-Unary.is ∙ omega arith in
+    let same : nodes (plan_of c.deref.result.now) ≡ nodes (plan_of c.in-Unary.input.value) = ap (λ n. nodes (plan_of n)) c.deref.ensures in
+    let here : nodes node ≡ t = c.decreases in
+    let falls : nodes (plan_of c.deref.result.now) < t = omega (arith, all, same, here) in
+    let part : IsPartOf j (outline_of c.deref.result.now) =
+    subst (λ z. IsPartOf j (outline_of z)) (sym c.deref.ensures)
+    (unary-part j (top_of c.in-Unary.field-0) (unary_of c.in-Unary.field-1) (renamed_of c.in-Unary.field-1) (outline_of c.in-Unary.input.value)
+    (subst (λ z. IsPartOf j (outline_of z)) c.in-Unary.is c.requires)) in
+    (falls, part)
+
+pub tree_of-requires-in-Binary : goal.tree_of-requires-in-Binary
+tree_of-requires-in-Binary t c =
+    let j = c.args.job.now in
+    let node : Plan = plan_of c.args.node.now in
+    let all : nodes node ≡ nodes (plan_of c.in-Binary.left.value) + nodes (plan_of c.in-Binary.right.value) + 1 = ap (λ n. nodes (plan_of n)) c.in-Binary.is ∙ omega arith in
+    let same : nodes (plan_of c.deref-in-Binary.result.now) ≡ nodes (plan_of c.in-Binary.left.value) = ap (λ n. nodes (plan_of n)) c.deref-in-Binary.ensures in
+    let here : nodes node ≡ t = c.decreases in
+    let falls : nodes (plan_of c.deref-in-Binary.result.now) < t = omega (arith, all, same, here) in
+    let part : IsPartOf j (outline_of c.deref-in-Binary.result.now) =
+    subst (λ z. IsPartOf j (outline_of z)) (sym c.deref-in-Binary.ensures)
+    (left-part j (top_of c.in-Binary.field-0) (binary_of c.in-Binary.field-1) (outline_of c.in-Binary.left.value) (outline_of c.in-Binary.right.value)
+    (subst (λ z. IsPartOf j (outline_of z)) c.in-Binary.is c.requires)) in
+    (falls, part)
+
+pub tree_of-requires-in-Binary-2 : goal.tree_of-requires-in-Binary-2
+tree_of-requires-in-Binary-2 t c =
+    let j = c.args.job.now in
+    let node : Plan = plan_of c.args.node.now in
+    let all : nodes node ≡ nodes (plan_of c.in-Binary.left.value) + nodes (plan_of c.in-Binary.right.value) + 1 = ap (λ n. nodes (plan_of n)) c.in-Binary.is ∙ omega arith in
+    let same : nodes (plan_of c.deref-in-Binary-2.result.now) ≡ nodes (plan_of c.in-Binary.right.value) = ap (λ n. nodes (plan_of n)) c.deref-in-Binary-2.ensures in
+    let here : nodes node ≡ t = c.decreases in
+    let falls : nodes (plan_of c.deref-in-Binary-2.result.now) < t = omega (arith, all, same, here) in
+    let part : IsPartOf j (outline_of c.deref-in-Binary-2.result.now) =
+    subst (λ z. IsPartOf j (outline_of z)) (sym c.deref-in-Binary-2.ensures)
+    (right-part j (top_of c.in-Binary.field-0) (binary_of c.in-Binary.field-1) (outline_of c.in-Binary.left.value) (outline_of c.in-Binary.right.value)
+    (subst (λ z. IsPartOf j (outline_of z)) c.in-Binary.is c.requires)) in
+    (falls, part)

@@ -1,17 +1,20 @@
 use Rattle.std.specs.Prelude.{IfOk}
-use Rattle.std.proofs.Common.{◌≡◌, ap, subst, sym, ◌∙◌, true, length}
+use Rattle.std.proofs.Common.{◌≡◌, ap, subst, sym, ◌∙◌, true, None, length}
 use Rattle.vx_rows_values.specs.Order.{order_columns}
 use Rattle.vx_rows.specs.View.{AreColumns}
-use Rattle.vx_plan_nodes.specs.Outline.{plan_of, claim_of, kind_of, size_of}
+use Rattle.vx_plan_nodes.specs.Known.{first_unknown, unary_known}
+use Rattle.vx_plan_nodes.specs.Outline.{outline_of, plan_of, claim_of, unary_of, kind_of, size_of}
+use Rattle.vx_plan_nodes.specs.Outputs.{HasOutputs}
 use Rattle.vx_plan_nodes.specs.Plan.{size}
 use Rattle.vx_plan_nodes.specs.Streams.{workers}
-use Rattle.vx_plan_nodes.specs.Typed.{typed}
+use Rattle.vx_plan_nodes.specs.Typed.{typed, is_unary}
 use Rattle.vx_plan_nodes.specs.TypedView.{scope}
 use Rattle.vx_plan_nodes.specs.Types.{types_of}
 use Rattle.vx_check_rules.specs.Checked.{relations}
 use Rattle.vx_exec.specs.Crew.{IsOperatorOf}
 use Rattle.vx_plan_nodes.specs.Workers.{worker_group_at}
 use Rattle.vx_exec.proofs.Fragments.{scan-operator, consumer-made, exchange-columns}
+use Rattle.vx_exec.proofs.Parts.{operator-known, operator-typed}
 use Rattle.vx_exec.proofs.fragment.operator_of.Goals as goal
 
 pub returns-in_ok-types-in-Scan : goal.returns-in_ok-types-in-Scan
@@ -51,3 +54,28 @@ consumer_operator-requires-clause-columns c =
     subst (λ z. AreColumns (length z) (order_columns x.merge.items)) (sym (subst (λ z. types ≡ types_of (relations j.plan.now) (plan_of z)) c.in-Exchange.is given))
     (exchange-columns (scope j.plan.now) h.number (claim_of h.claim) (kind_of x.kind) x.merge.items (plan_of c.in-Exchange.input.value)
     (subst (λ z. typed (scope j.plan.now) (plan_of z) ≡ true) c.in-Exchange.is c.requires.nodes_typed))
+
+pub unary_operator-requires-clause-known : goal.unary_operator-requires-clause-known
+unary_operator-requires-clause-known c =
+    let catalog = relations c.args.job.now.plan.now in
+    let h = c.in-Unary.head in
+    let op = unary_of c.in-Unary.unary in
+    let p = plan_of c.in-Unary.input.value in
+    let outputs = (subst (λ z. HasOutputs catalog (outline_of z)) c.in-Unary.is c.requires.outputs).1 in
+    let given : c.output_types-in-Unary.result.now ≡ types_of catalog p =
+    c.output_types-in-Unary.ensures catalog (subst (λ z. HasOutputs catalog (outline_of z)) (sym c.deref.ensures) outputs) ∙ ap (λ z. types_of catalog (plan_of z)) c.deref.ensures in
+    subst (λ z. unary_known z op ≡ true) (sym given)
+    (operator-known catalog h.number (claim_of h.claim) op p (subst (λ z. first_unknown catalog (plan_of z) ≡ None) c.in-Unary.is c.requires.known))
+
+pub unary_operator-requires-clause-typed : goal.unary_operator-requires-clause-typed
+unary_operator-requires-clause-typed c =
+    let j = c.args.job.now in
+    let catalog = relations j.plan.now in
+    let h = c.in-Unary.head in
+    let op = unary_of c.in-Unary.unary in
+    let p = plan_of c.in-Unary.input.value in
+    let outputs = (subst (λ z. HasOutputs catalog (outline_of z)) c.in-Unary.is c.requires.outputs).1 in
+    let given : c.output_types-in-Unary.result.now ≡ types_of catalog p =
+    c.output_types-in-Unary.ensures catalog (subst (λ z. HasOutputs catalog (outline_of z)) (sym c.deref.ensures) outputs) ∙ ap (λ z. types_of catalog (plan_of z)) c.deref.ensures in
+    subst (λ z. is_unary z op ≡ true) (sym given)
+    (operator-typed (scope j.plan.now) h.number (claim_of h.claim) op p (subst (λ z. typed (scope j.plan.now) (plan_of z) ≡ true) c.in-Unary.is c.requires.nodes_typed))

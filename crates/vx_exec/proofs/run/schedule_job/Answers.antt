@@ -1,15 +1,24 @@
+use Rattle.std.proofs.Common.{◌<◌, subst, sym}
+use Rattle.std.specs.List.{All}
 use Rattle.vx_exec_layout.specs.Needed.{rounds_needed}
 use Rattle.vx_plan_nodes.specs.TypedView.{plan as whole_plan, resolved_of}
 use Rattle.vx_plan_nodes.specs.Types.{types_of}
-use Rattle.std.proofs.Common.{◌<◌, inl, inr, subst, sym}
-use Rattle.std.specs.List.{All}
-use Rattle.vx_exec_steps.specs.Schedules.{HoldsRounds, IsBadStep}
-use Rattle.vx_exec.specs.Runs.{IsBadStepOf}
+use Rattle.vx_exec_steps.specs.Schedules.{HoldsRounds}
+use Rattle.vx_exec_runs.specs.Promise.{NothingElse}
 use Rattle.vx_exec.specs.Job.{model_of}
 use Rattle.vx_check_rules.specs.Checked.{relations}
-use Rattle.vx_exec.proofs.Outcomes.{names-reported, steps-reported, comes-whole}
+use Rattle.vx_exec.proofs.Outcomes.{steps-reported, comes-whole}
 use Rattle.vx_exec.proofs.Finishing.{job-accepted, ready-parts, ready-count, has-run, first-types, not-passed, comes-kept}
 use Rattle.vx_exec.proofs.run.schedule_job.Goals as goal
+
+pub judge_schedule-verdict-requires-clause-named : goal.judge_schedule-verdict-requires-clause-named
+judge_schedule-verdict-requires-clause-named g c =
+    let j = c.args.job.now in
+    let hash = g.R.Router.route_of c.args.router.now in
+    let parts = c.into_parts-workers in
+    let ok = job-accepted j hash (g.met.R.Router.in_range c.args.router.now) c.meets.ensures c.requires.allowed c.requires.root in
+    let begun = ready-parts j hash ok c.in_ok-crew.crew parts.result.0 parts.result.1 parts.ensures.workers parts.ensures.links (c.in_ok-crew.ensures.ready hash) c.in_ok-crew.ensures.new in
+    subst (λ z. All (λ k. k < z) c.args.steps.now) (sym (ready-count j hash parts.result.0 parts.result.1 begun)) c.requires.named
 
 pub answer_of-requires : goal.answer_of-requires
 answer_of-requires g c =
@@ -18,53 +27,41 @@ answer_of-requires g c =
     let parts = c.into_parts-workers in
     let ok = job-accepted j hash (g.met.R.Router.in_range c.args.router.now) c.meets.ensures c.requires.allowed c.requires.root in
     let begun = ready-parts j hash ok c.in_ok-crew.crew parts.result.0 parts.result.1 parts.ensures.workers parts.ensures.links (c.in_ok-crew.ensures.ready hash) c.in_ok-crew.ensures.new in
-    let end = c.judge_schedule in
-    let run = has-run j hash parts.result.0.items end.new.workers.items parts.result.1 c.in-Ok.verdict begun end.ensures.roles c.in-Ok.ensures.answers c.in-Ok.ensures.first in
+    let end = c.judge_schedule-verdict in
+    let run = has-run j hash parts.result.0.items end.new.workers.items parts.result.1 end.result begun end.ensures.roles end.ensures.answers end.ensures.first in
     record {
       there = λ e. run.keeps.some;
       keeps = λ e d. (types_of (relations j.plan.now) (whole_plan j.plan.now), first-types run d);
-      own = not-passed c.in-Ok.verdict run;
+      own = not-passed end.result run;
     }
 
-pub returns-in-Ok : goal.returns-in-Ok
-returns-in-Ok g c =
+pub returns : goal.returns
+returns g c =
     let j = c.args.job.now in
     let hash = g.R.Router.route_of c.args.router.now in
     let parts = c.into_parts-workers in
     let ok = job-accepted j hash (g.met.R.Router.in_range c.args.router.now) c.meets.ensures c.requires.allowed c.requires.root in
     let begun = ready-parts j hash ok c.in_ok-crew.crew parts.result.0 parts.result.1 parts.ensures.workers parts.ensures.links (c.in_ok-crew.ensures.ready hash) c.in_ok-crew.ensures.new in
-    let end = c.judge_schedule in
-    let run = has-run j hash parts.result.0.items end.new.workers.items parts.result.1 c.in-Ok.verdict begun end.ensures.roles c.in-Ok.ensures.answers c.in-Ok.ensures.first in
+    let end = c.judge_schedule-verdict in
+    let run = has-run j hash parts.result.0.items end.new.workers.items parts.result.1 end.result begun end.ensures.roles end.ensures.answers end.ensures.first in
     let p = whole_plan j.plan.now in
     let r = c.answer_of.result in
     record {
-      run = comes-kept (IsBadStepOf c.args.steps.now) c.in-Ok.verdict r run c.answer_of.ensures;
-      named = names-reported hash (model_of hash j) p r c.args.steps.now
-          (subst (λ z. All (λ k. k < z) c.args.steps.now) (ready-count j hash parts.result.0 parts.result.1 begun) c.in-Ok.ensures.good);
+      run = comes-kept NothingElse end.result r run c.answer_of.ensures;
       scheduled = steps-reported hash (model_of hash j) p r c.args.steps.now (record {
         begun = parts.result.0.items;
         links = parts.result.1;
         ready = begun.ready;
         ended = end.new.workers.items;
         links_after = end.new.links;
-        follows = c.in-Ok.ensures.follows;
-        verdict = c.in-Ok.verdict;
-        judged = c.in-Ok.ensures.judged;
+        follows = end.ensures.follows;
+        verdict = end.result;
+        judged = end.ensures.judged;
         comes = c.answer_of.ensures;
       });
       ends = λ enough.
-          comes-whole end.new.workers.items c.in-Ok.verdict r
-          (c.in-Ok.ensures.ends (model_of hash j) (resolved_of j.plan.now).total p begun.accepted begun.ready begun.rested
+          comes-whole end.new.workers.items end.result r
+          (end.ensures.ends (model_of hash j) (resolved_of j.plan.now).total p begun.accepted begun.ready begun.rested
           (subst (λ z. HoldsRounds (rounds_needed (model_of hash j).db (model_of hash j).sizes p) z c.args.steps.now) (sym (ready-count j hash parts.result.0 parts.result.1 begun)) enough))
           c.answer_of.ensures;
     }
-
-pub returns-in-Err : goal.returns-in-Err
-returns-in-Err g c =
-    let j = c.args.job.now in
-    let hash = g.R.Router.route_of c.args.router.now in
-    let parts = c.into_parts-workers in
-    let ok = job-accepted j hash (g.met.R.Router.in_range c.args.router.now) c.meets.ensures c.requires.allowed c.requires.root in
-    let begun = ready-parts j hash ok c.in_ok-crew.crew parts.result.0 parts.result.1 parts.ensures.workers parts.ensures.links (c.in_ok-crew.ensures.ready hash) c.in_ok-crew.ensures.new in
-    let bad = subst (λ z. IsBadStep c.args.steps.now z c.in-Err.index) (ready-count j hash parts.result.0 parts.result.1 begun) c.in-Err.ensures.bad in
-    record { run = record { done = tt; failed = inr bad; first = inr bad }; named = inr (inl bad); scheduled = inr (inl bad); ends = λ enough. tt }

@@ -1,3 +1,6 @@
+use denote.Param.Send.{sendable}
+use Rattle.std.proofs.Crossing.{crosses}
+use Rattle.std.proofs.alloc.Global.TheSendSync as global
 use Rattle.std.proofs.Common.{◌≡◌, List, length, refl, ap, sym, ◌∙◌, subst, arith}
 use Rattle.std.specs.List.{All}
 use Rattle.vx_plan_nodes.specs.Plan.{Plan}
@@ -14,6 +17,9 @@ use Rattle.vx_exec_assembly.proofs.Spanning.{small-spans}
 use Rattle.vx_exec.specs.Job.{model_of}
 use Rattle.vx_exec.specs.declared.job.Job.{Job}
 use Rattle.vx_exec_parallel.proofs.Crews.{few-members, as-many-ends, as-many-places, members-ready, were-run, were-joined, have-run}
+use Rattle.vx_catalog.proofs.database.Database.TheSendSync as database
+use Rattle.vx_exec_layout.proofs.layout.Layout.TheSendSync as layout
+use Rattle.vx_exec_parallel.proofs.Crossing.{operator, plan}
 use Rattle.vx_exec_parallel.proofs.run.run_crew.Goals as goal
 
 -- the layout that a job has is its plan's
@@ -42,6 +48,12 @@ members_of-requires g c =
       places = many;
       few = omega (arith, many, few);
     }
+
+pub run_in_threads-requires-send-O : goal.run_in_threads-requires-send-O
+run_in_threads-requires-send-O g c κs within = search (operator, crosses, sendable) depth 60 fits 20000
+
+pub run_in_threads-requires-sync-G : goal.run_in_threads-requires-sync-G
+run_in_threads-requires-sync-G g c κs within = search (plan, global.the_field_sync, database.the_sync, layout.the_field_sync, crosses, sendable) depth 60 fits 20000
 
 pub run_in_threads-requires-after_bounds : goal.run_in_threads-requires-after_bounds
 run_in_threads-requires-after_bounds g c κs within =

@@ -1,6 +1,5 @@
-use Rattle.std.proofs.Common.{◌≡◌, ◌<◌, length, subst, arith, le_refl}
+use Rattle.std.proofs.Common.{◌≡◌, length, subst, arith, le_refl}
 use Rattle.std.specs.Vec.{vec_len}
-use Rattle.std.specs.List.{All}
 use Rattle.vx_exec_layout.specs.Needed.{rounds_needed}
 use Rattle.vx_exec_steps.specs.Schedules.{HoldsRounds}
 use Rattle.vx_exec_steps.specs.Verdicts.{Judged}
@@ -11,16 +10,12 @@ use Rattle.vx_exec_steps.proofs.finish.judge_schedule.Goals as goal
 pub returns : goal.returns
 returns g c =
     let steps = c.step_schedule.ensures.advances in
-    let good = subst (λ z. All (λ s. s < z) c.args.steps.now) c.len.ensures c.in_default.ensures.none in
     let judged = subst (λ z. Judged z c.judge.result) c.as_slice.ensures.value c.judge.ensures in
     let worth = is-worth g.O.Source.Stands g.O.Source.op g.S.Sends.Stands g.S.Sends.task g.S.Sends.post g.S.Sends.bounds (g.R.Router.route_of c.args.router.now) (g.G.Morsels.morsel_of c.args.morsels.now)
     c.args.workers.now.items c.step_schedule.new.workers.items c.args.links.now c.step_schedule.new.links g.met.S.Sends.at_post steps
     c.judge.result judged
     in
     record {
-      bad = tt;
-      good = good;
-      before = tt;
       follows = c.step_schedule.ensures.follows;
       roles = steps.roles;
       judged = worth.judged;

@@ -18,8 +18,8 @@ returns c =
     let plan = c.args.plan.now in
     let d : Data = view c.in_ok-plan_json.field-0 in
     let json : d ≡ document_json (document_of plan) = c.in_ok-plan_json.ensures in
-    let plain : IsPlain 68 d = rw (← json) at (document-plain (document_of plan) plan.few_levels) in
-    let back : document_in d ≡ Ok (document_of plan) = rw (← json) at (document-back (document_of plan) plan.declared plan.formed plan.few_keys plan.few_levels plan.few_nodes) in
+    let plain : IsPlain 127 d = rw (← json) at (document-plain (document_of plan) plan.few_levels plan.low_operands) in
+    let back : document_in d ≡ Ok (document_of plan) = rw (← json) at (document-back (document_of plan) plan.declared plan.formed plan.low_operands plan.few_keys plan.few_levels plan.few_nodes) in
     let low : depth d ≤ max_depth = let l = plain.low in omega (arith, l) in
     record {
       text = IfOk-weaker c.to_string.result (λ s. has_float d ≡ false → string_bytes s ≡ compact_text d) (λ s. string_bytes s ≡ compact_text (document_json (document_of plan)))

@@ -1,9 +1,7 @@
-use Rattle.std.proofs.Common.{◌≤◌, length}
-use Rattle.std.proofs.lemmas.Result.{IfOk-weaker}
-use Rattle.vx_ops.proofs.Fewer.{filtered-long}
+use Rattle.std.proofs.Common.{map}
+use Rattle.vx_plan_nodes.specs.Outline.{filter_of}
+use Rattle.vx_ops_computing.proofs.Parts.{select-fewer}
 use Rattle.vx_ops.proofs.select.SelectionStepKernel.step.Goals as goal
 
-pub returns-clause-fewer : goal.returns-clause-fewer
-returns-clause-fewer c =
-    let xs = c.args.batch.rows in
-    IfOk-weaker c.chosen.result _ (λ r. length r.rows ≤ length xs) (λ r e. filtered-long _ xs r.rows e) c.chosen.ensures.rows
+pub returns-in-Ok-clause-fewer : goal.returns-in-Ok-clause-fewer
+returns-in-Ok-clause-fewer c = select-fewer (map filter_of c.as_slice.result.now) c.args.batch.rows c.in-Ok.rows.rows c.in-Ok.ensures.rows

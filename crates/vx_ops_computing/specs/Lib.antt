@@ -1,0 +1,9 @@
+pub mod Fault
+pub mod Operands
+pub mod Numbers
+pub mod Columns
+pub mod Called
+pub mod Applied
+pub mod Answers
+pub mod Projecting
+pub mod Computed

@@ -1,0 +1,17 @@
+//! Columns and conditions that are computed by functions, a chunk at a time: each function goes over whole columns.
+#![tactic(auto)]
+
+mod applying;
+mod columns;
+mod expressions;
+mod fault;
+mod filtering;
+mod loops;
+mod numbers;
+mod operands;
+mod pairs;
+mod projecting;
+
+pub use fault::ComputeFault;
+pub use filtering::filtered;
+pub use projecting::projected;
