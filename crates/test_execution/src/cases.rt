@@ -15,6 +15,7 @@ use test_runs::{CATALOG, OTHER_CATALOG, document_named, with_scans};
 use vx_catalog::Database;
 use vx_catalog_relations::Catalog;
 use vx_check_rules::CheckedPlan;
+use vx_plan_nodes::PlanFunctions;
 use vx_wisconsin::{catalog, plan};
 
 /// A plan over a database.
@@ -143,8 +144,13 @@ pub fn case_of(alloc: Global, line: &WorkedPlan<'_>, count: u32) -> Result<Case,
 }
 
 // The rows of a case by serial evaluation, of which there have to be so many as `number` says.
-fn serial_rows(alloc: Global, case: &Case, number: &str) -> Result<String, Fail> {
-    let rows = serially(alloc, case)?;
+fn serial_rows<F: PlanFunctions>(
+    alloc: Global,
+    functions: &F,
+    case: &Case,
+    number: &str,
+) -> Result<String, Fail> {
+    let rows = serially(alloc, functions, case)?;
     let more = number.parse::<usize>()?;
     if rows.split(';').count() == more.saturating_add(1) {
         return Ok(rows);
@@ -153,14 +159,15 @@ fn serial_rows(alloc: Global, case: &Case, number: &str) -> Result<String, Fail>
 }
 
 /// What comes of a case by its line.
-pub fn expected(
+pub fn expected<F: PlanFunctions>(
     alloc: Global,
+    functions: &F,
     case: &Case,
     line: &WorkedPlan<'_>,
     count: u32,
 ) -> Result<String, Fail> {
     match line.rows.strip_prefix("serial ") {
-        Some(number) => serial_rows(alloc, case, number),
+        Some(number) => serial_rows(alloc, functions, case, number),
         None => Ok(rows_of(alloc, line.rows, count)?),
     }
 }

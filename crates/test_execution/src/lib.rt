@@ -23,6 +23,8 @@ mod lines;
 #[cfg(test)]
 mod meetings;
 #[cfg(test)]
+mod own;
+#[cfg(test)]
 mod queries;
 #[cfg(test)]
 mod rows;

@@ -23,7 +23,7 @@ use crate::counts::push_count;
 use crate::draws::{Draws, in_turn};
 use crate::gates::Watch;
 use crate::lines::{first_part, first_word, setup_from};
-use crate::runs::{by_needed_rounds, by_rounds, by_steps, by_threads, outcome, serially};
+use crate::runs::{Given, by_needed_rounds, by_rounds, by_steps, by_threads, outcome, serially};
 use std::alloc::{AllocError, Global};
 use std::process::Abort;
 use std::sync::Wait;
@@ -32,7 +32,7 @@ use std::thread::Threads;
 use vx_exec_parallel::Threading;
 use vx_exec_setup::{RunCounts, RunFault, Setup};
 use vx_exec_threads::Free;
-use vx_plan_nodes::Router;
+use vx_plan_nodes::{PlanFunctions, Router, StandardFunctions};
 use vx_rows_values::limits::MAX_WORKERS;
 
 // A way as its line has it.
@@ -82,36 +82,36 @@ fn fault_named(name: &str) -> RunFault {
 }
 
 // What a case comes to in at most so many rounds as the way says.
-fn by_limit<R: Router>(
+fn by_limit<F: PlanFunctions + Copy, R: Router>(
     alloc: Global,
     case: &Case,
     setup: &Setup,
-    router: &R,
+    given: &Given<'_, F, R>,
     way: &Way<'_>,
 ) -> Result<String, Fail> {
     let limit = way.rest.parse::<u64>()?;
     let mut unread = RunCounts::unread(alloc);
-    Ok(by_rounds(alloc, case, setup, router, limit, &mut unread)?)
+    Ok(by_rounds(alloc, case, setup, given, limit, &mut unread)?)
 }
 
 // What a case comes to by the schedule that the way has.
-fn by_chosen_steps<R: Router>(
+fn by_chosen_steps<F: PlanFunctions + Copy, R: Router>(
     alloc: Global,
     case: &Case,
     setup: &Setup,
-    router: &R,
+    given: &Given<'_, F, R>,
     way: &Way<'_>,
 ) -> Result<String, Fail> {
     let steps = in_turn(alloc, way.rest)?;
-    Ok(by_steps(alloc, case, setup, router, steps.as_slice())?)
+    Ok(by_steps(alloc, case, setup, given, steps.as_slice())?)
 }
 
 // What a case comes to by a schedule that is drawn. The way says for how many workers of each group, and how many turns all of them make at its end.
-fn by_drawn_steps<R: Router>(
+fn by_drawn_steps<F: PlanFunctions + Copy, R: Router>(
     alloc: Global,
     case: &Case,
     setup: &Setup,
-    router: &R,
+    given: &Given<'_, F, R>,
     way: &Way<'_>,
     draws: &mut Draws,
 ) -> Result<String, Fail> {
@@ -119,30 +119,39 @@ fn by_drawn_steps<R: Router>(
     let grouped = case.groups.saturating_mul(many.parse::<u32>()?);
     let workers = grouped.saturating_add(1).max(1);
     let steps = draws.schedule(alloc, workers, turns.parse::<u32>()?)?;
-    Ok(by_steps(alloc, case, setup, router, steps.as_slice())?)
+    Ok(by_steps(alloc, case, setup, given, steps.as_slice())?)
 }
 
 // What a case comes to by threads that nothing holds up.
-fn by_free_threads<T: Threads + Wait + Sync, R: Router + Sync>(
+fn by_free_threads<
+    T: Threads + Wait + Sync,
+    F: PlanFunctions + Copy + Send + Sync,
+    R: Router + Sync,
+>(
     rt: &T,
     alloc: Global,
     case: &Case,
     setup: &Setup,
-    router: &R,
+    given: &Given<'_, F, R>,
     counts: &mut RunCounts,
 ) -> Result<String, Fail> {
     let gate = Free;
-    let threading = Threading::new(router, &gate);
-    Ok(by_threads(rt, alloc, case, setup, &threading, counts)?)
+    let threading = Threading::new(given.router, &gate);
+    let functions = given.functions;
+    Ok(by_threads(rt, alloc, case, setup, functions, &threading, counts)?)
 }
 
 // What a case comes to by threads with a gate that counts. If it has counted otherwise than the way says, that is the answer.
-fn by_watched_threads<T: Threads + Wait + Sync, R: Router + Sync>(
+fn by_watched_threads<
+    T: Threads + Wait + Sync,
+    F: PlanFunctions + Copy + Send + Sync,
+    R: Router + Sync,
+>(
     rt: &T,
     alloc: Global,
     case: &Case,
     setup: &Setup,
-    router: &R,
+    given: &Given<'_, F, R>,
     way: &Way<'_>,
 ) -> Result<String, Fail> {
     let gate = Watch::of(way.word, way.rest);
@@ -151,12 +160,13 @@ fn by_watched_threads<T: Threads + Wait + Sync, R: Router + Sync>(
         _ => MAX_WORKERS,
     };
     let threading = Threading {
-        router,
+        router: given.router,
         gate: &gate,
         most,
     };
     let mut unread = RunCounts::unread(alloc);
-    let text = by_threads(rt, alloc, case, setup, &threading, &mut unread)?;
+    let functions = given.functions;
+    let text = by_threads(rt, alloc, case, setup, functions, &threading, &mut unread)?;
     let said = gate.said(alloc)?;
     if said.as_str() == way.more {
         Ok(text)
@@ -176,48 +186,48 @@ fn said_of(alloc: Global, came: &str, counts: &RunCounts, words: &str) -> Result
 }
 
 // What a case counts by threads, or in so many rounds at most as the way says.
-fn counted<T: Threads + Wait + Sync, R: Router + Sync>(
+fn counted<T: Threads + Wait + Sync, F: PlanFunctions + Copy + Send + Sync, R: Router + Sync>(
     rt: &T,
     alloc: Global,
     case: &Case,
     setup: &Setup,
-    router: &R,
+    given: &Given<'_, F, R>,
     way: &Way<'_>,
 ) -> Result<String, Fail> {
     let (limit, words) = first_word(way.rest);
     let mut counts = RunCounts::new(alloc);
     let came = if limit == "threads" {
-        by_free_threads(rt, alloc, case, setup, router, &mut counts)?
+        by_free_threads(rt, alloc, case, setup, given, &mut counts)?
     } else {
         let limit = limit.parse::<u64>()?;
-        by_rounds(alloc, case, setup, router, limit, &mut counts)?
+        by_rounds(alloc, case, setup, given, limit, &mut counts)?
     };
     said_of(alloc, came.as_str(), &counts, words)
 }
 
 // What a case comes to by a way, once.
-fn once<T: Threads + Wait + Sync, R: Router + Sync>(
+fn once<T: Threads + Wait + Sync, F: PlanFunctions + Copy + Send + Sync, R: Router + Sync>(
     rt: &T,
     alloc: Global,
     case: &Case,
     setup: &Setup,
-    router: &R,
+    given: &Given<'_, F, R>,
     way: &Way<'_>,
     draws: &mut Draws,
 ) -> Result<String, Fail> {
     match way.word {
-        "serial" => serially(alloc, case),
-        "rounds" => by_needed_rounds(alloc, case, setup, router, way.more),
-        "limit" => by_limit(alloc, case, setup, router, way),
-        "steps" => by_chosen_steps(alloc, case, setup, router, way),
-        "drawn" => by_drawn_steps(alloc, case, setup, router, way, draws),
+        "serial" => serially(alloc, given.functions, case),
+        "rounds" => by_needed_rounds(alloc, case, setup, given, way.more),
+        "limit" => by_limit(alloc, case, setup, given, way),
+        "steps" => by_chosen_steps(alloc, case, setup, given, way),
+        "drawn" => by_drawn_steps(alloc, case, setup, given, way, draws),
         "threads" => {
             let mut unread = RunCounts::unread(alloc);
-            by_free_threads(rt, alloc, case, setup, router, &mut unread)
+            by_free_threads(rt, alloc, case, setup, given, &mut unread)
         }
-        "counts" => counted(rt, alloc, case, setup, router, way),
+        "counts" => counted(rt, alloc, case, setup, given, way),
         "fault" => Ok(outcome(alloc, Err(fault_named(way.rest)))?),
-        _ => by_watched_threads(rt, alloc, case, setup, router, way),
+        _ => by_watched_threads(rt, alloc, case, setup, given, way),
     }
 }
 
@@ -232,10 +242,14 @@ fn is_wanted(alloc: Global, case: &Case, text: &str, wanted: &str) -> Result<boo
 }
 
 // Compares what a case comes to by the way of a line with what the line says. The case has a name.
-fn try_way<T: Threads + Wait + Sync + Abort, R: Router + Sync>(
+fn try_way<
+    T: Threads + Wait + Sync + Abort,
+    F: PlanFunctions + Copy + Send + Sync,
+    R: Router + Sync,
+>(
     rt: &T,
     alloc: Global,
-    router: &R,
+    given: &Given<'_, F, R>,
     name: &str,
     case: &Case,
     line: &str,
@@ -249,7 +263,7 @@ fn try_way<T: Threads + Wait + Sync + Abort, R: Router + Sync>(
     let mut draws = Draws::from_number(1);
     let mut firsts = 0u32;
     for _ in 0..way.runs {
-        let text = once(rt, alloc, case, &setup, router, &way, &mut draws)?;
+        let text = once(rt, alloc, case, &setup, given, &way, &mut draws)?;
         if is_wanted(alloc, case, text.as_str(), first)? {
             firsts = firsts.saturating_add(1);
         } else {
@@ -263,7 +277,23 @@ fn try_way<T: Threads + Wait + Sync + Abort, R: Router + Sync>(
     Ok(())
 }
 
-/// Compares what the plan of a line comes to with the line, by each of these ways. Where rows are generated, there are `count` of them.
+/// Compares what the plan of a line comes to by these functions with the line, by each of these ways. Where rows are generated, there are `count` of them.
+pub fn try_plan_given<
+    T: Threads + Wait + Sync + Abort + AllocGlobal,
+    F: PlanFunctions + Copy + Send + Sync,
+    R: Router + Sync,
+>(rt: &T, given: &Given<'_, F, R>, count: u32, line: &str, ways: &str) -> Result<(), Fail> {
+    let alloc = rt.alloc();
+    let plan = worked_plan(line);
+    let mut case = case_of(alloc, &plan, count)?;
+    case.rows = expected(alloc, given.functions, &case, &plan, count)?;
+    for way in ways.lines() {
+        try_way(rt, alloc, given, plan.name, &case, way)?;
+    }
+    Ok(())
+}
+
+/// The same by the program's functions.
 pub fn try_plan<T: Threads + Wait + Sync + Abort + AllocGlobal, R: Router + Sync>(
     rt: &T,
     router: &R,
@@ -271,14 +301,11 @@ pub fn try_plan<T: Threads + Wait + Sync + Abort + AllocGlobal, R: Router + Sync
     line: &str,
     ways: &str,
 ) -> Result<(), Fail> {
-    let alloc = rt.alloc();
-    let plan = worked_plan(line);
-    let mut case = case_of(alloc, &plan, count)?;
-    case.rows = expected(alloc, &case, &plan, count)?;
-    for way in ways.lines() {
-        try_way(rt, alloc, router, plan.name, &case, way)?;
-    }
-    Ok(())
+    let given = Given {
+        functions: &StandardFunctions,
+        router,
+    };
+    try_plan_given(rt, &given, count, line, ways)
 }
 
 /// The same of each of these plans by each of these ways.

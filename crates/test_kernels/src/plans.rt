@@ -9,7 +9,7 @@ use vx_catalog_bytes::MemoryIn;
 use vx_catalog_relations::Catalog;
 use vx_plan::resolve;
 use vx_plan_json::Plan;
-use vx_plan_nodes::TypedPlan;
+use vx_plan_nodes::{StandardFunctions, TypedPlan};
 use vx_serial::eval;
 
 const CATALOG: &str =
@@ -53,7 +53,7 @@ fn plan_of(alloc: Global, root: &str) -> Result<TypedPlan, Error> {
 
 // What a plan comes to over a database: its rows as text, or the line of a refusal.
 fn outcome(alloc: Global, plan: &TypedPlan, database: &Database) -> Result<String, AllocError> {
-    match eval(alloc, plan, database) {
+    match eval(alloc, &StandardFunctions, plan, database) {
         Ok(rows) => shown_rows(alloc, &rows),
         Err(fault) => format!(in alloc; "{fault}"),
     }

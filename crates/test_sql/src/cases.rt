@@ -10,7 +10,7 @@ use vx_catalog::Database;
 use vx_catalog_relations::Catalog;
 use vx_check_sql::{Dialect, plan_sql};
 use vx_plan::erase;
-use vx_plan_nodes::TypedPlan;
+use vx_plan_nodes::{StandardFunctions, TypedPlan};
 use vx_serial::eval;
 
 /// A database of the relations of a catalog, each with the rows of its text.
@@ -25,7 +25,7 @@ pub fn database_of(alloc: Global, catalog: &str, texts: &[&str]) -> Result<Datab
 
 // The lines of the serial evaluation.
 fn serial_lines(alloc: Global, database: &Database, plan: &TypedPlan) -> Result<Vec<String>, Fail> {
-    let rows = eval(alloc, &erase(alloc, plan)?, database)?;
+    let rows = eval(alloc, &StandardFunctions, &erase(alloc, plan)?, database)?;
     Ok(table_lines(alloc, &rows.gathered(alloc)?)?)
 }
 

@@ -8,6 +8,7 @@ use sqlite::{Connection, Error, ErrorCode, MemStore};
 use std::test::Fail;
 use test_relations::accepted;
 use vx_check_sql::{Dialect, plan_sql};
+use vx_plan_nodes::StandardFunctions;
 use vx_serial::eval;
 
 // The number of all rows, and the least and greatest of a column.
@@ -58,6 +59,6 @@ fn sums_that_do_not_fit_are_errors(rt: HostRuntime) -> Result<(), Fail> {
     let statement = plan_sql(alloc, Dialect::Sqlite, plan.plan())?;
     let mut connection = opened(alloc, &database)?;
     assert!(rt; overflows(&mut connection, statement.as_str()));
-    assert!(rt; eval(alloc, plan.plan(), &database).is_err());
+    assert!(rt; eval(alloc, &StandardFunctions, plan.plan(), &database).is_err());
     Ok(())
 }

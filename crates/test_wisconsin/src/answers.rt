@@ -6,7 +6,7 @@ use test_relations::{generated, plan_of_query};
 use vx_catalog::{Database, format_rows};
 use vx_catalog_bytes::MemoryOut;
 use vx_plan::erase;
-use vx_plan_nodes::name_texts;
+use vx_plan_nodes::{StandardFunctions, name_texts};
 use vx_serial::eval;
 use vx_wisconsin::{GenerateFault, generate, plan};
 
@@ -68,7 +68,7 @@ fn result_of(
     } else {
         "not total"
     };
-    let rows = eval(alloc, &erase(alloc, plan)?, database)?;
+    let rows = eval(alloc, &StandardFunctions, &erase(alloc, plan)?, database)?;
     let names = name_texts(alloc, plan.root().head().columns.names.as_slice())?;
     let text = String::from_utf8(format_rows(alloc, names.as_slice(), &rows)?)?;
     Ok((word, text))

@@ -144,7 +144,7 @@ pub data AnnotationIsRefused (files : List ℕ → Stored) (reliable : List ℕ 
   for_annotation : (relations : List Relation) (d : Document) → AreRead files input paths relations d → AnnotationRefuses relations (asking_if derive d) e
       → AnnotationIsRefused files reliable input failed paths derive e
 
--- the text is what a check of all nodes says of the plan of these paths, where each note is shown
+-- the text is what a check of all nodes says of the plan of these paths, where each claim is shown
 abbrev pub AnswersAll : (List ℕ → Stored) → Option (List ℕ) → Paths → List ℕ → Type 0
 AnswersAll files input paths text = (p : TypedPlanView) × IsFilesPlan files input paths p × IsAllShown p text
 

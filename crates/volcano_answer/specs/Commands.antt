@@ -39,7 +39,7 @@ Holding = Relation → List Row → Type 0
 abbrev pub Lacking : Type 1
 Lacking = Relation → Refusal → Type 0
 
--- the first node whose note is not shown by the rule table that the plan asks for, and the rule that says so
+-- the first node whose claim is not shown by the rule table that the plan asks for, and the rule that says so
 abbrev pub refusal_in : TypedPlanView → Option (ℕ × Rule)
 refusal_in p = refusal_by p.derives (relation_at p.names.catalog) p.total (plan_in p.root)
 
@@ -86,11 +86,11 @@ pub data SerialRefuses (p : TypedPlanView) (holds : Holding) (lacks : Lacking) (
   for_texts : IsFirstMissing (plan_in p.root) holds lacks p.names.catalog e → SerialRefuses p holds lacks e
   for_evaluation : (db : Database) (fault : EvalFault) → IsDatabaseFor p holds db → e ≡ refusal.Eval fault → EvalFails (erased p) db fault → SerialRefuses p holds lacks e
 
--- each note of the plan is shown: the checker accepts it
+-- each claim of the plan is shown: the checker accepts it
 abbrev pub IsShown : TypedPlanView → Type 0
 IsShown p = refusal_in p ≡ None
 
--- the checker refuses the plan: its first note that is not shown, with the rule that says so; or it has no memory for what is known of the columns of a plan
+-- the checker refuses the plan: its first claim that is not shown, with the rule that says so; or it has no memory for what is known of the columns of a plan
 -- that asks for that, as where names are looked up
 abbrev pub IsNotShown : TypedPlanView → Refusal → Type 0
 IsNotShown p e =

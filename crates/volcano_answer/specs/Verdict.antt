@@ -7,7 +7,7 @@ use Rattle.vx_check_causes.specs.Grouped.{AreGrouped}
 use Rattle.vx_check.specs.Accepted.{accepted_text}
 use Rattle.volcano_answer.specs.Commands.{refusal_in, IsShown}
 
--- each note is shown, and this is the text that says so
+-- each claim is shown, and this is the text that says so
 abbrev pub IsAllShown : TypedPlanView → List ℕ → Type 0
 IsAllShown p text = IsShown p × (text ≡ accepted_text p.total)
 

@@ -13,7 +13,7 @@ use volcano_refusals::Refusal;
 use volcano_tables::{Tables, Unobserved, load_tables_in_threads};
 use vx_exec_runs::Runs;
 use vx_plan::erase;
-use vx_plan_nodes::TypedPlan;
+use vx_plan_nodes::{StandardFunctions, TypedPlan};
 use vx_serial::eval;
 
 /// The text of the rows of a plan without its exchanges over tables, under the names of the plan. Up to `services.threads`
@@ -36,6 +36,6 @@ pub fn serial_plan<T: Threads + Wait + Sync, R: Runs, C: Clock, B: Tables>(
     let Ok(erased) = erase(services.alloc, plan) else {
         return Err(Refusal::NoMemory);
     };
-    let rows = eval(services.alloc, &erased, &database)?;
+    let rows = eval(services.alloc, &StandardFunctions, &erased, &database)?;
     Ok(text_of(services, plan, &rows)?)
 }

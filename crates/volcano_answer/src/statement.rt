@@ -8,7 +8,7 @@ use std::alloc::Global;
 use volcano_refusals::Refusal;
 use vx_check_sql::{Dialect, plan_sql};
 use vx_exec_setup::RunFault;
-use vx_plan_nodes::{TypedPlan, first_unknown};
+use vx_plan_nodes::{StandardFunctions, TypedPlan, first_unknown};
 
 /// The dialect of a name, if it is one.
 pub fn dialect_named(name: &str) -> Option<Dialect>
@@ -28,7 +28,7 @@ pub fn statement(alloc: Global, dialect: Dialect, plan: &TypedPlan) -> Result<Ve
     ensures text { IfOk result (λ text. IsStatement dialect (resolved_of plan.now) text.items) }
     ensures refused { IfErr result (StatementFails (resolved_of plan.now)) }
 {
-    if let Some(node) = first_unknown(alloc, plan.root())? {
+    if let Some(node) = first_unknown(&StandardFunctions, alloc, plan.root())? {
         return Err(Refusal::Run(RunFault::BadFunction { node }));
     }
     let text = plan_sql(alloc, dialect, plan)?;

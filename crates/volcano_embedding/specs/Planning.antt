@@ -23,11 +23,11 @@ use Rattle.volcano_refusals.specs.declared.refusal.Refusal.TheVariants as refusa
 abbrev pub plan_text : List Relation → List ℕ → Result TypedPlanView plan.Refusal
 plan_text relations text = document_of_text text >>= λ d. planned d relations
 
--- the first node whose note is not shown by the rule table that the plan asks for, and the rule that says so
+-- the first node whose claim is not shown by the rule table that the plan asks for, and the rule that says so
 abbrev pub refusal_in : TypedPlanView → Option (ℕ × Rule)
 refusal_in p = refusal_by p.derives (relation_at p.names.catalog) p.total (plan_in p.root)
 
--- the text is this plan over the catalog, and each note of it is shown
+-- the text is this plan over the catalog, and each claim of it is shown
 pub record IsAccepted (relations : List Relation) (text : List ℕ) (p : TypedPlanView) : Type 0 where
   pub says : plan_text relations text ≡ Ok p
   pub shown : refusal_in p ≡ None
@@ -42,7 +42,7 @@ pub data NoPlan (relations : List Relation) (text : List ℕ) (e : Refusal) : Ty
   plan_memory : e ≡ refusal.NoMemory → NoPlan relations text e
   for_fault : (fault : PlanFault) → e ≡ refusal.Plan fault → plan.Fails fault (plan_text relations text) → NoPlan relations text e
 
--- why a text is no plan that the checker accepts: it is no plan, or the first of its notes that is not shown
+-- why a text is no plan that the checker accepts: it is no plan, or the first of its claims that is not shown
 pub data CheckRefuses (relations : List Relation) (text : List ℕ) (e : Refusal) : Type 0 where
   check_memory : e ≡ refusal.NoMemory → CheckRefuses relations text e
   for_plan : NoPlan relations text e → CheckRefuses relations text e

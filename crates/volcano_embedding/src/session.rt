@@ -24,7 +24,7 @@ use vx_check_directions::planned;
 use vx_check_rules::{CheckFault, CheckedPlan, check};
 use vx_plan::erase;
 use vx_plan_json::{Plan, PlanFault};
-use vx_plan_nodes::{TypedPlan, name_texts};
+use vx_plan_nodes::{StandardFunctions, TypedPlan, name_texts};
 use vx_rows_values::KeySeed;
 use vx_rows_views::Rows;
 use vx_serial::eval;
@@ -151,7 +151,7 @@ impl Session {
         let Ok(erased) = erase(alloc, &plan) else {
             return Err(Refusal::NoMemory);
         };
-        let rows = eval(alloc, &erased, &database)?;
+        let rows = eval(alloc, &StandardFunctions, &erased, &database)?;
         Ok(text_of(alloc, &plan, &rows)?)
     }
 }

@@ -24,3 +24,4 @@ pub mod CopySteps
 pub mod KeySteps
 pub mod ShownNodes
 pub mod DerivedMore
+pub mod UnaskedFacts

@@ -19,3 +19,4 @@ pub mod KeyedView
 pub mod DerivedView
 pub mod Passed
 pub mod KnownNode
+pub mod Unasked

@@ -92,7 +92,7 @@ abbrev pub copied_order : List ℕ → List OrderEntry → Option (List OrderEnt
 copied_order kept [] = Some []
 copied_order kept (e ∷ order) = entry_both (slice_get kept e.column) e (copied_order kept order)
 
--- and of those that they copy as entries
+-- the same, where each of these columns is an entry that keeps an input column
 abbrev pub copied_order_from : List (Option ℕ) → List OrderEntry → Option (List OrderEntry)
 copied_order_from ks [] = Some []
 copied_order_from ks (e ∷ order) = entry_both (source (entries_kept ks) e.column) e (copied_order_from ks order)

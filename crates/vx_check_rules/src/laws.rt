@@ -3,6 +3,7 @@
 ghost use Rattle.vx_check_rules.specs.Exactly.{FitsExactly, PartsExactly, OrdersExactly, KeysExactly, VerdictsExactly};
 ghost use Rattle.vx_check_rules.specs.Tables.{TablesDecide};
 ghost use Rattle.vx_check_rules.specs.Carried.{CopiesBack, OrdersCarried, KeysCarried, PartsCarried, CarriedIsShown};
+ghost use Rattle.vx_check_rules.specs.Unasked.{FunctionsAreNotAsked};
 
 /// An operator fits its inputs exactly where there is a way.
 pub fn fits_exactly()
@@ -57,4 +58,9 @@ pub fn carried_is_shown()
 /// By either table nothing is refused of exactly the plans that it allows.
 pub fn tables_decide()
     ensures { TablesDecide }
+{}
+
+/// Whatever functions a plan has, both tables allow it or do not, and the same node is refused by the same rule.
+pub fn functions_are_not_asked()
+    ensures { FunctionsAreNotAsked }
 {}

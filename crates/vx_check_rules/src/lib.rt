@@ -48,8 +48,9 @@ pub use fault::CheckFault;
 pub use inputs::do_sizes_match;
 pub use keyed::{CopiedKeys, Keyed, KeysSeen, are_covered, keyed_from, show_key};
 pub use laws::{
-    carried_is_shown, copies_back, fits_exactly, keys_carried, keys_exactly, orders_carried,
-    orders_exactly, parts_carried, parts_exactly, tables_decide, verdicts_exactly,
+    carried_is_shown, copies_back, fits_exactly, functions_are_not_asked, keys_carried,
+    keys_exactly, orders_carried, orders_exactly, parts_carried, parts_exactly, tables_decide,
+    verdicts_exactly,
 };
 pub use nodes::{claimed_keys, claimed_order, claimed_part, has_one_worker};
 pub use order_seen::OrderSeen;

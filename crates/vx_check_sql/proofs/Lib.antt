@@ -1,4 +1,4 @@
 pub mod CallFacts
-pub mod ColumnFacts
+pub mod EndFacts
 pub mod OwnFacts
 pub mod WordFacts

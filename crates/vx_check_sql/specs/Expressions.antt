@@ -5,8 +5,8 @@ use Rattle.vx_functions.specs.Standard.{named}
 use Rattle.vx_plan_nodes.specs.Plan.{Expression, input, value, call, Operands, no_operands, operand}
 use Rattle.vx_check_sql.specs.declared.dialect.Dialect.{Dialect}
 use Rattle.vx_check_sql.specs.declared.dialect.Dialect.TheVariants.{Sqlite, Postgres, ClickHouse}
-use Rattle.vx_check_sql.specs.declared.words.Alias.{Alias}
-use Rattle.vx_check_sql.specs.Words.{value_sql, column_name}
+use Rattle.vx_catalog_relations.specs.Naming.{name_at}
+use Rattle.vx_check_sql.specs.Words.{value_sql}
 use Rattle.vx_check_sql.specs.Functions.{call_sql, tests_operands}
 
 -- a value that is a column or an operand: a number of 64 bits, and a text that compares by its bytes, which PostgreSQL and ClickHouse have to be told
@@ -27,13 +27,13 @@ constant_after ClickHouse (text t) = []
 abbrev pub constant_sql : Dialect → Val → List ℕ
 constant_sql d v = constant_before d v ++ (value_sql d v ++ constant_after d v)
 
--- an expression over the columns of node m; whether what stands around it asks for a test of its answer
+-- an expression over columns, each as it is written; whether what stands around it asks for a test of its answer
 abbrev mutual
-  pub expression_sql : Dialect → Alias → (asks : Bool) → Expression → List ℕ
-  expression_sql d m asks (input c) = column_name m c
-  expression_sql d m asks (value v) = constant_sql d v
-  expression_sql d m asks (call f t es) = call_sql d asks (named f.name) (operands_sql d m (tests_operands (named f.name)) es)
+  pub expression_sql : Dialect → (columns : List (List ℕ)) → (asks : Bool) → Expression → List ℕ
+  expression_sql d cs asks (input c) = name_at cs c
+  expression_sql d cs asks (value v) = constant_sql d v
+  expression_sql d cs asks (call f t es) = call_sql d asks (named f.name) (operands_sql d cs (tests_operands (named f.name)) es)
 
-  pub operands_sql : Dialect → Alias → (asks : Bool) → Operands → List (List ℕ)
-  operands_sql d m asks no_operands = []
-  operands_sql d m asks (operand e es) = expression_sql d m asks e ∷ operands_sql d m asks es
+  pub operands_sql : Dialect → (columns : List (List ℕ)) → (asks : Bool) → Operands → List (List ℕ)
+  operands_sql d cs asks no_operands = []
+  operands_sql d cs asks (operand e es) = expression_sql d cs asks e ∷ operands_sql d cs asks es

@@ -2,6 +2,9 @@ pub mod Words
 pub mod Functions
 pub mod FunctionsView
 pub mod Expressions
+pub mod OutputNames
 pub mod OwnNames
+pub mod Blocks
+pub mod BlocksView
 pub mod Operators
 pub mod Statement

@@ -1,84 +1,85 @@
 -- A plan without its exchanges as one statement of SQL.
-use Rattle.std.specs.Prelude.{ℕ, suc, ◌++◌, false, List, [], ◌∷◌, codes}
-use Rattle.vx_rows_values.specs.Values.{Name}
+use Rattle.std.specs.Prelude.{ℕ, suc, ◌++◌, ◌==◌, ◌&&◌, ◌||◌, Bool, true, false, not, cond, List, [], ◌∷◌, map, codes, bytes_eq, if◌then◌else◌}
+use Rattle.vx_rows_values.specs.declared.order.OrderEntry.{OrderEntry}
+use Rattle.vx_rows_values.specs.Order.{entry_eq}
 use Rattle.vx_catalog_relations.specs.Catalog.{relation_at}
 use Rattle.vx_plan_nodes.specs.Names.{Names}
-use Rattle.vx_plan_nodes.specs.Outline.{Outline, Top, scan, unary, binary, exchange, top, columns}
+use Rattle.vx_plan_nodes.specs.Outline.{Outline, scan, unary, binary, exchange, top, columns}
 use Rattle.vx_plan_nodes.specs.TypedView.{resolved_of}
 use Rattle.vx_plan_nodes.specs.declared.typed_plan.TypedPlan.{TypedPlan}
 use Rattle.vx_check.specs.Explain.{separated}
 use Rattle.vx_check_sql.specs.declared.dialect.Dialect.{Dialect}
-use Rattle.vx_check_sql.specs.declared.dialect.Dialect.TheVariants.{Sqlite, Postgres, ClickHouse}
-use Rattle.vx_check_sql.specs.declared.words.Alias.{Alias}
-use Rattle.vx_check_sql.specs.Words.{identifier, alias, node_name, column_name}
+use Rattle.vx_check_sql.specs.Words.{identifier, alias}
+use Rattle.vx_check_sql.specs.OutputNames.{output_names}
 use Rattle.vx_check_sql.specs.OwnNames.{underscores}
-use Rattle.vx_check_sql.specs.Operators.{scan_sql, order_sql, unary_sql, binary_sql}
+use Rattle.vx_check_sql.specs.Blocks.{Block, Select, Rows, block, select_sql, order_sql, maker, closed, over}
+use Rattle.vx_check_sql.specs.Operators.{scan_block, unary_rows, binary_rows}
 
--- how many underscores the names of a statement have is k throughout
+-- how many underscores the own names of a statement have is k throughout
 
--- the alias of a node
-abbrev pub named_by : (k : ℕ) → Top → Alias
-named_by k h = alias k h.number
+-- ---- the rows of a node
 
--- the alias of the node whose rows these are: an exchange gives those of the node below it
-abbrev pub maker : (k : ℕ) → Outline → Alias
-maker k (scan h r m z p) = named_by k h
-maker k (unary h op f t) = named_by k h
-maker k (binary h op t u) = named_by k h
-maker k (exchange h x m t) = maker k t
+-- the relations that a plan scans, by number
+abbrev pub scanned : Outline → List ℕ
+scanned (scan h r m z p) = r ∷ []
+scanned (unary h op f t) = scanned t
+scanned (binary h op t u) = scanned t ++ scanned u
+scanned (exchange h x m t) = scanned t
 
--- ---- a table for each node
+abbrev pub times : ℕ → List ℕ → ℕ
+times r [] = 0
+times r (x ∷ xs) = cond (x == r) (suc (times r xs)) (times r xs)
 
--- a node's rows under its name
-unfoldable pub table_as : Alias → List ℕ → List ℕ
-table_as n rows = node_name n ++ (codes " AS (" ++ (rows ++ codes ")"))
-
--- each node but the exchanges, those below it first
-abbrev pub tables : Dialect → (k : ℕ) → Names → Outline → List ℕ
-tables d k s (scan h r m z p) = table_as (named_by k h) (scan_sql d (named_by k h) (relation_at s.catalog r))
-tables d k s (unary h op f t) =
-    tables d k s t ++ (codes ",\n" ++ table_as (named_by k h) (unary_sql d (maker k t) (named_by k h) (columns t).types (top t).claim.order op (node_name (maker k t))))
-tables d k s (binary h op t u) =
-    tables d k s t ++ (codes ",\n" ++ (tables d k s u ++ (codes ",\n" ++
-    table_as (named_by k h) (binary_sql d (maker k t) (maker k u) (named_by k h) (columns t).types (columns u).types op (node_name (maker k t)) (node_name (maker k u))))))
-tables d k s (exchange h x m t) = tables d k s t
-
--- ---- or each node's rows within those of the node above it
-
--- rows in brackets, and their name
-abbrev pub within : Alias → List ℕ → List ℕ
-within n rows = codes "(" ++ (rows ++ (codes ") AS " ++ node_name n))
-
-abbrev pub nested : Dialect → (k : ℕ) → Names → Outline → List ℕ
-nested d k s (scan h r m z p) = scan_sql d (named_by k h) (relation_at s.catalog r)
-nested d k s (unary h op f t) = unary_sql d (maker k t) (named_by k h) (columns t).types (top t).claim.order op (within (maker k t) (nested d k s t))
-nested d k s (binary h op t u) =
-    binary_sql d (maker k t) (maker k u) (named_by k h) (columns t).types (columns u).types op (within (maker k t) (nested d k s t)) (within (maker k u) (nested d k s u))
-nested d k s (exchange h x m t) = nested d k s t
+-- where the whole plan scans these relations
+abbrev pub rows : Dialect → (k : ℕ) → Names → (scans : List ℕ) → Outline → Rows
+rows d k s scans (scan h r m z p) = block (scan_block d (alias k h.number) (times r scans == 1) (relation_at s.catalog r))
+rows d k s scans (unary h op f t) = unary_rows d k (output_names d (alias k h.number) h.columns.names) op t (rows d k s scans t)
+rows d k s scans (binary h op t u) = binary_rows d k op t u (rows d k s scans t) (rows d k s scans u)
+rows d k s scans (exchange h x m t) = rows d k s scans t
 
 -- ---- the statement
 
--- the columns of node m from column i on, by the names that the plan gives them
-abbrev pub result_columns : Dialect → (m : Alias) (i : ℕ) → List Name → List (List ℕ)
-result_columns d m i [] = []
-result_columns d m i (x ∷ xs) = (column_name m i ++ (codes " AS " ++ identifier d x)) ∷ result_columns d m (suc i) xs
+-- rows in the second order are in the first one
+abbrev pub begins : List OrderEntry → List OrderEntry → Bool
+begins [] es = true
+begins (f ∷ fs) [] = false
+begins (f ∷ fs) (e ∷ es) = entry_eq f e && begins fs es
 
--- the rows of the root, in the order that it claims
-unfoldable pub result_sql : Dialect → (k : ℕ) → Outline → (rows : List ℕ) → List ℕ
-result_sql d k t rows =
-    codes "SELECT " ++ (separated (codes ", ") false (result_columns d (maker k t) 0 (columns t).names) ++ (codes " FROM " ++ (rows ++
-    (order_sql (maker k t) (top t).claim.order ++ codes ";\n"))))
+abbrev pub are_same : List (List ℕ) → List (List ℕ) → Bool
+are_same [] [] = true
+are_same [] (y ∷ ys) = false
+are_same (x ∷ xs) [] = false
+are_same (x ∷ xs) (y ∷ ys) = bytes_eq x y && are_same xs ys
 
-abbrev pub with_tables : Dialect → (k : ℕ) → Names → Outline → List ℕ
-with_tables d k s t = codes "WITH " ++ (tables d k s t ++ (codes "\n" ++ result_sql d k t (node_name (maker k t))))
+-- the SELECT of the root's rows can end the statement if its columns have the result's names already, and its rows are in the order that the root claims, or that can stand
+-- behind it
+abbrev pub ends : (names : List (List ℕ)) → List OrderEntry → Select → Bool
+ends names order w = are_same w.names names && (begins order w.order || not (w.is_union || w.is_limited))
 
--- ClickHouse has no WITH in old versions; SQLite reads no more than some fifteen SELECTs within one another
+abbrev pub end_of : List OrderEntry → Select → List ℕ
+end_of order w = w.text ++ cond (begins order w.order) [] (order_sql w.names order)
+
+-- else there is one more SELECT
+abbrev pub end_over : (names : List (List ℕ)) → List OrderEntry → Block → List ℕ
+end_over names order b = codes "SELECT " ++ (select_sql b.columns names b.from b.conditions ++ order_sql b.columns order)
+
+abbrev pub with_tables : List (List ℕ) → List ℕ
+with_tables [] = []
+with_tables (x ∷ xs) = codes "WITH " ++ (separated (codes ",\n") false (x ∷ xs) ++ codes "\n")
+
+unfoldable pub whole_sql : (tables : List (List ℕ)) → (last : List ℕ) → List ℕ
+whole_sql tables last = with_tables tables ++ (last ++ codes ";\n")
+
+-- the rows of node t, by these names and in this order
+unfoldable pub result_sql : Dialect → (k : ℕ) → (names : List (List ℕ)) → List OrderEntry → (t : Outline) → Select → List ℕ
+result_sql d k names order t w =
+    if ends names order w then whole_sql w.tables (end_of order w)
+    else whole_sql (over d (maker k t) w).tables (end_over names order (over d (maker k t) w))
+
 abbrev pub statement_sql : Dialect → (k : ℕ) → Names → Outline → List ℕ
-statement_sql Sqlite k s t = with_tables Sqlite k s t
-statement_sql Postgres k s t = with_tables Postgres k s t
-statement_sql ClickHouse k s t = result_sql ClickHouse k t (within (maker k t) (nested ClickHouse k s t))
+statement_sql d k s t = result_sql d k (map (identifier d) (columns t).names) (top t).claim.order t (closed d k t (rows d k s (scanned t) t))
 
--- the same with names that are apart from those that the statement does not make
+-- the same with own names that are apart from those that the statement does not make
 abbrev pub outline_sql : Dialect → Names → Outline → List ℕ
 outline_sql d s t = statement_sql d (underscores s t) s t
 

@@ -1,4 +1,4 @@
--- The words of a statement: quoted names and texts, and the names of nodes and columns.
+-- The words of a statement: quoted names and texts, and its own names for nodes and columns.
 use Rattle.std.specs.Prelude.{ℕ, ◌==◌, ◌++◌, ◌||◌, List, [], ◌∷◌, codes, decimal, replicate, if◌then◌else◌}
 use Rattle.std.specs.List.{flat_map}
 use Rattle.std.specs.Char.{encode_utf8}
@@ -51,9 +51,9 @@ abbrev pub value_sql : Dialect → Val → List ℕ
 value_sql d (num z) = signed_decimal z
 value_sql d (text words) = quoted d 39 (zero_in_text d) words
 
--- ---- names
+-- ---- own names
 
--- the name that a node's rows have in a statement: of its number, and of how many underscores all names of the statement have behind their first letter
+-- how a statement calls a node: by its number, and by how many underscores all own names of the statement have behind their first letter
 abbrev pub alias : (underscores node : ℕ) → Alias
 alias k n = record { underscores = k; node = n }
 
@@ -61,10 +61,6 @@ alias k n = record { underscores = k; node = n }
 unfoldable pub node_name : Alias → List ℕ
 node_name a = codes "n" ++ (replicate a.underscores 95 ++ decimal a.node)
 
--- a column of the rows of a node; no two columns of a statement have one name
+-- a column of a node by its number
 unfoldable pub column_name : Alias → ℕ → List ℕ
 column_name a i = codes "c" ++ (replicate a.underscores 95 ++ (decimal a.node ++ (codes "_" ++ decimal i)))
-
--- the same, by the name of the rows too
-unfoldable pub column_of : Alias → ℕ → List ℕ
-column_of a i = node_name a ++ (codes "." ++ column_name a i)

@@ -9,7 +9,8 @@ ghost use Rattle.vx_check_sql.specs.Expressions.{constant_before, constant_after
 
 use crate::dialect::Dialect;
 use crate::functions::{Form, call_form, is_tested, push_closing, push_opening, tests_operands};
-use crate::words::{Alias, push_column_name, push_value};
+use crate::texts::text_at;
+use crate::words::push_value;
 use std::alloc::AllocError;
 use vx_functions::StandardFunction;
 use vx_plan_nodes::Expression;
@@ -53,16 +54,16 @@ fn push_constant(text: &mut String, dialect: Dialect, value: &Value) -> Result<(
 fn push_operands(
     text: &mut String,
     dialect: Dialect,
-    from: Alias,
+    columns: &[String],
     asks: bool,
     form: Form,
     operands: &[Expression],
 ) -> Result<(), AllocError>
-    ensures { OnOk result (string_bytes text.new ≡ string_bytes text.old ++ spaced (form_of form) 0 (map (λ e. expression_sql dialect from asks (expression_of e)) operands.now)) }
+    ensures { OnOk result (string_bytes text.new ≡ string_bytes text.old ++ spaced (form_of form) 0 (map (λ e. expression_sql dialect (map string_bytes columns.now) asks (expression_of e)) operands.now)) }
 {
     for (i, operand) in operands.iter().enumerate() {
         text.push_str(form.before(i))?;
-        push_expression(text, dialect, from, asks, operand)?;
+        push_expression(text, dialect, columns, asks, operand)?;
     }
     Ok(())
 }
@@ -72,12 +73,12 @@ fn push_operands(
 fn push_call(
     text: &mut String,
     dialect: Dialect,
-    from: Alias,
+    columns: &[String],
     asks: bool,
     function: Option<StandardFunction>,
     operands: &[Expression],
 ) -> Result<(), AllocError>
-    ensures { OnOk result (string_bytes text.new ≡ string_bytes text.old ++ call_sql dialect asks function (map (λ e. expression_sql dialect from (tests_operands function) (expression_of e)) operands.now)) }
+    ensures { OnOk result (string_bytes text.new ≡ string_bytes text.old ++ call_sql dialect asks function (map (λ e. expression_sql dialect (map string_bytes columns.now) (tests_operands function) (expression_of e)) operands.now)) }
 {
     let words = call_form(dialect, function);
     let tests = is_tested(dialect, asks, function);
@@ -85,7 +86,7 @@ fn push_call(
     push_operands(
         text,
         dialect,
-        from,
+        columns,
         tests_operands(function),
         words,
         operands,
@@ -93,24 +94,24 @@ fn push_call(
     push_closing(text, dialect, tests, words)
 }
 
-/// Adds an expression over the columns of the node `from`; `asks` says whether what stands around it asks for a test of its answer.
+/// Adds an expression over these columns; `asks` says whether what stands around it asks for a test of its answer.
 #[cycle(expressions)]
 pub fn push_expression(
     text: &mut String,
     dialect: Dialect,
-    from: Alias,
+    columns: &[String],
     asks: bool,
     expression: &Expression,
 ) -> Result<(), AllocError>
-    ensures { OnOk result (string_bytes text.new ≡ string_bytes text.old ++ expression_sql dialect from asks (expression_of expression.now)) }
+    ensures { OnOk result (string_bytes text.new ≡ string_bytes text.old ++ expression_sql dialect (map string_bytes columns.now) asks (expression_of expression.now)) }
 {
     match expression {
-        Expression::Input(column) => push_column_name(text, from, *column),
+        Expression::Input(column) => text.push_str(text_at(columns, *column)),
         Expression::Value(value) => push_constant(text, dialect, value),
         Expression::Call(name, _, operands) => push_call(
             text,
             dialect,
-            from,
+            columns,
             asks,
             StandardFunction::named(name.as_str()),
             operands.as_slice(),

@@ -1,477 +1,256 @@
-//! What each operator is in SQL.
+//! What an operator over one input makes of its rows.
 
-ghost use Rattle.std.specs.Prelude.{◌≡◌, ◌++◌, ◌+◌, ◌<◌, ◌^◌, map, length, string_bytes, codes, decimal, OnOk, false, true};
-ghost use Rattle.vx_plan_nodes.specs.Outline.{side_of, condition_of, filter_of, unary_of, binary_of};
-ghost use Rattle.vx_check.specs.Explain.{separated};
-ghost use Rattle.vx_check_sql.specs.Words.{column_name};
-ghost use Rattle.vx_check_sql.specs.Operators.{all_columns, scan_sql, side_sql, condition_sql, filter_sql, grouping_sql, entry_sql, order_sql, limit_sql, unary_columns, unary_clause, pair_sql, join_word, column_of_both, side_of_both, condition_of_both, matching_sql, semi_join_word, semi_join_clause, binary_columns, binary_word, binary_clause};
+ghost use Rattle.std.specs.Prelude.{◌≡◌, ◌++◌, map, string_bytes, codes, decimal, OnOk, IfOk, []};
+ghost use Rattle.std.specs.List.{list_any};
+ghost use Rattle.vx_catalog_relations.specs.Naming.{name_at};
+ghost use Rattle.vx_plan_nodes.specs.Outline.{outline_of, filter_of, entry_of, aggregate_of, unary_of};
+ghost use Rattle.vx_check_sql.specs.Blocks.{as_select, order_sql, closed};
+ghost use Rattle.vx_check_sql.specs.Operators.{selected, is_computed, with_columns, projected, aggregate_sql, grouping_sql, grouped, limited, orderable, unary_rows};
+ghost use Rattle.vx_check_sql.specs.BlocksView.{texts_of, block_of, select_of, rows_of};
 
-use crate::columns::{
-    push_all, push_group_columns, push_join_columns, push_made_columns, push_projected,
-    push_relation_columns,
-};
+use crate::blocks::{Block, Rows, Select, as_select, closed, opened, push_order, renewed};
+use crate::conditions::{aggregate_texts, filter_texts, made_texts};
 use crate::dialect::Dialect;
-use crate::expressions::push_expression;
-use crate::words::{
-    Alias, push_column_name, push_column_of, push_identifier, push_number, push_value,
-};
-use std::alloc::AllocError;
-use vx_catalog_relations::Relation;
-use vx_check::push_between;
-use vx_plan_nodes::{Binary, Condition, Filter, Side, Unary};
-use vx_rows_values::{ColType, OrderEntry};
+use crate::texts::{appended, kept_texts, push_separated, texts_at};
+use crate::words::push_number;
+use std::alloc::{AllocError, Global};
+use vx_plan_nodes::{Aggregate, Entry, Filter, Phase, Projected, TypedNode, Unary};
+use vx_rows_values::OrderEntry;
 
-/// Adds a scan of a relation.
-#[tactic(auto, unfolding(crate::specs::Operators::scan_sql))]
-pub fn push_scan(
-    text: &mut String,
+// A block with more conditions.
+fn selected(
+    alloc: Global,
     dialect: Dialect,
-    node: Alias,
-    relation: &Relation,
-) -> Result<(), AllocError>
-    requires { length relation.now.types ≡ length relation.now.names }
-    ensures { OnOk result (string_bytes text.new ≡ string_bytes text.old ++ scan_sql dialect node relation.now) }
+    filters: &[Filter],
+    block: Block,
+) -> Result<Block, AllocError>
+    ensures { IfOk result (λ b. block_of b ≡ selected dialect (map filter_of filters.now) (block_of block)) }
 {
-    text.push_str("SELECT ")?;
-    push_relation_columns(text, dialect, node, relation)?;
-    text.push_str(" FROM ")?;
-    push_identifier(text, dialect, relation.name())
+    let more = filter_texts(alloc, dialect, block.columns.as_slice(), filters)?;
+    let Block {
+        tables,
+        from,
+        conditions,
+        columns,
+        is_lone,
+    } = block;
+    Ok(Block {
+        tables,
+        from,
+        conditions: appended(conditions, more)?,
+        columns,
+        is_lone,
+    })
 }
 
-fn push_side(
-    text: &mut String,
-    dialect: Dialect,
-    from: Alias,
-    side: &Side,
-) -> Result<(), AllocError>
-    ensures { OnOk result (string_bytes text.new ≡ string_bytes text.old ++ side_sql dialect from (side_of side.now)) }
+// Whether a column of these is computed.
+fn computes(entries: &[Entry]) -> bool
+    ensures { result ≡ list_any is_computed (map entry_of entries.now) }
 {
-    match side {
-        Side::Column(column) => push_column_name(text, from, *column),
-        Side::Constant(value) => push_value(text, dialect, value),
-    }
-}
-
-#[tactic(auto, unfolding(crate::specs::Operators::condition_sql))]
-fn push_condition(
-    text: &mut String,
-    dialect: Dialect,
-    from: Alias,
-    condition: &Condition,
-) -> Result<(), AllocError>
-    ensures { OnOk result (string_bytes text.new ≡ string_bytes text.old ++ condition_sql dialect from (condition_of condition.now)) }
-{
-    push_column_name(text, from, condition.left)?;
-    text.push_str(" ")?;
-    text.push_str(condition.test.text())?;
-    text.push_str(" ")?;
-    push_side(text, dialect, from, &condition.right)
-}
-
-#[tactic(auto, unfolding(crate::specs::Operators::filter_sql))]
-fn push_filter(
-    text: &mut String,
-    dialect: Dialect,
-    from: Alias,
-    filter: &Filter,
-) -> Result<(), AllocError>
-    ensures { OnOk result (string_bytes text.new ≡ string_bytes text.old ++ filter_sql dialect from (filter_of filter.now)) }
-{
-    match filter {
-        Filter::Compared(condition) => push_condition(text, dialect, from, condition),
-        Filter::Computed(expression) => {
-            push_expression(text, dialect, from, true, expression)?;
-            text.push_str(" <> 0")
+    for entry in entries {
+        if let Entry::Made(_) = entry {
+            return true;
         }
     }
+    false
 }
 
-fn push_filters(
-    text: &mut String,
+// A block with other columns.
+fn with_columns(block: Block, columns: Vec<String>) -> Block
+    ensures { block_of result ≡ with_columns (block_of block) (texts_of columns) }
+{
+    let Block {
+        tables,
+        from,
+        conditions,
+        columns: _,
+        is_lone,
+    } = block;
+    Block {
+        tables,
+        from,
+        conditions,
+        columns,
+        is_lone,
+    }
+}
+
+// A projection of a block's rows: a block, or a SELECT if a column is computed.
+#[tactic(auto, unfolding(crate::specs::Operators::projected))]
+fn projected(
+    alloc: Global,
     dialect: Dialect,
-    from: Alias,
-    filters: &[Filter],
-) -> Result<(), AllocError>
-    ensures { OnOk result (string_bytes text.new ≡ string_bytes text.old ++ separated (codes " AND ") false (map (filter_sql dialect from) (map filter_of filters.now))) }
+    entries: &[Entry],
+    block: Block,
+    names: Vec<String>,
+) -> Result<Rows, AllocError>
+    ensures { IfOk result (λ r. rows_of r ≡ projected dialect (map entry_of entries.now) (block_of block) (texts_of names)) }
 {
-    for (i, filter) in filters.iter().enumerate() {
-        push_between(text, " AND ", i > 0)?;
-        push_filter(text, dialect, from, filter)?;
+    let columns = made_texts(alloc, dialect, block.columns.as_slice(), entries)?;
+    if computes(entries) {
+        let select = as_select(alloc, "SELECT ", block, columns, names, "")?;
+        Ok(Rows::Written(select))
+    } else {
+        Ok(Rows::Block(with_columns(block, columns)))
     }
-    Ok(())
 }
 
-// Adds columns of the node `from`.
-fn push_columns(text: &mut String, from: Alias, columns: &[usize]) -> Result<(), AllocError>
-    ensures { OnOk result (string_bytes text.new ≡ string_bytes text.old ++ separated (codes ", ") false (map (column_name from) columns.now)) }
+// In which groups rows are: by these keys, or all rows in one.
+#[tactic(auto, unfolding(crate::specs::Operators::grouping_sql))]
+fn grouping_text(alloc: Global, keys: &[String]) -> Result<String, AllocError>
+    ensures { IfOk result (λ s. string_bytes s ≡ grouping_sql (map string_bytes keys.now)) }
 {
-    for (i, column) in columns.iter().enumerate() {
-        push_between(text, ", ", i > 0)?;
-        push_column_name(text, from, *column)?;
+    if keys.is_empty() {
+        return String::from_str(alloc, " HAVING count(*) > 0");
     }
-    Ok(())
+    let mut text = String::from_str(alloc, " GROUP BY ")?;
+    push_separated(&mut text, ", ", keys)?;
+    Ok(text)
 }
 
-// Adds in which groups the rows of the node `from` are.
-fn push_grouping(text: &mut String, from: Alias, by: &[usize]) -> Result<(), AllocError>
-    ensures { OnOk result (string_bytes text.new ≡ string_bytes text.old ++ grouping_sql from by.now) }
+// The same by the numbers of the keys.
+fn grouping_by(alloc: Global, columns: &[String], by: &[usize]) -> Result<String, AllocError>
+    ensures { IfOk result (λ s. string_bytes s ≡ grouping_sql (map (name_at (map string_bytes columns.now)) by.now)) }
 {
-    if by.is_empty() {
-        return text.push_str(" HAVING count(*) > 0");
-    }
-    text.push_str(" GROUP BY ")?;
-    push_columns(text, from, by)
+    let keys = texts_at(alloc, columns, by)?;
+    let end = grouping_text(alloc, keys.as_slice())?;
+    Ok(end)
 }
 
-// Adds a column of an order, and whether it falls.
-fn push_entry(text: &mut String, from: Alias, entry: OrderEntry) -> Result<(), AllocError>
-    ensures { OnOk result (string_bytes text.new ≡ string_bytes text.old ++ entry_sql from entry) }
+// The keys of groups, and then their aggregates.
+fn group_columns(
+    alloc: Global,
+    dialect: Dialect,
+    by: &[usize],
+    aggregates: &[Aggregate],
+    columns: &[String],
+) -> Result<Vec<String>, AllocError>
+    ensures { IfOk result (λ v. texts_of v ≡ map (name_at (map string_bytes columns.now)) by.now ++ map (aggregate_sql dialect (map string_bytes columns.now)) (map aggregate_of aggregates.now)) }
 {
-    push_column_of(text, from, entry.column)?;
-    if entry.falling {
-        text.push_str(" DESC")?;
-    }
-    Ok(())
+    let keys = texts_at(alloc, columns, by)?;
+    let made = aggregate_texts(alloc, dialect, columns, aggregates)?;
+    let all = appended(keys, made)?;
+    Ok(all)
 }
 
-fn push_entries(text: &mut String, from: Alias, order: &[OrderEntry]) -> Result<(), AllocError>
-    ensures { OnOk result (string_bytes text.new ≡ string_bytes text.old ++ separated (codes ", ") false (map (entry_sql from) order.now)) }
+// The groups of a block's rows.
+fn grouped(
+    alloc: Global,
+    dialect: Dialect,
+    by: &[usize],
+    aggregates: &[Aggregate],
+    block: Block,
+    names: Vec<String>,
+) -> Result<Select, AllocError>
+    ensures { IfOk result (λ s. select_of s ≡ grouped dialect by.now (map aggregate_of aggregates.now) (block_of block) (texts_of names)) }
 {
-    for (i, entry) in order.iter().enumerate() {
-        push_between(text, ", ", i > 0)?;
-        push_entry(text, from, *entry)?;
-    }
-    Ok(())
+    let from = block.columns.as_slice();
+    let columns = group_columns(alloc, dialect, by, aggregates, from)?;
+    let end = grouping_by(alloc, from, by)?;
+    let select = as_select(alloc, "SELECT ", block, columns, names, end.as_str())?;
+    Ok(select)
 }
 
-/// Adds the order of the rows of the node `from`, if there is one.
-///
-/// A column that falls is written with `DESC`. No value is NULL, so it is not said whether NULLs stand first or last.
-pub fn push_order(text: &mut String, from: Alias, order: &[OrderEntry]) -> Result<(), AllocError>
-    ensures { OnOk result (string_bytes text.new ≡ string_bytes text.old ++ order_sql from order.now) }
-{
-    if order.is_empty() {
-        return Ok(());
-    }
-    text.push_str(" ORDER BY ")?;
-    push_entries(text, from, order)
-}
-
-// Adds how many first rows in this order a limit takes.
-#[tactic(auto, unfolding(crate::specs::Operators::limit_sql))]
-fn push_limit(
-    text: &mut String,
-    from: Alias,
+// The first rows in this order.
+fn limited(
+    alloc: Global,
     order: &[OrderEntry],
     rows: u32,
-) -> Result<(), AllocError>
-    ensures { OnOk result (string_bytes text.new ≡ string_bytes text.old ++ limit_sql from order.now rows) }
+    select: Select,
+) -> Result<Select, AllocError>
+    ensures { IfOk result (λ s. select_of s ≡ limited order.now rows (select_of select)) }
 {
-    push_order(text, from, order)?;
+    let Select {
+        tables,
+        text,
+        names,
+        order: _,
+        is_union: _,
+        is_limited: _,
+    } = select;
+    let mut text = text;
+    push_order(&mut text, names.as_slice(), order)?;
     text.push_str(" LIMIT ")?;
-    push_number(text, rows as usize)
+    push_number(&mut text, rows as usize)?;
+    Ok(Select {
+        tables,
+        text,
+        names,
+        order: Vec::from_slice(alloc, order)?,
+        is_union: false,
+        is_limited: true,
+    })
 }
 
-/// Adds what the SELECT of an operator gives: the columns of the node `to` of those of the node `from`.
-#[tactic(auto, unfolding(crate::specs::Operators::unary_columns))]
-pub fn push_unary_columns(
-    text: &mut String,
+// A SELECT of a node's rows behind which an order can stand.
+fn orderable(
+    alloc: Global,
     dialect: Dialect,
-    from: Alias,
-    to: Alias,
-    types: &[ColType],
-    operator: &Unary,
-) -> Result<(), AllocError>
-    ensures { OnOk result (string_bytes text.new ≡ string_bytes text.old ++ unary_columns dialect from to types.now (unary_of operator.now)) }
+    underscores: usize,
+    node: &TypedNode,
+    rows: Rows,
+) -> Result<Select, AllocError>
+    ensures { IfOk result (λ s. select_of s ≡ orderable dialect underscores (outline_of node.now) (closed dialect underscores (outline_of node.now) (rows_of rows))) }
 {
-    match operator {
-        Unary::Select(_) => push_all(text, from, to, types),
-        Unary::Project(entries) => push_made_columns(text, dialect, from, to, entries.as_slice()),
-        Unary::Distinct(kept) => {
-            text.push_str("DISTINCT ")?;
-            push_projected(text, from, to, kept.as_slice())
-        }
-        Unary::Sort(_, _) => push_all(text, from, to, types),
-        Unary::Group(_, by, aggregates) => {
-            push_group_columns(
-                text,
-                dialect,
-                from,
-                to,
-                by.as_slice(),
-                aggregates.as_slice(),
-            )
-        }
-        Unary::Limit(_) => push_all(text, from, to, types),
-    }
+    let select = closed(alloc, dialect, underscores, node, rows)?;
+    let again = select.is_union || select.is_limited;
+    renewed(alloc, dialect, underscores, node, again, select)
 }
 
-/// Adds of which rows of the node `from`, which claims this order, an operator's SELECT is, and in which groups they are.
-#[tactic(auto, unfolding(crate::specs::Operators::unary_clause))]
-pub fn push_unary_clause(
-    text: &mut String,
+// The distinct rows of some of a block's columns.
+fn distinct(
+    alloc: Global,
+    kept: &[Projected],
+    block: Block,
+    names: Vec<String>,
+) -> Result<Select, AllocError>
+    ensures { IfOk result (λ s. select_of s ≡ as_select (codes "SELECT DISTINCT ") (block_of block) (map (name_at (texts_of block.columns)) (map (λ k. k.column) kept.now)) (texts_of names) []) }
+{
+    let columns = kept_texts(alloc, block.columns.as_slice(), kept)?;
+    let select = as_select(alloc, "SELECT DISTINCT ", block, columns, names, "")?;
+    Ok(select)
+}
+
+/// What an operator makes of the rows of its input, with these names of the columns that it makes.
+#[tactic(auto, unfolding(crate::specs::Operators::unary_rows))]
+pub fn unary_rows(
+    alloc: Global,
     dialect: Dialect,
-    from: Alias,
-    order: &[OrderEntry],
+    underscores: usize,
+    names: Vec<String>,
     operator: &Unary,
-) -> Result<(), AllocError>
-    ensures { OnOk result (string_bytes text.new ≡ string_bytes text.old ++ unary_clause dialect from order.now (unary_of operator.now)) }
+    input: &TypedNode,
+    rows: Rows,
+) -> Result<Rows, AllocError>
+    ensures { IfOk result (λ r. rows_of r ≡ unary_rows dialect underscores (texts_of names) (unary_of operator.now) (outline_of input.now) (rows_of rows)) }
 {
     match operator {
         Unary::Select(filters) => {
-            text.push_str(" WHERE ")?;
-            push_filters(text, dialect, from, filters.as_slice())
+            let block = opened(alloc, dialect, underscores, input, rows)?;
+            let more = selected(alloc, dialect, filters.as_slice(), block)?;
+            Ok(Rows::Block(more))
         }
-        Unary::Project(_) | Unary::Distinct(_) | Unary::Sort(_, _) => Ok(()),
-        Unary::Group(_, by, _) => push_grouping(text, from, by.as_slice()),
-        Unary::Limit(rows) => push_limit(text, from, order, *rows),
-    }
-}
-
-// The word of a join in which each pair of rows that agree gives a row.
-fn join_word(dialect: Dialect) -> &'static str
-    ensures { result.now ≡ join_word dialect }
-{
-    match dialect {
-        Dialect::Sqlite | Dialect::Postgres => " INNER JOIN ",
-        Dialect::ClickHouse => " ALL INNER JOIN ",
-    }
-}
-
-// Adds the pairs on which a join's rows agree.
-fn push_pairs(
-    text: &mut String,
-    left: Alias,
-    right: Alias,
-    on: &[(usize, usize)],
-) -> Result<(), AllocError>
-    ensures { OnOk result (string_bytes text.new ≡ string_bytes text.old ++ separated (codes " AND ") false (map (pair_sql left right) on.now)) }
-{
-    for (i, pair) in on.iter().enumerate() {
-        push_between(text, " AND ", i > 0)?;
-        push_column_of(text, left, pair.0)?;
-        text.push_str(" = ")?;
-        push_column_of(text, right, pair.1)?;
-    }
-    Ok(())
-}
-
-// Adds a column of the left rows, which have so many columns, or one of the right rows behind them.
-fn push_column_of_both(
-    text: &mut String,
-    left: Alias,
-    right: Alias,
-    width: usize,
-    column: usize,
-) -> Result<(), AllocError>
-    ensures { OnOk result (string_bytes text.new ≡ string_bytes text.old ++ column_of_both left right width column) }
-{
-    if column < width {
-        push_column_of(text, left, column)
-    } else {
-        push_column_of(text, right, column - width)
-    }
-}
-
-fn push_side_of_both(
-    text: &mut String,
-    dialect: Dialect,
-    left: Alias,
-    right: Alias,
-    width: usize,
-    side: &Side,
-) -> Result<(), AllocError>
-    ensures { OnOk result (string_bytes text.new ≡ string_bytes text.old ++ side_of_both dialect left right width (side_of side.now)) }
-{
-    match side {
-        Side::Column(column) => push_column_of_both(text, left, right, width, *column),
-        Side::Constant(value) => push_value(text, dialect, value),
-    }
-}
-
-#[tactic(auto, unfolding(crate::specs::Operators::condition_of_both))]
-fn push_condition_of_both(
-    text: &mut String,
-    dialect: Dialect,
-    left: Alias,
-    right: Alias,
-    width: usize,
-    condition: &Condition,
-) -> Result<(), AllocError>
-    ensures { OnOk result (string_bytes text.new ≡ string_bytes text.old ++ condition_of_both dialect left right width (condition_of condition.now)) }
-{
-    push_column_of_both(text, left, right, width, condition.left)?;
-    text.push_str(" ")?;
-    text.push_str(condition.test.text())?;
-    text.push_str(" ")?;
-    push_side_of_both(text, dialect, left, right, width, &condition.right)
-}
-
-// Adds more conditions on a left row and a right one.
-fn push_more_conditions(
-    text: &mut String,
-    dialect: Dialect,
-    left: Alias,
-    right: Alias,
-    width: usize,
-    conditions: &[Condition],
-) -> Result<(), AllocError>
-    ensures { OnOk result (string_bytes text.new ≡ string_bytes text.old ++ separated (codes " AND ") true (map (condition_of_both dialect left right width) (map condition_of conditions.now))) }
-{
-    for condition in conditions {
-        text.push_str(" AND ")?;
-        push_condition_of_both(text, dialect, left, right, width, condition)?;
-    }
-    Ok(())
-}
-
-// Adds which right rows match a left one.
-#[tactic(auto, unfolding(crate::specs::Operators::matching_sql))]
-fn push_matching(
-    text: &mut String,
-    dialect: Dialect,
-    left: Alias,
-    right: Alias,
-    width: usize,
-    on: &[(usize, usize)],
-    conditions: &[Condition],
-) -> Result<(), AllocError>
-    ensures { OnOk result (string_bytes text.new ≡ string_bytes text.old ++ matching_sql dialect left right width on.now (map condition_of conditions.now)) }
-{
-    push_pairs(text, left, right, on)?;
-    push_more_conditions(text, dialect, left, right, width, conditions)
-}
-
-// What stands between the left rows and the right ones that are to match some of them, or none.
-fn semi_join_word(dialect: Dialect, matched: bool) -> &'static str
-    ensures { result.now ≡ semi_join_word dialect matched }
-{
-    match (dialect, matched) {
-        (Dialect::Sqlite | Dialect::Postgres, true) => " WHERE EXISTS (SELECT 1 FROM ",
-        (Dialect::Sqlite | Dialect::Postgres, false) => " WHERE NOT EXISTS (SELECT 1 FROM ",
-        (Dialect::ClickHouse, true) => " SEMI LEFT JOIN ",
-        (Dialect::ClickHouse, false) => " ANTI LEFT JOIN ",
-    }
-}
-
-// Adds which right rows match a left one, behind the right rows.
-fn push_semi_join(
-    text: &mut String,
-    dialect: Dialect,
-    left: Alias,
-    right: Alias,
-    width: usize,
-    on: &[(usize, usize)],
-    conditions: &[Condition],
-) -> Result<(), AllocError>
-    ensures { OnOk result (string_bytes text.new ≡ string_bytes text.old ++ semi_join_clause dialect (matching_sql dialect left right width on.now (map condition_of conditions.now))) }
-{
-    match dialect {
-        Dialect::Sqlite | Dialect::Postgres => {
-            text.push_str(" WHERE ")?;
-            push_matching(text, dialect, left, right, width, on, conditions)?;
-            text.push_str(")")
+        Unary::Project(entries) => {
+            let block = opened(alloc, dialect, underscores, input, rows)?;
+            let made = projected(alloc, dialect, entries.as_slice(), block, names)?;
+            Ok(made)
         }
-        Dialect::ClickHouse => {
-            text.push_str(" ON ")?;
-            push_matching(text, dialect, left, right, width, on, conditions)
+        Unary::Distinct(kept) => {
+            let block = opened(alloc, dialect, underscores, input, rows)?;
+            Ok(Rows::Written(distinct(alloc, kept.as_slice(), block, names)?))
         }
-    }
-}
-
-/// Adds what the SELECT of an operator over two inputs gives: the columns of the node `to`.
-#[tactic(auto, unfolding(crate::specs::Operators::binary_columns))]
-pub fn push_binary_columns(
-    text: &mut String,
-    left: Alias,
-    right: Alias,
-    to: Alias,
-    left_types: &[ColType],
-    right_types: &[ColType],
-    operator: &Binary,
-) -> Result<(), AllocError>
-    requires { length left_types.now + length right_types.now < 2 ^ 64 }
-    ensures { OnOk result (string_bytes text.new ≡ string_bytes text.old ++ binary_columns left right to left_types.now right_types.now (binary_of operator.now)) }
-{
-    match operator {
-        Binary::Union => push_all(text, left, to, left_types),
-        Binary::HashJoin(on) | Binary::MergeJoin(on, _) => {
-            push_join_columns(
-                text,
-                left,
-                right,
-                to,
-                left_types,
-                right_types,
-                on.as_slice(),
-            )
+        Unary::Sort(_, _) | Unary::Group(Phase::Final, _, _) => Ok(rows),
+        Unary::Group(Phase::Plain | Phase::Partial, by, aggregates) => {
+            let block = opened(alloc, dialect, underscores, input, rows)?;
+            let keys = by.as_slice();
+            let made = aggregates.as_slice();
+            let select = grouped(alloc, dialect, keys, made, block, names)?;
+            Ok(Rows::Written(select))
         }
-        Binary::SemiJoin(_, _) | Binary::AntiJoin(_, _) => push_all(text, left, to, left_types),
-    }
-}
-
-// Adds the word of a union, and its right SELECT as far as its rows.
-fn push_union_word(
-    text: &mut String,
-    right: Alias,
-    to: Alias,
-    right_types: &[ColType],
-) -> Result<(), AllocError>
-    ensures { OnOk result (string_bytes text.new ≡ string_bytes text.old ++ (codes " UNION ALL SELECT " ++ (all_columns right to right_types.now ++ codes " FROM "))) }
-{
-    text.push_str(" UNION ALL SELECT ")?;
-    push_all(text, right, to, right_types)?;
-    text.push_str(" FROM ")
-}
-
-/// Adds what stands between the left rows and the right ones.
-#[tactic(auto, unfolding(crate::specs::Operators::binary_word))]
-pub fn push_binary_word(
-    text: &mut String,
-    dialect: Dialect,
-    right: Alias,
-    to: Alias,
-    right_types: &[ColType],
-    operator: &Binary,
-) -> Result<(), AllocError>
-    ensures { OnOk result (string_bytes text.new ≡ string_bytes text.old ++ binary_word dialect right to right_types.now (binary_of operator.now)) }
-{
-    match operator {
-        Binary::Union => push_union_word(text, right, to, right_types),
-        Binary::HashJoin(_) | Binary::MergeJoin(_, _) => text.push_str(join_word(dialect)),
-        Binary::SemiJoin(_, _) => text.push_str(semi_join_word(dialect, true)),
-        Binary::AntiJoin(_, _) => text.push_str(semi_join_word(dialect, false)),
-    }
-}
-
-/// Adds which rows go together, where the left ones have so many columns.
-#[tactic(auto, unfolding(crate::specs::Operators::binary_clause))]
-pub fn push_binary_clause(
-    text: &mut String,
-    dialect: Dialect,
-    left: Alias,
-    right: Alias,
-    width: usize,
-    operator: &Binary,
-) -> Result<(), AllocError>
-    ensures { OnOk result (string_bytes text.new ≡ string_bytes text.old ++ binary_clause dialect left right width (binary_of operator.now)) }
-{
-    match operator {
-        Binary::Union => Ok(()),
-        Binary::HashJoin(on) | Binary::MergeJoin(on, _) => {
-            text.push_str(" ON ")?;
-            push_pairs(text, left, right, on.as_slice())
-        }
-        Binary::SemiJoin(on, conditions) | Binary::AntiJoin(on, conditions) => {
-            push_semi_join(
-                text,
-                dialect,
-                left,
-                right,
-                width,
-                on.as_slice(),
-                conditions.as_slice(),
-            )
+        Unary::Limit(count) => {
+            let select = orderable(alloc, dialect, underscores, input, rows)?;
+            let order = input.head().claim.order.as_slice();
+            Ok(Rows::Written(limited(alloc, order, *count, select)?))
         }
     }
 }

@@ -5,7 +5,7 @@ ghost use Rattle.std.specs.List.{flat_map};
 ghost use Rattle.vx_plan_nodes.specs.TypedView.{names_in, resolved_of};
 ghost use Rattle.vx_check_sql.specs.OwnNames.{is_own_letter, leading, level, names_of, greatest_level, underscores};
 
-use crate::columns::column_names;
+use crate::nodes::column_names;
 use std::alloc::{AllocError, Global};
 use vx_catalog_relations::{Catalog, Relation};
 use vx_plan_nodes::{Name, TypedPlan};

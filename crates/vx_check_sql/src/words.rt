@@ -1,8 +1,8 @@
-//! Words of a statement: numbers, quoted names and texts, and the names of nodes and columns.
+//! Words of a statement: numbers, quoted names and texts, and own names for nodes and columns.
 
 ghost use Rattle.std.specs.Prelude.{◌≡◌, ◌++◌, string_bytes, OnOk, decimal, replicate};
 ghost use Rattle.vx_rows_values.specs.ValueView.{val_of};
-ghost use Rattle.vx_check_sql.specs.Words.{escape_of, zero_in_text, zero_in_name, inside, insides, quoted, identifier, value_sql, node_name, column_name, column_of};
+ghost use Rattle.vx_check_sql.specs.Words.{escape_of, zero_in_text, zero_in_name, inside, insides, quoted, identifier, value_sql, node_name, column_name};
 
 use crate::dialect::Dialect;
 use itoa::Buffer;
@@ -151,7 +151,7 @@ pub fn push_node_name(text: &mut String, alias: Alias) -> Result<(), AllocError>
     push_number(text, alias.node as usize)
 }
 
-/// Adds the name of a column of a node's rows.
+/// Adds the own name of a column of a node's rows.
 #[tactic(auto, unfolding(crate::specs::Words::column_name))]
 pub fn push_column_name(text: &mut String, alias: Alias, column: usize) -> Result<(), AllocError>
     ensures { OnOk result (string_bytes text.new ≡ string_bytes text.old ++ column_name alias column) }
@@ -161,14 +161,4 @@ pub fn push_column_name(text: &mut String, alias: Alias, column: usize) -> Resul
     push_number(text, alias.node as usize)?;
     text.push_str("_")?;
     push_number(text, column)
-}
-
-/// Adds a column by the name of the node's rows and its own.
-#[tactic(auto, unfolding(crate::specs::Words::column_of))]
-pub fn push_column_of(text: &mut String, alias: Alias, column: usize) -> Result<(), AllocError>
-    ensures { OnOk result (string_bytes text.new ≡ string_bytes text.old ++ column_of alias column) }
-{
-    push_node_name(text, alias)?;
-    text.push_str(".")?;
-    push_column_name(text, alias, column)
 }

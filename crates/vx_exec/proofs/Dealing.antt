@@ -63,7 +63,7 @@ deal-columns s types Gather h = columns-below (length types) [] refl
 deal-columns s types Concat h = columns-below (length types) [] refl
 
 -- rows go as the run has them go
-pub deal-routes : (j : Job) (hash : List ℕ → Row → ℕ → ℕ) (k : ExchangeKind) → KindRoutesAs k (kind_bounds (scope j.plan.now).ranges k) hash (goes (model_of hash j))
+pub deal-routes : {F : Type 0} (j : Job F) (hash : List ℕ → Row → ℕ → ℕ) (k : ExchangeKind) → KindRoutesAs k (kind_bounds (scope j.plan.now).ranges k) hash (goes (model_of hash j))
 deal-routes j hash (route_to z (by_hash name) cols) = λ key n lt. refl
 deal-routes j hash (route_to z (by_range r) cols) = λ key n lt. refl
 deal-routes j hash (round z) = tt

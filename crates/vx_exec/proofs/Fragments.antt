@@ -10,8 +10,10 @@ use Rattle.vx_plan_nodes.specs.Plan.{Plan, Claim, Size, Unary, Binary, ExchangeK
 use Rattle.vx_plan_nodes.specs.Numbering.{is_numbered, nodes}
 use Rattle.vx_plan_nodes.specs.Runs.{is_concat}
 use Rattle.vx_plan_nodes.specs.Streams.{workers}
-use Rattle.vx_plan_nodes.specs.Types.{types_of}
+use Rattle.vx_plan_nodes.specs.Types.{types_of, unary_types}
+use Rattle.vx_plan_nodes.specs.Under.{unary_under, under}
 use Rattle.vx_plan_nodes.specs.Typed.{Scope, typed, is_kind, are_columns, may_merge, is_output}
+use Rattle.vx_plan_nodes.proofs.UnderFacts.{size-under, types-under}
 use Rattle.vx_ops_kernels.proofs.ColumnFacts.{columns-below}
 use Rattle.vx_check_rules.specs.Checked.{relations}
 use Rattle.vx_exec_laws.proofs.Bags.{and-left, and-right}
@@ -29,6 +31,7 @@ use Rattle.vx_exec_operators.specs.Kind.{kind_op, kind_types}
 use Rattle.vx_exec_operators.specs.declared.kind.OperatorKind.TheVariants as of_kind
 use Rattle.vx_worker.specs.declared.tree.Tree.{Tree, One, Two, Leaf, One', Two'}
 use Rattle.vx_plan_nodes.specs.Workers.{worker_group_at}
+use Rattle.vx_plan_nodes.specs.declared.functions.PlanFunctions.{Ghosts}
 use Rattle.vx_exec.specs.Crew.{IsOperatorOf, IsTreeOf}
 use Rattle.vx_exec.specs.Job.{model_of}
 use Rattle.vx_exec.specs.declared.job.Job.{Job}
@@ -43,9 +46,9 @@ widened (Two' o p a q b) low high lower higher l r h = (h.0, widened a low h.0 l
 leaf-numbered : (n i : ℕ) (count : ℕ) → 1 ≤ count → n ≡ i → (i ≤ n) × (n < i + count)
 leaf-numbered n i count some e = (omega (arith, e), omega (arith, e, some))
 
-pub scan-tree : (j : Job) (place n : ℕ) (c : Claim) (r : ℕ) (shared : Bool) (z : Size) (o : Operator)
-    → IsOperatorOf j place (scan n c r shared z) o → IsTreeOf j place (scan n c r shared z) (Leaf n o)
-scan-tree j place n c r shared z o h = record {
+pub scan-tree : {F : Type 0} (given : Ghosts F) (j : Job F) (place n : ℕ) (c : Claim) (r : ℕ) (shared : Bool) (z : Size) (o : Operator F given)
+    → IsOperatorOf given j place (scan n c r shared z) o → IsTreeOf given j place (scan n c r shared z) (Leaf n o)
+scan-tree given j place n c r shared z o h = record {
   shape_is = λ hash. ap (λ x. alone n x) (h.op_is hash);
   gives = h.gives;
   stands = (fresh_ledger, h.stands, record { scanned = refl; came = refl }, refl);
@@ -54,9 +57,9 @@ scan-tree j place n c r shared z o h = record {
   typed = λ leaves fit. h.takes ∙ fit;
 }
 
-pub exchange-tree : (j : Job) (place n : ℕ) (c : Claim) (kind : ExchangeKind) (merge : List OrderEntry) (p : Plan) (o : Operator)
-    → IsOperatorOf j place (exchange n c kind merge p) o → IsTreeOf j place (exchange n c kind merge p) (Leaf n o)
-exchange-tree j place n c kind merge p o h = record {
+pub exchange-tree : {F : Type 0} (given : Ghosts F) (j : Job F) (place n : ℕ) (c : Claim) (kind : ExchangeKind) (merge : List OrderEntry) (p : Plan) (o : Operator F given)
+    → IsOperatorOf given j place (exchange n c kind merge p) o → IsTreeOf given j place (exchange n c kind merge p) (Leaf n o)
+exchange-tree given j place n c kind merge p o h = record {
   shape_is = λ hash. ap (λ x. alone n x) (h.op_is hash);
   gives = h.gives;
   stands = (fresh_ledger, h.stands, record { scanned = refl; came = refl }, refl);
@@ -65,10 +68,10 @@ exchange-tree j place n c kind merge p o h = record {
   typed = λ leaves fit. h.takes ∙ fit.0;
 }
 
-pub unary-tree : (j : Job) (place n : ℕ) (c : Claim) (op : Unary) (p : Plan) (o : Operator) (b : Box (Tree Operator) Global)
-    → IsOperatorOf j place (unary n c op p) o → IsTreeOf j place p b.value → IsTreeOf j place (unary n c op p) (One o b)
-unary-tree j place n c op p o b h below = record {
-  shape_is = λ hash. ap (λ x. above x (tree_shape operator_op b.value)) (h.op_is hash) ∙ ap (λ x. above (one_op n op) x) (below.shape_is hash);
+pub unary-tree : {F : Type 0} (given : Ghosts F) (j : Job F) (place n : ℕ) (c : Claim) (op : Unary) (p : Plan) (o : Operator F given) (b : Box (Tree (Operator F given)) Global)
+    → IsOperatorOf given j place (unary n c op p) o → IsTreeOf given j place p b.value → IsTreeOf given j place (unary n c op p) (One o b)
+unary-tree given j place n c op p o b h below = record {
+  shape_is = λ hash. ap (λ x. above x (tree_shape (operator_op given) b.value)) (h.op_is hash) ∙ ap (λ x. above (one_op n (unary_under (given.functions j.functions) op)) x) (below.shape_is hash);
   gives = h.gives;
   stands = (fresh_ledger, h.stands, below.stands, refl);
   starts = (h.starts, below.starts);
@@ -76,13 +79,13 @@ unary-tree j place n c op p o b h below = record {
   typed = λ leaves fit. (h.takes ∙ sym below.gives, below.typed leaves fit);
 }
 
-pub binary-tree : (j : Job) (place n : ℕ) (c : Claim) (op : Binary) (p q : Plan) (o : Operator) (a b : Box (Tree Operator) Global)
-    → IsOperatorOf j place (binary n c op p q) o → IsTreeOf j place p a.value → IsTreeOf j place q b.value → IsTreeOf j place (binary n c op p q) (Two o a b)
-binary-tree j place n c op p q o a b h left right = record {
+pub binary-tree : {F : Type 0} (given : Ghosts F) (j : Job F) (place n : ℕ) (c : Claim) (op : Binary) (p q : Plan) (o : Operator F given) (a b : Box (Tree (Operator F given)) Global)
+    → IsOperatorOf given j place (binary n c op p q) o → IsTreeOf given j place p a.value → IsTreeOf given j place q b.value → IsTreeOf given j place (binary n c op p q) (Two o a b)
+binary-tree given j place n c op p q o a b h left right = record {
   shape_is = λ hash.
-      ap (λ x. both x (tree_shape operator_op a.value) (tree_shape operator_op b.value)) (h.op_is hash)
-      ∙ ap (λ x. both (two_op n op) x (tree_shape operator_op b.value)) (left.shape_is hash)
-      ∙ ap (λ x. both (two_op n op) (fragment (model_of hash j) place p) x) (right.shape_is hash);
+      ap (λ x. both x (tree_shape (operator_op given) a.value) (tree_shape (operator_op given) b.value)) (h.op_is hash)
+      ∙ ap (λ x. both (two_op n op) x (tree_shape (operator_op given) b.value)) (left.shape_is hash)
+      ∙ ap (λ x. both (two_op n op) (fragment (model_of hash j) place (under (given.functions j.functions) p)) x) (right.shape_is hash);
   gives = h.gives;
   stands = (fresh_ledger, h.stands, left.stands, right.stands, refl);
   starts = (h.starts, left.starts, right.starts);
@@ -96,17 +99,32 @@ binary-tree j place n c op p q o a b h left right = record {
   typed = λ leaves fit. (h.takes.0 ∙ sym left.gives, h.takes.1 ∙ sym right.gives, left.typed leaves fit.0, right.typed leaves fit.1);
 }
 
-pub scan-operator : (j : Job) (place n : ℕ) (c : Claim) (r : ℕ) (shared : Bool) (z : Size) (s : Scan) (o : Operator) (types : List ColType)
-    → o.kind ≡ of_kind.Scan s → OperatorStands o fresh_ledger → StartsWithin (operator_op o) (operator_most o) (operator_idle o)
+pub scan-operator : {F : Type 0} (given : Ghosts F) (j : Job F) (place n : ℕ) (c : Claim) (r : ℕ) (shared : Bool) (z : Size) (s : Scan) (o : Operator F given) (types : List ColType)
+    → o.kind ≡ of_kind.Scan s → OperatorStands given o fresh_ledger → StartsWithin (operator_op given o) (operator_most given o) (operator_idle given o)
     → scan_types s ≡ record { left = types; right = types; out = types }
-    → types ≡ types_of (relations j.plan.now) (scan n c r shared z) → IsOperatorOf j place (scan n c r shared z) o
-scan-operator j place n c r shared z s o types is stands starts shape e = record {
-  op_is = λ hash. ap kind_op is;
+    → types ≡ types_of (relations j.plan.now) (scan n c r shared z) → IsOperatorOf given j place (scan n c r shared z) o
+scan-operator given j place n c r shared z s o types is stands starts shape e = record {
+  op_is = λ hash. ap (kind_op given) is;
   stands = stands;
   starts = starts;
-  takes = ap (λ k. (kind_types k).left) is ∙ ap (λ (x : Shape). x.left) shape ∙ e;
-  gives = ap (λ k. (kind_types k).out) is ∙ ap (λ (x : Shape). x.out) shape ∙ e;
+  takes = ap (λ k. (kind_types given k).left) is ∙ ap (λ (x : Shape). x.left) shape ∙ e;
+  gives = ap (λ k. (kind_types given k).out) is ∙ ap (λ (x : Shape). x.out) shape ∙ e;
 }
+
+-- one that was made for an operator over one input, by the job's functions
+pub unary-made : {F E : Type 0} (given : Ghosts F) (j : Job F) (place n : ℕ) (c : Claim) (op : Unary) (p : Plan) (functions : F) (types : List ColType) (made : Result (Operator F given) E)
+    → IfOk made (λ o. operator_op given o ≡ one_op n (unary_under (given.functions functions) op))
+    → IfOk made (λ o. OperatorStands given o fresh_ledger) → IfOk made (λ o. StartsWithin (operator_op given o) (operator_most given o) (operator_idle given o))
+    → IfOk made (λ o. (operator_types given o).left ≡ types) → IfOk made (λ o. (operator_types given o).out ≡ unary_types op types)
+    → functions ≡ j.functions → types ≡ types_of (relations j.plan.now) p → IfOk made (IsOperatorOf given j place (unary n c op p))
+unary-made given j place n c op p functions types (Ok o) does stands starts reads returns same e = record {
+  op_is = λ hash. does ∙ ap (λ z. one_op n (unary_under (given.functions z) op)) same;
+  stands = stands;
+  starts = starts;
+  takes = reads ∙ e;
+  gives = returns ∙ ap (λ z. unary_types op z) e;
+}
+unary-made given j place n c op p functions types (Err x) does stands starts reads returns same e = tt
 
 -- the columns on which an exchange merges are columns of its rows
 pub exchange-columns : (s : Scope) (n : ℕ) (c : Claim) (kind : ExchangeKind) (merge : List OrderEntry) (p : Plan) → typed s (exchange n c kind merge p) ≡ true
@@ -123,17 +141,21 @@ abbrev consumes : (number place producers : ℕ) → List ColType → List Order
 consumes number place producers types merge in_order = receive (record { exchange = number; place = place; producers = producers; types = types; merge = merge; in_order = in_order })
 
 -- one that was made for an exchange
-pub consumer-made : {E : Type 0} (j : Job) (place n : ℕ) (c : Claim) (kind : ExchangeKind) (merge : List OrderEntry) (p : Plan) (types : List ColType) (producers : ℕ) (made : Result Operator E)
-    → IfOk made (λ o. operator_op o ≡ consumes n place producers types merge (is_concat kind))
-    → IfOk made (λ o. OperatorStands o fresh_ledger) → IfOk made (λ o. StartsWithin (operator_op o) (operator_most o) (operator_idle o))
-    → IfOk made (λ o. (operator_types o).left ≡ types) → IfOk made (λ o. (operator_types o).out ≡ types)
-    → producers ≡ workers (worker_group_at j.layout.worker_groups.items) (size p) → types ≡ types_of (relations j.plan.now) p → IfOk made (IsOperatorOf j place (exchange n c kind merge p))
-consumer-made j place n c kind merge p types producers (Ok o) op stands starts reads returns many e = record {
+pub consumer-made : {F E : Type 0} (given : Ghosts F) (j : Job F) (place n : ℕ) (c : Claim) (kind : ExchangeKind) (merge : List OrderEntry) (p : Plan) (types : List ColType) (producers : ℕ) (made : Result (Operator F given) E)
+    → IfOk made (λ o. operator_op given o ≡ consumes n place producers types merge (is_concat kind))
+    → IfOk made (λ o. OperatorStands given o fresh_ledger) → IfOk made (λ o. StartsWithin (operator_op given o) (operator_most given o) (operator_idle given o))
+    → IfOk made (λ o. (operator_types given o).left ≡ types) → IfOk made (λ o. (operator_types given o).out ≡ types)
+    → producers ≡ workers (worker_group_at j.layout.worker_groups.items) (size p) → types ≡ types_of (relations j.plan.now) p → IfOk made (IsOperatorOf given j place (exchange n c kind merge p))
+consumer-made given j place n c kind merge p types producers (Ok o) op stands starts reads returns many e = record {
   op_is = λ hash.
-      op ∙ ap (λ z. consumes n place z types merge (is_concat kind)) many ∙ ap (λ z. consumes n place (workers (worker_group_at j.layout.worker_groups.items) (size p)) z merge (is_concat kind)) e;
+      let sizes = worker_group_at j.layout.worker_groups.items in
+      let functions = given.functions j.functions in
+      op ∙ ap (λ z. consumes n place z types merge (is_concat kind)) many ∙ ap (λ z. consumes n place (workers sizes (size p)) z merge (is_concat kind)) e
+      ∙ ap (λ z. consumes n place (workers sizes z) (types_of (relations j.plan.now) p) merge (is_concat kind)) (sym (size-under functions p))
+      ∙ ap (λ z. consumes n place (workers sizes (size (under functions p))) z merge (is_concat kind)) (sym (types-under functions (relations j.plan.now) p));
   stands = stands;
   starts = starts;
   takes = reads ∙ e;
   gives = returns ∙ e;
 }
-consumer-made j place n c kind merge p types producers (Err x) op stands starts reads returns many e = tt
+consumer-made given j place n c kind merge p types producers (Err x) op stands starts reads returns many e = tt

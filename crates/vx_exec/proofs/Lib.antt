@@ -1,3 +1,4 @@
+pub mod FunctionFacts
 pub mod Leaves
 pub mod ScanFacts
 pub mod Parts
@@ -13,3 +14,4 @@ pub mod Outcomes
 pub mod Finishing
 pub mod WorkerGroupFacts
 pub mod Counts
+pub mod CountedWorkers

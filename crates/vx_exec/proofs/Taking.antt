@@ -1,14 +1,23 @@
 -- The producers from which a worker takes are those of the leaves of its fragment.
-use Rattle.std.proofs.Common.{ℕ, ◌≡◌, ◌<◌, inl, inr, sym, ap, ◌∙◌, subst, arith}
+use Rattle.std.proofs.Common.{ℕ, ◌≡◌, ◌<◌, ◌++◌, inl, inr, refl, sym, ap, ap₂, ◌∙◌, subst, arith}
 use Rattle.std.proofs.lemmas.List.Elements.{Contains-append_cases}
 use Rattle.std.specs.List.{Contains}
 use Rattle.vx_rows.specs.Lists.{each_below}
 use Rattle.vx_plan_nodes.specs.Plan.{Plan, scan, unary, binary, exchange, size}
 use Rattle.vx_plan_nodes.specs.Streams.{workers}
+use Rattle.vx_plan_nodes.specs.Under.{Functions, under}
+use Rattle.vx_plan_nodes.proofs.UnderFacts.{size-under}
 use Rattle.vx_worker.specs.Fragment.{RunModel, fragment}
 use Rattle.vx_worker.specs.Trees.{TakesFrom}
 use Rattle.vx_exec_steps.proofs.Each.{each-length, each-at}
 use Rattle.vx_exec.specs.Inputs.{inputs_of}
+
+-- they are those of the plan under any functions
+pub inputs-under : (given : Functions) (sizes : ℕ → ℕ) (p : Plan) → inputs_of sizes (under given p) ≡ inputs_of sizes p
+inputs-under given sizes (scan n c r m z) = refl
+inputs-under given sizes (unary n c op p) = inputs-under given sizes p
+inputs-under given sizes (binary n c op p q) = ap₂ (λ a b. a ++ b) (inputs-under given sizes p) (inputs-under given sizes q)
+inputs-under given sizes (exchange n c k m p) = ap (λ z. each_below (workers sizes z) (λ i. (n, i))) (size-under given p)
 
 -- one of the producers of an exchange
 one-of : (n count x i : ℕ) → Contains {X = ℕ × ℕ} (each_below count (λ k. (n, k))) (x, i) → (n ≡ x) × (i < count)

@@ -9,6 +9,8 @@ use Rattle.vx_plan_nodes.specs.Routes.{Routing}
 use Rattle.vx_plan_nodes.specs.Runs.{is_concat}
 use Rattle.vx_plan_nodes.specs.Types.{types_of}
 use Rattle.vx_plan_nodes.specs.Numbering.{is_numbered, nodes}
+use Rattle.vx_plan_nodes.specs.Under.{under}
+use Rattle.vx_plan_nodes.specs.declared.functions.PlanFunctions.{Ghosts}
 use Rattle.vx_check_rules.specs.Checked.{relations}
 use Rattle.vx_ops.specs.Ledger.{fresh, Op, scan_op, one_op, two_op, receive}
 use Rattle.vx_ops.specs.Starts.{StartsWithin}
@@ -47,37 +49,37 @@ TakesAt catalog (unary n c op p) s = s.left ≡ types_of catalog p
 TakesAt catalog (binary n c op p q) s = (s.left ≡ types_of catalog p) × (s.right ≡ types_of catalog q)
 TakesAt catalog (exchange n c k merge p) s = s.left ≡ types_of catalog p
 
--- the operator at the top of a plan for the worker at a place, to which nothing came
-pub record IsOperatorOf (j : Job) (place : ℕ) (p : Plan) (o : Operator) : Type 0 where
-  pub op_is : (hash : List ℕ → Row → ℕ → ℕ) → operator_op o ≡ op_at (model_of hash j) place p
-  pub stands : OperatorStands o fresh_ledger
-  pub starts : StartsWithin (operator_op o) (operator_most o) (operator_idle o)
-  pub takes : TakesAt (relations j.plan.now) p (operator_types o)
-  pub gives : (operator_types o).out ≡ types_of (relations j.plan.now) p
+-- the operator at the top of a plan for the worker at a place, to which nothing came: it does what that of the plan under the job's functions does
+pub record IsOperatorOf {F : Type 0} (given : Ghosts F) (j : Job F) (place : ℕ) (p : Plan) (o : Operator F given) : Type 0 where
+  pub op_is : (hash : List ℕ → Row → ℕ → ℕ) → operator_op given o ≡ op_at (model_of hash j) place (under (given.functions j.functions) p)
+  pub stands : OperatorStands given o fresh_ledger
+  pub starts : StartsWithin (operator_op given o) (operator_most given o) (operator_idle given o)
+  pub takes : TakesAt (relations j.plan.now) p (operator_types given o)
+  pub gives : (operator_types given o).out ≡ types_of (relations j.plan.now) p
 
--- the operators of the plan's top fragment for the worker at a place, to which nothing came
-pub record IsTreeOf (j : Job) (place : ℕ) (p : Plan) (tree : Tree Operator) : Type 0 where
-  pub shape_is : (hash : List ℕ → Row → ℕ → ℕ) → shape operator_op tree ≡ fragment (model_of hash j) place p
-  pub gives : tree_types operator_types tree ≡ types_of (relations j.plan.now) p
-  pub stands : TreeStands OperatorStands tree fresh_reads fresh
-  pub starts : TreeStarts operator_op operator_most operator_idle tree
+-- the operators of the plan's top fragment for the worker at a place, to which nothing came: they are that fragment under the job's functions
+pub record IsTreeOf {F : Type 0} (given : Ghosts F) (j : Job F) (place : ℕ) (p : Plan) (tree : Tree (Operator F given)) : Type 0 where
+  pub shape_is : (hash : List ℕ → Row → ℕ → ℕ) → shape (operator_op given) tree ≡ fragment (model_of hash j) place (under (given.functions j.functions) p)
+  pub gives : tree_types (operator_types given) tree ≡ types_of (relations j.plan.now) p
+  pub stands : TreeStands (OperatorStands given) tree fresh_reads fresh
+  pub starts : TreeStarts (operator_op given) (operator_most given) (operator_idle given) tree
   pub numbered : (i : ℕ) → is_numbered i p ≡ true → Numbered i (i + nodes p) tree
-  pub typed : (leaves : ℕ → List ColType) → LeavesFit leaves (relations j.plan.now) p → TreeTyped operator_types leaves tree
+  pub typed : (leaves : ℕ → List ColType) → LeavesFit leaves (relations j.plan.now) p → TreeTyped (operator_types given) leaves tree
 
 -- what a worker is to do
-abbrev pub duty : Worker Operator Destination → Duty
-duty w = duty_of (role_of operator_op post_of bounds_of w)
+abbrev pub duty : {F : Type 0} (given : Ghosts F) → Worker (Operator F given) Destination → Duty
+duty given w = duty_of (role_of (operator_op given) post_of bounds_of w)
 
 -- a destination of a job's rows to which none came
-pub record IsUnused (j : Job) (d : Destination) : Type 0 where
+pub record IsUnused {F : Type 0} (j : Job F) (d : Destination) : Type 0 where
   pub opened : is_open d ≡ true
   pub stands : (goes : Routing) → DestinationStands d goes fresh (λ _. [])
   pub routes : (hash : List ℕ → Row → ℕ → ℕ) → RoutesAs (post_of d) (bounds_of d) hash (goes (model_of hash j))
   pub empty : (k : ℕ) → held_in d k ≡ 0
 
 -- a worker of a job that can make its first step, and has made none
-pub record IsNew (j : Job) (w : Worker Operator Destination) : Type 0 where
-  pub ready : IsReady operator_types post_of is_open has_closed (types_at j) w
-  pub stands : (goes : Routing) (m : ℕ → ℕ → List Row) → WorkerStands OperatorStands operator_op DestinationStands task_of goes m w empty_trace
+pub record IsNew {F : Type 0} (given : Ghosts F) (j : Job F) (w : Worker (Operator F given) Destination) : Type 0 where
+  pub ready : IsReady (operator_types given) post_of is_open has_closed (types_at j) w
+  pub stands : (goes : Routing) (m : ℕ → ℕ → List Row) → WorkerStands (OperatorStands given) (operator_op given) DestinationStands task_of goes m w empty_trace
   pub routes : (hash : List ℕ → Row → ℕ → ℕ) → RoutesAs (post_of (sender_of w)) (bounds_of (sender_of w)) hash (goes (model_of hash j))
-  pub rested : IsRested operator_op operator_most operator_idle post_of held_in unclosed_in w
+  pub rested : IsRested (operator_op given) (operator_most given) (operator_idle given) post_of held_in unclosed_in w

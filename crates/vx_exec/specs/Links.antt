@@ -1,5 +1,6 @@
 -- What connects the workers of a job, by the spans of its layout.
 use Rattle.std.specs.Prelude.{ℕ, Bool, true, false, List, [], length}
+use Rattle.vx_plan_nodes.specs.declared.functions.PlanFunctions.{Ghosts}
 use Rattle.vx_rows.specs.Lists.{each_below}
 use Rattle.vx_catalog.specs.Database.{rows_at}
 use Rattle.vx_exec_layout.specs.declared.span.NodeSpan.{NodeSpan}
@@ -15,7 +16,7 @@ use Rattle.vx_exec.specs.declared.crew.Crew.{Crew}
 use Rattle.vx_exec.specs.declared.job.Job.{Job}
 
 -- how many morsels a relation has in a run of a job
-abbrev pub morsels_in : Job → (relation : ℕ) → ℕ
+abbrev pub morsels_in : {F : Type 0} → Job F → (relation : ℕ) → ℕ
 morsels_in j relation = morsel_count j.morsel (length (rows_at j.database.now relation))
 
 -- what the workers of a scan share: a deck of so many morsels, or of each of them a hand of all
@@ -42,5 +43,5 @@ queues_in (span.Exchange x) = each_below x.producers (λ _. each_below x.consume
 queues_in (span.Scan s) = []
 
 -- what connects the workers of a crew, the first of whom has the first turn
-abbrev pub board_of : Crew → LinksView
+abbrev pub board_of : {F : Type 0} {given : Ghosts F} → Crew F given → LinksView
 board_of c = record { sends = c.sends.items; stations = c.stations.items; queues = c.ports.items; turn = 0 }

@@ -21,6 +21,7 @@ use Rattle.vx_exec_steps.specs.LinksView.{LinksView}
 use Rattle.vx_exec_steps.specs.Ready.{Ready}
 use Rattle.vx_exec_steps.specs.Verdicts.{Judged}
 use Rattle.vx_plan_nodes.specs.Workers.{crew_size}
+use Rattle.vx_plan_nodes.specs.declared.functions.PlanFunctions.{Ghosts}
 use Rattle.vx_exec_steps.specs.Schedules.{IsBadStep}
 use Rattle.vx_exec_steps.specs.declared.verdict.RunState.{RunState}
 use Rattle.vx_exec_steps.specs.declared.verdict.RunState.TheVariants as run_state
@@ -46,9 +47,9 @@ abbrev pub IsFirstReported : RunModel → Plan → RunFault → Type 0
 IsFirstReported W p e = (e ≡ fault.NoMemory) ⊎ ((f : Fault) × (e ≡ fault_reported f) × FailsFirst W p f)
 
 -- the result of workers with such a verdict: the rows that the first of them kept, or the fault
-abbrev pub ComesTo : List (Worker Operator Destination) → RunState → Result RunOutcome RunFault → Type 0
-ComesTo ws run_state.Done (Ok (run_outcome.Done t)) =
-    (d : Worker Operator Destination) → (task_of (sender_of (slice_index_or ws 0 d)) ≡ keep t.rows) × (post_of (sender_of (slice_index_or ws 0 d)) ≡ keeps t.types)
+abbrev pub ComesTo : {F : Type 0} {given : Ghosts F} → List (Worker (Operator F given) Destination) → RunState → Result RunOutcome RunFault → Type 0
+ComesTo {F} {given} ws run_state.Done (Ok (run_outcome.Done t)) =
+    (d : Worker (Operator F given) Destination) → (task_of (sender_of (slice_index_or ws 0 d)) ≡ keep t.rows) × (post_of (sender_of (slice_index_or ws 0 d)) ≡ keeps t.types)
 ComesTo ws run_state.Unfinished (Ok run_outcome.Unfinished) = Unit {0}
 ComesTo ws (run_state.Failed f) (Err e) = e ≡ fault_reported f
 ComesTo ws v r = ⊥
@@ -64,28 +65,28 @@ NamesFirst steps W p (Ok r) = All (λ s. s < crew_size W.sizes p) steps
 NamesFirst steps W p (Err e) = (e ≡ fault.NoMemory) ⊎ IsBadStepOf steps W.sizes p e ⊎ All (λ s. s < crew_size W.sizes p) steps
 
 -- workers of a plan in a setting made steps, none of which had made any before: those with which they began, those that they became, and what
--- these come to, which the result says
-module _ (hash : List ℕ → Row → ℕ → ℕ) (W : RunModel) (p : Plan) where
+-- these come to, which the result says. Their operators compute by such functions
+module _ {F : Type 0} (given : Ghosts F) (hash : List ℕ → Row → ℕ → ℕ) (W : RunModel) (p : Plan) where
   -- exactly these steps, in this order
   pub record IsScheduled (steps : List ℕ) (result : Result RunOutcome RunFault) : Type 0 where
-    pub begun : List (Worker Operator Destination)
+    pub begun : List (Worker (Operator F given) Destination)
     pub links : LinksView
-    pub ready : Ready OperatorStands operator_op DestinationStands task_of post_of bounds_of hash (scan_morsels W) W p begun links
-    pub ended : List (Worker Operator Destination)
+    pub ready : Ready (OperatorStands given) (operator_op given) DestinationStands task_of post_of bounds_of hash (scan_morsels W) W p begun links
+    pub ended : List (Worker (Operator F given) Destination)
     pub links_after : LinksView
-    pub follows : Follows OperatorStands operator_want operator_op operator_most operator_idle DestinationStands task_of post_of bounds_of held_in unclosed_in hash (scan_morsels W) steps begun links ended links_after
+    pub follows : Follows (OperatorStands given) (operator_want given) (operator_op given) (operator_most given) (operator_idle given) DestinationStands task_of post_of bounds_of held_in unclosed_in hash (scan_morsels W) steps begun links ended links_after
     pub verdict : RunState
     pub judged : Judged ended verdict
     pub comes : ComesTo ended verdict result
 
   -- rounds of all workers: as many as the limit says, or fewer where all have ended
   pub record IsInRounds (limit : ℕ) (result : Result RunOutcome RunFault) : Type 0 where
-    pub begun : List (Worker Operator Destination)
+    pub begun : List (Worker (Operator F given) Destination)
     pub links : LinksView
-    pub ready : Ready OperatorStands operator_op DestinationStands task_of post_of bounds_of hash (scan_morsels W) W p begun links
-    pub ended : List (Worker Operator Destination)
+    pub ready : Ready (OperatorStands given) (operator_op given) DestinationStands task_of post_of bounds_of hash (scan_morsels W) W p begun links
+    pub ended : List (Worker (Operator F given) Destination)
     pub links_after : LinksView
-    pub follows : FollowsRounds OperatorStands operator_want operator_op operator_most operator_idle DestinationStands task_of post_of bounds_of held_in unclosed_in hash (scan_morsels W) limit begun links ended links_after
+    pub follows : FollowsRounds (OperatorStands given) (operator_want given) (operator_op given) (operator_most given) (operator_idle given) DestinationStands task_of post_of bounds_of held_in unclosed_in hash (scan_morsels W) limit begun links ended links_after
     pub verdict : RunState
     pub judged : Judged ended verdict
     pub comes : ComesTo ended verdict result

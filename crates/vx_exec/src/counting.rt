@@ -7,10 +7,11 @@ ghost use Rattle.vx_exec.specs.Counts.{line_of, lines_of, IsCountOf, AreCountsOf
 use std::alloc::{AllocError, Global};
 use vx_exec_operators::{Destination, Operator};
 use vx_exec_setup::{NodeCounts, RunCounts, WorkerCounts};
+use vx_plan_nodes::PlanFunctions;
 use vx_worker::{Tree, Worker};
 
 // What an operator counted, under its node's number.
-fn line_of(operator: &Operator) -> NodeCounts
+fn line_of<F: PlanFunctions + Copy>(operator: &Operator<F>) -> NodeCounts
     ensures { result ≡ line_of operator.now }
 {
     NodeCounts {
@@ -20,7 +21,10 @@ fn line_of(operator: &Operator) -> NodeCounts
 }
 
 // Adds what each operator of a tree counted, in preorder.
-fn add_lines(lines: &mut Vec<NodeCounts>, tree: &Tree<Operator>) -> Result<(), AllocError>
+fn add_lines<F: PlanFunctions + Copy>(
+    lines: &mut Vec<NodeCounts>,
+    tree: &Tree<Operator<F>>,
+) -> Result<(), AllocError>
     ensures { OnOk result (lines.new.items ≡ lines.old.items ++ lines_of tree.now) }
 {
     match tree {
@@ -41,9 +45,9 @@ fn add_lines(lines: &mut Vec<NodeCounts>, tree: &Tree<Operator>) -> Result<(), A
 }
 
 // What a worker counted.
-fn count_of(
+fn count_of<F: PlanFunctions + Copy>(
     alloc: Global,
-    worker: &Worker<Operator, Destination>,
+    worker: &Worker<Operator<F>, Destination>,
 ) -> Result<WorkerCounts, AllocError>
     ensures { IfOk result (IsCountOf worker.now) }
 {
@@ -56,9 +60,9 @@ fn count_of(
 }
 
 // What each worker counted, in their order.
-fn counts_of(
+fn counts_of<F: PlanFunctions + Copy>(
     alloc: Global,
-    workers: &[Worker<Operator, Destination>],
+    workers: &[Worker<Operator<F>, Destination>],
 ) -> Result<Vec<WorkerCounts>, AllocError>
     ensures { IfOk result (λ v. AreCountsOf workers.now v.items) }
 {
@@ -70,10 +74,10 @@ fn counts_of(
 }
 
 /// Keeps what each worker of a run counted, if that is wanted.
-pub fn keep_counts(
+pub fn keep_counts<F: PlanFunctions + Copy>(
     counts: &mut RunCounts,
     alloc: Global,
-    workers: &[Worker<Operator, Destination>],
+    workers: &[Worker<Operator<F>, Destination>],
 ) -> Result<(), AllocError>
     ensures wanted { is_wanted counts.new ≡ is_wanted counts.old }
     ensures counts { OnOk result (is_wanted counts.old ≡ true → AreCountsOf workers.now (counts_in counts.new)) }

@@ -14,7 +14,7 @@ use vx_exchange::{Deal, KeyRoute, Ranges};
 use vx_plan_nodes::{ExchangeKind, Route};
 use vx_rows_values::{ColType, copied_values};
 
-impl Job<'_> {
+impl<F: Copy> Job<'_, F> {
     // The route of rows of these types by their values in some columns.
     fn key_route(
         &self,

@@ -4,7 +4,6 @@ ghost use Rattle.std.specs.Prelude.{IfOk};
 ghost use Rattle.vx_plan_nodes.specs.Outline.{outline_of, plan_of};
 ghost use Rattle.vx_exec.specs.Crew.{IsOperatorOf, IsTreeOf};
 ghost use Rattle.vx_exec.specs.Part.{IsPartOf};
-ghost use Rattle.vx_exec.specs.declared.job.Job.{Job};
 
 use crate::job::Job;
 use std::alloc::{AllocError, Global};
@@ -12,18 +11,18 @@ use vx_exec_operators::{
     Operator, OperatorKind, binary_operator, consumer_operator, unary_operator,
 };
 use vx_ops::Scan;
-use vx_plan_nodes::{TypedNode, output_types};
+use vx_plan_nodes::{PlanFunctions, TypedNode, output_types};
 use vx_worker::Tree;
 
 // The operator of a node, to which nothing came.
-fn operator_of(
+fn operator_of<F: PlanFunctions + Copy>(
     alloc: Global,
-    job: &Job<'_>,
+    job: &Job<'_, F>,
     node: &TypedNode,
     place: u32,
-) -> Result<Operator, AllocError>
-    requires { IsPartOf job.now (outline_of node.now) }
-    ensures { IfOk result (IsOperatorOf job.now place (plan_of node.now)) }
+) -> Result<Operator<F>, AllocError>
+    requires { IsPartOf F.PlanFunctions job.now (outline_of node.now) }
+    ensures { IfOk result (IsOperatorOf F.PlanFunctions job.now place (plan_of node.now)) }
 {
     match node {
         TypedNode::Scan(head, _) => {
@@ -33,7 +32,14 @@ fn operator_of(
         }
         TypedNode::Unary(head, unary, input) => {
             let seed = job.seed();
-            unary_operator(alloc, seed, head.number, unary, output_types(input))
+            unary_operator(
+                alloc,
+                job.functions(),
+                seed,
+                head.number,
+                unary,
+                output_types(input),
+            )
         }
         TypedNode::Binary(head, binary, left, right) => {
             let seed = job.seed();
@@ -50,14 +56,14 @@ fn operator_of(
 }
 
 /// The operators of a node's fragment, to which nothing came.
-pub fn tree_of(
+pub fn tree_of<F: PlanFunctions + Copy>(
     alloc: Global,
-    job: &Job<'_>,
+    job: &Job<'_, F>,
     node: &TypedNode,
     place: u32,
-) -> Result<Tree<Operator>, AllocError>
-    requires { IsPartOf job.now (outline_of node.now) }
-    ensures { IfOk result (IsTreeOf job.now place (plan_of node.now)) }
+) -> Result<Tree<Operator<F>>, AllocError>
+    requires { IsPartOf F.PlanFunctions job.now (outline_of node.now) }
+    ensures { IfOk result (IsTreeOf F.PlanFunctions job.now place (plan_of node.now)) }
 {
     let operator = operator_of(alloc, job, node, place)?;
     match node {

@@ -23,10 +23,11 @@ use vx_rows_values::{ColType, KeySeed};
 use vx_rows_views::Rows;
 use vx_worker::Morsels;
 
-/// A plan with a database of its catalog, and the sizes of a run, each within its limits.
+/// A plan with a database of its catalog, the functions by which it computes, and the sizes of a run, each within its limits.
 #[derive(Drop)]
-pub struct Job<'j> {
+pub struct Job<'j, F> {
     alloc: Global,
+    functions: F,
     plan: &'j TypedPlan,
     layout: Layout,
     database: &'j Database,
@@ -43,19 +44,20 @@ pub struct Job<'j> {
     ghost few_workers: { crew_size (worker_group_at layout.worker_groups.items) (whole_plan plan.now) ≤ max_workers },
 }
 
-impl<'j> Job<'j> {
+impl<'j, F: Copy> Job<'j, F> {
     ghost use Rattle.vx_exec.specs.Job.{sizes_of};
 
-    /// A plan over a database, with sizes within their limits.
+    /// A plan over a database, under these functions, with sizes within their limits.
     pub(crate) fn new(
         alloc: Global,
+        functions: F,
         plan: &'j TypedPlan,
         layout: Layout,
         database: &'j Database,
         packet: usize,
         morsel: usize,
         slack: u32,
-    ) -> Job<'j>
+    ) -> Job<'j, F>
         requires laid_out { layout.spans.items ≡ spans_of (worker_group_at layout.worker_groups.items) (whole_plan plan.now) 0 1 }
         requires catalog { database.now.catalog ≡ (scope plan.now).catalog }
         requires named { length layout.worker_groups.items ≡ (scope plan.now).sizes }
@@ -63,12 +65,14 @@ impl<'j> Job<'j> {
         requires room { IsWithin 1 max_slack slack }
         requires crew { layout.workers ≡ crew_size (worker_group_at layout.worker_groups.items) (whole_plan plan.now) }
         requires few { crew_size (worker_group_at layout.worker_groups.items) (whole_plan plan.now) ≤ max_workers }
+        ensures functions { result.functions ≡ functions }
         ensures plan { result.plan.now ≡ plan.now }
         ensures database { result.database.now ≡ database.now }
         ensures sizes { sizes_of result ≡ record { worker_groups = layout.worker_groups.items; packet = packet; morsel = morsel } }
     {
         Job {
             alloc,
+            functions,
             plan,
             layout,
             database,
@@ -85,6 +89,13 @@ impl<'j> Job<'j> {
         ensures few { result ≤ max_group_workers }
     {
         self.layout.workers_of(size)
+    }
+
+    /// The functions by which the plan computes.
+    pub fn functions(&self) -> F
+        ensures { result ≡ self.now.functions }
+    {
+        self.functions
     }
 
     /// The plan.
@@ -177,7 +188,7 @@ impl<'j> Job<'j> {
     }
 }
 
-impl Morsels for Job<'_> {
+impl<F: Copy> Morsels for Job<'_, F> {
     ghost use Rattle.vx_exec.specs.Job.{types_at};
 
     ghost morsel_of = { λ j n k. morsel_of j.morsel (rows_at j.database.now (relation_in (whole_plan j.plan.now) n)) k };

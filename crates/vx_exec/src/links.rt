@@ -9,7 +9,11 @@ use vx_exec_layout::{NodeSpan, ScanSpan};
 use vx_exec_steps::{Ports, SharedScan, Station, WholeScan};
 
 // What the workers of a scan share.
-fn scan_station(alloc: Global, job: &Job<'_>, scan: ScanSpan) -> Result<Station, AllocError>
+fn scan_station<F: Copy>(
+    alloc: Global,
+    job: &Job<'_, F>,
+    scan: ScanSpan,
+) -> Result<Station, AllocError>
     ensures { IfOk result (λ s. s ≡ station_in (morsels_in job.now) (NodeSpan.Scan scan)) }
 {
     let workers = scan.workers as usize;
@@ -23,7 +27,11 @@ fn scan_station(alloc: Global, job: &Job<'_>, scan: ScanSpan) -> Result<Station,
 }
 
 // What stands at a node.
-fn station_of(alloc: Global, job: &Job<'_>, span: NodeSpan) -> Result<Station, AllocError>
+fn station_of<F: Copy>(
+    alloc: Global,
+    job: &Job<'_, F>,
+    span: NodeSpan,
+) -> Result<Station, AllocError>
     ensures { IfOk result (λ s. s ≡ station_in (morsels_in job.now) span) }
 {
     match span {
@@ -37,9 +45,9 @@ fn station_of(alloc: Global, job: &Job<'_>, span: NodeSpan) -> Result<Station, A
 }
 
 /// What stands at each node, by their numbers.
-pub fn stations_of(
+pub fn stations_of<F: Copy>(
     alloc: Global,
-    job: &Job<'_>,
+    job: &Job<'_, F>,
     spans: &[NodeSpan],
 ) -> Result<Vec<Station>, AllocError>
     ensures { IfOk result (λ v. v.items ≡ map (station_in (morsels_in job.now)) spans.now) }

@@ -16,7 +16,7 @@ ghost use Rattle.vx_worker.specs.Worker.{sender_of};
 ghost use Rattle.vx_worker.specs.declared.worker.Worker.{Worker as AWorker};
 ghost use Rattle.vx_exec_operators.specs.declared.operator.Operator.{Operator as AnOperator};
 ghost use Rattle.vx_exec_operators.specs.declared.destination.Destination.{Destination as ADestination};
-ghost use Rattle.vx_exec.specs.Job.{model_of, sizes_of};
+ghost use Rattle.vx_exec.specs.Job.{job_plan, model_of, sizes_of};
 ghost use Rattle.vx_exec_setup.specs.Counts.{is_wanted, counts_in};
 ghost use Rattle.vx_exec.specs.Runs.{CountedInRounds, fault_reported, ComesTo, NamesFirst, Scheduled, InRounds};
 ghost use Rattle.vx_exec.specs.Part.{HasKnown};
@@ -37,16 +37,16 @@ use vx_exec_runs::RunOutcome;
 use vx_exec_setup::{RunCounts, RunFault, Setup};
 use vx_exec_steps::{RunState, bad_step, judge_rounds, judge_schedule};
 use vx_ops::{Code, Fault};
-use vx_plan_nodes::Router;
+use vx_plan_nodes::{PlanFunctions, Router};
 use vx_rows_views::Rows;
 use vx_worker::Worker;
 
 // The rows that the first worker kept.
-fn rows_of_root(mut workers: Vec<Worker<Operator, Destination>>) -> Rows
+fn rows_of_root<F: PlanFunctions + Copy>(mut workers: Vec<Worker<Operator<F>, Destination>>) -> Rows
     requires there { 0 < length workers.items }
-    requires keeps { (d : AWorker AnOperator ADestination) → (types : List ColType) × (post_of (sender_of (slice_index_or workers.items 0 d)) ≡ keeps types) }
-    ensures rows { (d : AWorker AnOperator ADestination) → task_of (sender_of (slice_index_or workers.items 0 d)) ≡ keep result.rows }
-    ensures types { (d : AWorker AnOperator ADestination) → post_of (sender_of (slice_index_or workers.items 0 d)) ≡ keeps result.types }
+    requires keeps { (d : AWorker (AnOperator F F.PlanFunctions) ADestination) → (types : List ColType) × (post_of (sender_of (slice_index_or workers.items 0 d)) ≡ keeps types) }
+    ensures rows { (d : AWorker (AnOperator F F.PlanFunctions) ADestination) → task_of (sender_of (slice_index_or workers.items 0 d)) ≡ keep result.rows }
+    ensures types { (d : AWorker (AnOperator F F.PlanFunctions) ADestination) → post_of (sender_of (slice_index_or workers.items 0 d)) ≡ keeps result.types }
 {
     let root = workers.swap_remove(0);
     match root.into_sender() {
@@ -72,12 +72,12 @@ fn fault_of(fault: Fault) -> RunFault
 }
 
 /// What workers of a run came to, with such a verdict.
-pub fn answer_of(
-    workers: Vec<Worker<Operator, Destination>>,
+pub fn answer_of<F: PlanFunctions + Copy>(
+    workers: Vec<Worker<Operator<F>, Destination>>,
     verdict: RunState,
 ) -> Result<RunOutcome, RunFault>
     requires there { verdict ≡ RunState.Done → 0 < length workers.items }
-    requires keeps { verdict ≡ RunState.Done → (d : AWorker AnOperator ADestination) → (types : List ColType) × (post_of (sender_of (slice_index_or workers.items 0 d)) ≡ keeps types) }
+    requires keeps { verdict ≡ RunState.Done → (d : AWorker (AnOperator F F.PlanFunctions) ADestination) → (types : List ColType) × (post_of (sender_of (slice_index_or workers.items 0 d)) ≡ keeps types) }
     requires own { verdict ≡ RunState.Failed Passed → ⊥ }
     ensures { ComesTo workers.items verdict result }
 {
@@ -89,21 +89,21 @@ pub fn answer_of(
 }
 
 // At most `limit` rounds of all workers of a job, and what they come to. What they counted is kept, if that is wanted.
-fn run_job<R: Router>(
+fn run_job<F: PlanFunctions + Copy, R: Router>(
     alloc: Global,
-    job: &Job<'_>,
+    job: &Job<'_, F>,
     router: &R,
     limit: u64,
     counts: &mut RunCounts,
 ) -> Result<RunOutcome, RunFault>
     requires allowed { is_allowed job.now.plan.now ≡ true }
     requires root { is_root_allowed job.now.plan.now ≡ true }
-    requires known { HasKnown job.now }
-    ensures run { PromiseOnceSet (R.route_of router.now) NothingElse job.now.plan.now job.now.database.now (sizes_of job.now) result }
-    ensures rounds { InRounds (R.route_of router.now) (model_of (R.route_of router.now) job.now) (whole_plan job.now.plan.now) limit result }
+    requires known { HasKnown F.PlanFunctions job.now }
+    ensures run { PromiseOnceSet (R.route_of router.now) (F.functions job.now.functions) NothingElse job.now.plan.now job.now.database.now (sizes_of job.now) result }
+    ensures rounds { InRounds F.PlanFunctions (R.route_of router.now) (model_of (R.route_of router.now) job.now) (job_plan F.PlanFunctions job.now) limit result }
     ensures counted { is_wanted counts.old ≡ true
-        → CountedInRounds (R.route_of router.now) (model_of (R.route_of router.now) job.now) (whole_plan job.now.plan.now) limit result (counts_in counts.new) }
-    ensures ends { rounds_needed (rows_at job.now.database.now) (worker_group_at job.now.layout.worker_groups.items) (whole_plan job.now.plan.now) ≤ limit → IfOk result IsWhole }
+        → CountedInRounds F.PlanFunctions (R.route_of router.now) (model_of (R.route_of router.now) job.now) (job_plan F.PlanFunctions job.now) limit result (counts_in counts.new) }
+    ensures ends { rounds_needed (rows_at job.now.database.now) (worker_group_at job.now.layout.worker_groups.items) (job_plan F.PlanFunctions job.now) ≤ limit → IfOk result IsWhole }
 {
     job.meets();
     let crew = Crew::new(alloc, job)?;
@@ -114,20 +114,20 @@ fn run_job<R: Router>(
 }
 
 // One step for each of these workers of a job, and what they come to.
-fn schedule_job<R: Router>(
+fn schedule_job<F: PlanFunctions + Copy, R: Router>(
     alloc: Global,
-    job: &Job<'_>,
+    job: &Job<'_, F>,
     router: &R,
     steps: &[u32],
 ) -> Result<RunOutcome, RunFault>
     requires allowed { is_allowed job.now.plan.now ≡ true }
     requires root { is_root_allowed job.now.plan.now ≡ true }
-    requires known { HasKnown job.now }
+    requires known { HasKnown F.PlanFunctions job.now }
     requires named { All (λ s. s < crew_size (worker_group_at job.now.layout.worker_groups.items) (whole_plan job.now.plan.now)) steps.now }
-    ensures run { PromiseOnceSet (R.route_of router.now) NothingElse job.now.plan.now job.now.database.now (sizes_of job.now) result }
-    ensures scheduled { Scheduled (R.route_of router.now) (model_of (R.route_of router.now) job.now) (whole_plan job.now.plan.now) steps.now result }
-    ensures ends { HoldsRounds (rounds_needed (rows_at job.now.database.now) (worker_group_at job.now.layout.worker_groups.items) (whole_plan job.now.plan.now))
-        (crew_size (worker_group_at job.now.layout.worker_groups.items) (whole_plan job.now.plan.now)) steps.now → IfOk result IsWhole }
+    ensures run { PromiseOnceSet (R.route_of router.now) (F.functions job.now.functions) NothingElse job.now.plan.now job.now.database.now (sizes_of job.now) result }
+    ensures scheduled { Scheduled F.PlanFunctions (R.route_of router.now) (model_of (R.route_of router.now) job.now) (job_plan F.PlanFunctions job.now) steps.now result }
+    ensures ends { HoldsRounds (rounds_needed (rows_at job.now.database.now) (worker_group_at job.now.layout.worker_groups.items) (job_plan F.PlanFunctions job.now))
+        (crew_size (worker_group_at job.now.layout.worker_groups.items) (job_plan F.PlanFunctions job.now)) steps.now → IfOk result IsWhole }
 {
     job.meets();
     let crew = Crew::new(alloc, job)?;
@@ -136,51 +136,53 @@ fn schedule_job<R: Router>(
     answer_of(workers, verdict)
 }
 
-/// A run of a plan over a database: at most `limit` rounds, in each of which every worker makes one step, in number order. Once all
-/// workers have ended and some failed, the fault is that of the lowest-numbered one that failed by itself. As many rounds as `rounds_needed` of
-/// `vx_exec_layout` says are enough: with that limit or a higher one the answer is not Unfinished. What each worker counted is in `counts`
-/// afterwards, also where some failed; memory for it is refused only where it is wanted.
-pub fn run_rounds<R: Router>(
+/// A run of a plan over a database, under these functions: at most `limit` rounds, in each of which every worker makes one step, in
+/// number order. Once all workers have ended and some failed, the fault is that of the lowest-numbered one that failed by itself. As many
+/// rounds as `rounds_needed` of `vx_exec_layout` says are enough: with that limit or a higher one the answer is not Unfinished. What each
+/// worker counted is in `counts` afterwards, also where some failed; memory for it is refused only where it is wanted.
+pub fn run_rounds<F: PlanFunctions + Copy, R: Router>(
     alloc: Global,
     plan: &CheckedPlan,
     database: &Database,
     setup: &Setup,
+    functions: &F,
     router: &R,
     limit: u64,
     counts: &mut RunCounts,
 ) -> Result<RunOutcome, RunFault>
-    ensures promise { CrewPromise (R.route_of router.now) NothingElse (typed_plan plan.now) database.now setup.now result }
-    ensures rounds { WhereSet (R.route_of router.now) (typed_plan plan.now) database.now setup.now (λ W p. InRounds (R.route_of router.now) W p limit result) }
+    ensures promise { CrewPromise (R.route_of router.now) (F.functions functions.now) NothingElse (typed_plan plan.now) database.now setup.now result }
+    ensures rounds { WhereSet (R.route_of router.now) (F.functions functions.now) (typed_plan plan.now) database.now setup.now (λ W p. InRounds F.PlanFunctions (R.route_of router.now) W p limit result) }
     ensures counted { is_wanted counts.old ≡ true
-        → WhereSet (R.route_of router.now) (typed_plan plan.now) database.now setup.now (λ W p. CountedInRounds (R.route_of router.now) W p limit result (counts_in counts.new)) }
-    ensures ends { WhereSet (R.route_of router.now) (typed_plan plan.now) database.now setup.now (λ W p. rounds_needed W.db W.sizes p ≤ limit → IfOk result IsWhole) }
+        → WhereSet (R.route_of router.now) (F.functions functions.now) (typed_plan plan.now) database.now setup.now (λ W p. CountedInRounds F.PlanFunctions (R.route_of router.now) W p limit result (counts_in counts.new)) }
+    ensures ends { WhereSet (R.route_of router.now) (F.functions functions.now) (typed_plan plan.now) database.now setup.now (λ W p. rounds_needed W.db W.sizes p ≤ limit → IfOk result IsWhole) }
 {
-    let job = job_of(alloc, plan.plan(), database, setup)?;
+    let job = job_of(alloc, *functions, plan.plan(), database, setup)?;
     run_job(alloc, &job, router, limit, counts)
 }
 
-/// A run of a plan over a database by a schedule: one step of the worker with each of these numbers, in this order.
-/// The root's worker is 0; then come the producers of each exchange, by place, the exchanges in preorder of their nodes.
-/// Behind the tests of the setup, the first step that names no worker is refused, and then a function that the program does not have.
+/// A run of a plan over a database, under these functions, by a schedule: one step of the worker with each of these numbers, in this
+/// order. The root's worker is 0; then come the producers of each exchange, by place, the exchanges in preorder of their nodes.
+/// Behind the tests of the setup, the first step that names no worker is refused, and then a function that is not among these.
 /// A schedule that holds as many rounds as `rounds_needed` of `vx_exec_layout` says, with any steps between, is enough: its answer is not Unfinished.
-pub fn run_scheduled<R: Router>(
+pub fn run_scheduled<F: PlanFunctions + Copy, R: Router>(
     alloc: Global,
     plan: &CheckedPlan,
     database: &Database,
     setup: &Setup,
+    functions: &F,
     router: &R,
     steps: &[u32],
 ) -> Result<RunOutcome, RunFault>
-    ensures promise { SchedulePromise (R.route_of router.now) steps.now (typed_plan plan.now) database.now setup.now result }
+    ensures promise { SchedulePromise (R.route_of router.now) (F.functions functions.now) steps.now (typed_plan plan.now) database.now setup.now result }
     ensures named { WhereSized (R.route_of router.now) (typed_plan plan.now) database.now setup.now (λ W p. NamesFirst steps.now W p result) }
-    ensures scheduled { WhereSet (R.route_of router.now) (typed_plan plan.now) database.now setup.now (λ W p. Scheduled (R.route_of router.now) W p steps.now result) }
-    ensures ends { WhereSet (R.route_of router.now) (typed_plan plan.now) database.now setup.now
+    ensures scheduled { WhereSet (R.route_of router.now) (F.functions functions.now) (typed_plan plan.now) database.now setup.now (λ W p. Scheduled F.PlanFunctions (R.route_of router.now) W p steps.now result) }
+    ensures ends { WhereSet (R.route_of router.now) (F.functions functions.now) (typed_plan plan.now) database.now setup.now
         (λ W p. HoldsRounds (rounds_needed W.db W.sizes p) (crew_size W.sizes p) steps.now → IfOk result IsWhole) }
 {
-    let job = sized_job(alloc, plan.plan(), database, setup)?;
+    let job = sized_job(alloc, *functions, plan.plan(), database, setup)?;
     if let Some(index) = bad_step(steps, job.crew_size() as usize) {
         return Err(RunFault::BadStep { index });
     }
-    test_functions(alloc, job.plan())?;
+    test_functions(alloc, functions, job.plan())?;
     schedule_job(alloc, &job, router, steps)
 }

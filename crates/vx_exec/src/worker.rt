@@ -9,6 +9,7 @@ ghost use Rattle.vx_plan_nodes.specs.Outputs.{HasOutputs};
 ghost use Rattle.vx_plan_nodes.specs.Typed.{is_kind};
 ghost use Rattle.vx_plan_nodes.specs.TypedView.{scope};
 ghost use Rattle.vx_plan_nodes.specs.Types.{types_of};
+ghost use Rattle.vx_plan_nodes.specs.Under.{under};
 ghost use Rattle.vx_ports.specs.Packets.{fault};
 ghost use Rattle.vx_exchange_ends.specs.Ship.{Ship, packet_of};
 ghost use Rattle.vx_exchange_ends.specs.Tasks.{sends_by_ship, post_types};
@@ -30,7 +31,7 @@ use crate::job::Job;
 use std::alloc::{AllocError, Global};
 use vx_exchange::{Collector, Sender};
 use vx_exec_operators::{Destination, Operator};
-use vx_plan_nodes::{ExchangeKind, TypedNode, output_types};
+use vx_plan_nodes::{ExchangeKind, PlanFunctions, TypedNode, output_types};
 use vx_ports::{Packet, StreamEnd};
 use vx_rows_values::ColType;
 use vx_rows_views::Rows;
@@ -48,9 +49,9 @@ fn push_inputs(inputs: &mut Vec<ExchangeInput>, exchange: u32, count: u32) -> Re
 }
 
 // Adds the producers from which the workers of a node's fragment take.
-fn add_inputs(
+fn add_inputs<F: Copy>(
     inputs: &mut Vec<ExchangeInput>,
-    job: &Job<'_>,
+    job: &Job<'_, F>,
     node: &TypedNode,
 ) -> Result<(), AllocError>
     ensures fresh { All IsFresh inputs.old.items → OnOk result (All IsFresh inputs.new.items) }
@@ -71,9 +72,9 @@ fn add_inputs(
 }
 
 // The producers from which the workers of a node's fragment take.
-fn inputs_of(
+fn inputs_of<F: Copy>(
     alloc: Global,
-    job: &Job<'_>,
+    job: &Job<'_, F>,
     node: &TypedNode,
 ) -> Result<Vec<ExchangeInput>, AllocError>
     ensures fresh { IfOk result (λ v. All IsFresh v.items) }
@@ -104,21 +105,21 @@ fn closing_packets(
 }
 
 // The worker at a place of a node's fragment, before its first step: its rows go to this destination, which it closes with these packets if it fails.
-fn fragment_worker(
+fn fragment_worker<F: PlanFunctions + Copy>(
     alloc: Global,
-    job: &Job<'_>,
+    job: &Job<'_, F>,
     node: &TypedNode,
     place: u32,
     destination: Destination,
     closing: Vec<Packet>,
-) -> Result<Worker<Operator, Destination>, AllocError>
-    requires part { IsPartOf job.now (outline_of node.now) }
+) -> Result<Worker<Operator<F>, Destination>, AllocError>
+    requires part { IsPartOf F.PlanFunctions job.now (outline_of node.now) }
     requires unused { IsUnused job.now destination }
     requires types { types_of (relations job.now.plan.now) (plan_of node.now) ≡ post_types (post_of destination) }
     requires closing { closing.items ≡ closing_of (post_of destination) }
     ensures duty { IfOk result (λ w. (hash : List ℕ → Row → ℕ → ℕ)
-        → duty w ≡ record { frag = fragment (model_of hash job.now) place (plan_of node.now); post = post_of destination }) }
-    ensures new { IfOk result (λ w. IsNew job.now w) }
+        → duty F.PlanFunctions w ≡ record { frag = fragment (model_of hash job.now) place (under (F.functions job.now.functions) (plan_of node.now)); post = post_of destination }) }
+    ensures new { IfOk result (λ w. IsNew F.PlanFunctions job.now w) }
     ensures inputs { IfOk result (λ w. sources_of w ≡ inputs_of (worker_group_at job.now.layout.worker_groups.items) (plan_of node.now)) }
 {
     let inputs = inputs_of(alloc, job, node)?;
@@ -128,14 +129,14 @@ fn fragment_worker(
 }
 
 /// The worker at the root of a plan, which keeps the rows.
-pub fn root_worker(
+pub fn root_worker<F: PlanFunctions + Copy>(
     alloc: Global,
-    job: &Job<'_>,
+    job: &Job<'_, F>,
     node: &TypedNode,
-) -> Result<Worker<Operator, Destination>, AllocError>
-    requires { IsPartOf job.now (outline_of node.now) }
-    ensures duty { IfOk result (λ w. (hash : List ℕ → Row → ℕ → ℕ) → duty w ≡ root_duty (model_of hash job.now) (plan_of node.now)) }
-    ensures new { IfOk result (λ w. IsNew job.now w) }
+) -> Result<Worker<Operator<F>, Destination>, AllocError>
+    requires { IsPartOf F.PlanFunctions job.now (outline_of node.now) }
+    ensures duty { IfOk result (λ w. (hash : List ℕ → Row → ℕ → ℕ) → duty F.PlanFunctions w ≡ root_duty (model_of hash job.now) (under (F.functions job.now.functions) (plan_of node.now))) }
+    ensures new { IfOk result (λ w. IsNew F.PlanFunctions job.now w) }
     ensures inputs { IfOk result (λ w. sources_of w ≡ inputs_of (worker_group_at job.now.layout.worker_groups.items) (plan_of node.now)) }
 {
     let collector = Collector::new(alloc, output_types(node))?;
@@ -144,9 +145,9 @@ pub fn root_worker(
 }
 
 // The sending end of the producer at a place of an exchange of this kind over a node.
-fn sender_of(
+fn sender_of<F: Copy>(
     alloc: Global,
-    job: &Job<'_>,
+    job: &Job<'_, F>,
     exchange: u32,
     kind: &ExchangeKind,
     node: &TypedNode,
@@ -166,19 +167,19 @@ fn sender_of(
 }
 
 /// The producer at a place of an exchange of this kind over a node.
-pub fn producer(
+pub fn producer<F: PlanFunctions + Copy>(
     alloc: Global,
-    job: &Job<'_>,
+    job: &Job<'_, F>,
     exchange: u32,
     kind: &ExchangeKind,
     node: &TypedNode,
     place: u32,
-) -> Result<Worker<Operator, Destination>, AllocError>
+) -> Result<Worker<Operator<F>, Destination>, AllocError>
     requires kind { is_kind (scope job.now.plan.now) (types_of (relations job.now.plan.now) (plan_of node.now)) (kind_of kind.now) ≡ true }
-    requires part { IsPartOf job.now (outline_of node.now) }
+    requires part { IsPartOf F.PlanFunctions job.now (outline_of node.now) }
     ensures duty { IfOk result (λ w. (hash : List ℕ → Row → ℕ → ℕ)
-        → duty w ≡ producer_duty (model_of hash job.now) exchange (kind_of kind.now) (plan_of node.now) place) }
-    ensures new { IfOk result (λ w. IsNew job.now w) }
+        → duty F.PlanFunctions w ≡ producer_duty (model_of hash job.now) exchange (kind_of kind.now) (under (F.functions job.now.functions) (plan_of node.now)) place) }
+    ensures new { IfOk result (λ w. IsNew F.PlanFunctions job.now w) }
     ensures inputs { IfOk result (λ w. sources_of w ≡ inputs_of (worker_group_at job.now.layout.worker_groups.items) (plan_of node.now)) }
 {
     let consumers = job.workers(kind.target());

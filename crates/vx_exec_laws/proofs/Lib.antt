@@ -75,3 +75,4 @@ pub mod OrderFaults
 pub mod CutTidy
 pub mod CutOrders
 pub mod CutFaults
+pub mod UnderAny

@@ -47,8 +47,8 @@ pub record AllWell (S : RunModel) (p : Plan) (ts : ℕ → Trace) (rows : List R
   pub root : IsWell S (fragment S 0 p) (keep rows) (ts 0)
   pub below : FlatRun S (IsWell S) ts p 0 1
 
--- the headline from traces by number, of a plan that is judged by either rule table: the rows are stream 0 of a run of the plan relation, and those of the
--- plan without its exchanges, each as often, and the same list where the root claims a total order
+-- the main theorem, from traces by number, of a plan that is judged by either rule table. The rows are stream 0 of a run of the plan relation. They are those
+-- of the plan without its exchanges, each as often, and the same list where the root claims a total order
 abbrev pub NumberedRunDelivers : Type 0
 NumberedRunDelivers =
     (S : RunModel) → IsSet S → (derives is_total : Bool) (p : Plan) → is_fit S.relation_of p ≡ true

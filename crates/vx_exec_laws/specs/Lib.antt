@@ -13,3 +13,4 @@ pub mod Layout
 pub mod Faults
 pub mod CutRows
 pub mod Samples
+pub mod AnyFunctions

@@ -1,4 +1,4 @@
--- What the traces of all workers of a plan say together, and the laws: they are a run of the plan, and deliver the headline.
+-- What the traces of all workers of a plan say together, and the laws: they are a run of the plan, and the rows that the plan delivers (`Delivers`).
 use Rattle.vx_worker.specs.Fragment.{goes, IsSet, RunModel, Frag, Reads, FragMakes, fragment}
 use Rattle.std.specs.Prelude.{◌≡◌, ℕ, ◌<◌, Bool, true, false, List, length}
 use Rattle.vx_rows_values.specs.Values.{Row}
@@ -24,8 +24,8 @@ ship_of S n i k p = record { exchange = n; place = i; consumers = workers S.size
 abbrev pub Known : Type 1
 Known = Frag → Task → Trace → Type 0
 
--- for the workers of the fragment at the top, with these traces: the deck of each shared scan dealt out its morsels, a whole
--- scan was drawn by each worker alone, and at each exchange there are producers, known one by one, whose packets flowed to the workers
+-- for the workers of the fragment at the top, with these traces. The deck of each shared scan dealt out its morsels, and a whole scan was drawn by each worker
+-- alone. At each exchange there are producers, known one by one, whose packets flowed to the workers
 abbrev pub RunOf : RunModel → Known → Plan → (ℕ → Trace) → Type 0
 RunOf S E (scan n c r true z) ts = Dispatched (workers S.sizes z) (morsel_count S.morsel (length (S.db r))) (λ w. (ts w).drew n)
 RunOf S E (scan n c r false z) ts = (w : ℕ) → w < workers S.sizes z → Dispatched 1 (morsel_count S.morsel (length (S.db r))) (λ _. (ts w).drew n)
@@ -56,7 +56,7 @@ WellRunGives =
     → (t : Trace) (rows : List Row) → IsWell S (fragment S 0 p) (keep rows) t
     → RunOf S (IsWell S) p (λ _. t) → Runs S.db S.sizes (goes S) p (λ _. rows)
 
--- the headline for a run of which all workers are well
+-- the main theorem, for a run of which all workers are well
 abbrev pub WellRunDelivers : Type 0
 WellRunDelivers =
     (S : RunModel) → IsSet S

@@ -26,14 +26,14 @@ HoldsThroughout db sizes goes (binary n c op p q) s run =
     HoldsThroughout db sizes goes p run.0 run.2 × HoldsThroughout db sizes goes q run.1 run.3 × HoldsAt db sizes goes (binary n c op p q) s
 HoldsThroughout db sizes goes (exchange n c k m p) s run = HoldsThroughout db sizes goes p run.0 run.1 × HoldsAt db sizes goes (exchange n c k m p) s
 
--- the theorem, for every node of an allowed plan
+-- in every run of an allowed plan that is well formed, from the premises `Given`, every node's claim holds
 abbrev pub SoundThroughout : Type 0
 SoundThroughout =
     (catalog : ℕ → Relation) (db : ℕ → List Row) (sizes : ℕ → ℕ) (goes : Routing) → Given catalog db sizes goes
     → (p : Plan) (s : Streams) → well_formed catalog p ≡ true → allowed catalog p ≡ true → (run : Runs db sizes goes p s)
     → HoldsThroughout db sizes goes p s run
 
--- the theorem at the root
+-- from the same premises: if the plan is not open and its root is allowed too, stream 0 of every run is delivered (`Delivers`)
 abbrev pub SoundAtRoot : Type 0
 SoundAtRoot =
     (catalog : ℕ → Relation) (db : ℕ → List Row) (sizes : ℕ → ℕ) (goes : Routing) → Given catalog db sizes goes

@@ -1,5 +1,6 @@
 //! What the traces of all workers say together.
 
+ghost use Rattle.vx_exec_laws.specs.AnyFunctions.{AnyFunctions};
 ghost use Rattle.vx_exec_laws.specs.Dispatch.{HandsDispatched};
 ghost use Rattle.vx_exec_laws.specs.Faults.{ErasedOverflows, NoOrderFault, NumberedFaultsAreReal, OverflowIsReal};
 ghost use Rattle.vx_exec_laws.specs.Layout.{FlatIsRun, NumberedIsFit, NumberedRunDelivers};
@@ -69,4 +70,9 @@ pub fn numbered_run_delivers()
 /// An overflow that a run answers is real, and no order fault comes, from traces by the workers' numbers.
 pub fn numbered_faults_are_real()
     ensures { NumberedFaultsAreReal }
+{}
+
+/// Under any functions a run of an accepted plan delivers the rows of the plan under these functions, and its faults are real.
+pub fn any_functions_are_run()
+    ensures { AnyFunctions }
 {}

@@ -2,3 +2,4 @@ pub mod Spans
 pub mod Each
 pub mod Order
 pub mod Capped
+pub mod UnderFacts

@@ -2,11 +2,13 @@
 //! its scans.
 #![tactic(auto)]
 
+mod laws;
 mod layout;
 mod needed;
 mod span;
 mod worker_groups;
 
+pub use laws::layout_stays;
 pub use layout::Layout;
 pub use needed::rounds_needed;
 pub use span::{ExchangeSpan, NodeSpan, ScanSpan};

@@ -1,6 +1,7 @@
 -- Each kind of operator stands as the source that it is.
 use Rattle.std.specs.Prelude.{ℕ, ◌≤◌}
 use Rattle.std.proofs.Common.{le_refl}
+use Rattle.vx_plan_nodes.specs.declared.functions.PlanFunctions.{Ghosts}
 use Rattle.vx_ops.specs.Ledger.{Ledger, Op, Abides}
 use Rattle.vx_ops.specs.Turn.{Shape, Coming, IsWithin}
 use Rattle.vx_ops.specs.Meaning.{Meaning}
@@ -36,47 +37,47 @@ receiver_meaning s = record {
   idle_grows = λ a b h. le_refl 0;
 }
 
--- what each kind of operator says of itself
-abbrev pub kind_meaning : OperatorKind → Meaning
-kind_meaning (kind.Scan s) = scan_meaning s
-kind_meaning (kind.Select s) = select_meaning s
-kind_meaning (kind.Project s) = project_meaning s
-kind_meaning (kind.Distinct s) = distinct_meaning s
-kind_meaning (kind.Sort s) = sort_meaning s
-kind_meaning (kind.Group s) = group_meaning s
-kind_meaning (kind.Limit s) = limit_meaning s
-kind_meaning (kind.Union s) = union_meaning s
-kind_meaning (kind.HashJoin s) = hash_join_meaning s
-kind_meaning (kind.MergeJoin s) = merge_join_meaning s
-kind_meaning (kind.SemiJoin s) = semi_join_meaning s
-kind_meaning (kind.Receiver s) = receiver_meaning s
-kind_meaning (kind.InOrder s) = in_order_meaning s
-kind_meaning (kind.Merge s) = merge_receiver_meaning s
+-- what each kind of operator says of itself, where these are the functions by which it computes
+abbrev pub kind_meaning : {F : Type 0} (given : Ghosts F) → OperatorKind F given → Meaning
+kind_meaning given (kind.Scan s) = scan_meaning s
+kind_meaning given (kind.Select s) = select_meaning given s
+kind_meaning given (kind.Project s) = project_meaning given s
+kind_meaning given (kind.Distinct s) = distinct_meaning s
+kind_meaning given (kind.Sort s) = sort_meaning s
+kind_meaning given (kind.Group s) = group_meaning s
+kind_meaning given (kind.Limit s) = limit_meaning s
+kind_meaning given (kind.Union s) = union_meaning s
+kind_meaning given (kind.HashJoin s) = hash_join_meaning s
+kind_meaning given (kind.MergeJoin s) = merge_join_meaning s
+kind_meaning given (kind.SemiJoin s) = semi_join_meaning s
+kind_meaning given (kind.Receiver s) = receiver_meaning s
+kind_meaning given (kind.InOrder s) = in_order_meaning s
+kind_meaning given (kind.Merge s) = merge_receiver_meaning s
 
-abbrev pub KindStands : OperatorKind → Ledger → Type 0
-KindStands s l = (kind_meaning s).stands l
+abbrev pub KindStands : {F : Type 0} (given : Ghosts F) → OperatorKind F given → Ledger → Type 0
+KindStands given s l = (kind_meaning given s).stands l
 
-abbrev pub kind_op : OperatorKind → Op
-kind_op s = (kind_meaning s).op
+abbrev pub kind_op : {F : Type 0} (given : Ghosts F) → OperatorKind F given → Op
+kind_op given s = (kind_meaning given s).op
 
-abbrev pub kind_types : OperatorKind → Shape
-kind_types s = (kind_meaning s).types
+abbrev pub kind_types : {F : Type 0} (given : Ghosts F) → OperatorKind F given → Shape
+kind_types given s = (kind_meaning given s).types
 
-abbrev pub kind_want : OperatorKind → Want
-kind_want s = (kind_meaning s).want
+abbrev pub kind_want : {F : Type 0} (given : Ghosts F) → OperatorKind F given → Want
+kind_want given s = (kind_meaning given s).want
 
-abbrev pub kind_most : OperatorKind → Coming → ℕ
-kind_most s c = (kind_meaning s).most c
+abbrev pub kind_most : {F : Type 0} (given : Ghosts F) → OperatorKind F given → Coming → ℕ
+kind_most given s c = (kind_meaning given s).most c
 
-abbrev pub kind_idle : OperatorKind → Coming → ℕ
-kind_idle s c = (kind_meaning s).idle c
+abbrev pub kind_idle : {F : Type 0} (given : Ghosts F) → OperatorKind F given → Coming → ℕ
+kind_idle given s c = (kind_meaning given s).idle c
 
 -- what is known of it
-pub kind_abides : (s : OperatorKind) (l : Ledger) → KindStands s l → Abides (kind_op s) l
-kind_abides s l h = (kind_meaning s).abides l h
+pub kind_abides : {F : Type 0} {given : Ghosts F} (s : OperatorKind F given) (l : Ledger) → KindStands given s l → Abides (kind_op given s) l
+kind_abides {F} {given} s l h = (kind_meaning given s).abides l h
 
-pub kind-most-grows : (s : OperatorKind) (a b : Coming) → IsWithin a b → kind_most s a ≤ kind_most s b
-kind-most-grows s a b h = (kind_meaning s).most_grows a b h
+pub kind-most-grows : {F : Type 0} {given : Ghosts F} (s : OperatorKind F given) (a b : Coming) → IsWithin a b → kind_most given s a ≤ kind_most given s b
+kind-most-grows {F} {given} s a b h = (kind_meaning given s).most_grows a b h
 
-pub kind-idle-grows : (s : OperatorKind) (a b : Coming) → IsWithin a b → kind_idle s a ≤ kind_idle s b
-kind-idle-grows s a b h = (kind_meaning s).idle_grows a b h
+pub kind-idle-grows : {F : Type 0} {given : Ghosts F} (s : OperatorKind F given) (a b : Coming) → IsWithin a b → kind_idle given s a ≤ kind_idle given s b
+kind-idle-grows {F} {given} s a b h = (kind_meaning given s).idle_grows a b h

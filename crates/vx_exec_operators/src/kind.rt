@@ -4,12 +4,13 @@ use vx_exchange::Receiver;
 use vx_exchange_receivers::{InOrderReceiver, MergeReceiver};
 use vx_match::{Distinct, Group, HashJoin, MergeJoin, SemiJoin};
 use vx_ops::{Got, Limit, Polled, Project, Scan, Select, Sort, Source, Union, Want};
+use vx_plan_nodes::PlanFunctions;
 
-/// An operator of a fragment, by its kind: each is a source of its own crate.
-pub enum OperatorKind {
+/// An operator of a fragment, by its kind: each is a source of its own crate. Selections and projections compute by these functions.
+pub enum OperatorKind<F: PlanFunctions + Copy> {
     Scan(Scan),
-    Select(Select),
-    Project(Project),
+    Select(Select<F>),
+    Project(Project<F>),
     Distinct(Distinct),
     Sort(Sort),
     Group(Group),
@@ -25,7 +26,7 @@ pub enum OperatorKind {
 
 // Written out and not derived: so it is proved here once, and what holds operators calls it. A derived one is proved again, with those of all
 // that the operators hold, by each crate that lets an operator go.
-impl Drop for OperatorKind {
+impl<F: PlanFunctions + Copy> Drop for OperatorKind<F> {
     fn drop(self) {
         match self {
             OperatorKind::Scan(scan) => drop(scan),
@@ -46,20 +47,20 @@ impl Drop for OperatorKind {
     }
 }
 
-impl Source for OperatorKind {
+impl<F: PlanFunctions + Copy> Source for OperatorKind<F> {
     ghost use Rattle.vx_exec_operators.specs.Kind.{KindStands, kind_op, kind_types, kind_want, kind_most, kind_idle, kind_abides, kind-most-grows, kind-idle-grows};
 
-    ghost Stands = { KindStands };
+    ghost Stands = { KindStands F.PlanFunctions };
 
-    ghost op = { kind_op };
+    ghost op = { kind_op F.PlanFunctions };
 
-    ghost types = { kind_types };
+    ghost types = { kind_types F.PlanFunctions };
 
-    ghost want = { kind_want };
+    ghost want = { kind_want F.PlanFunctions };
 
-    ghost most = { kind_most };
+    ghost most = { kind_most F.PlanFunctions };
 
-    ghost idle = { kind_idle };
+    ghost idle = { kind_idle F.PlanFunctions };
 
     ghost abides = { kind_abides };
 

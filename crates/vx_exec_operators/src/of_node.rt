@@ -10,6 +10,7 @@ ghost use Rattle.vx_plan_nodes.specs.Outline.{unary_of, binary_of, kind_of};
 ghost use Rattle.vx_plan_nodes.specs.Runs.{is_concat};
 ghost use Rattle.vx_plan_nodes.specs.Typed.{is_unary, is_binary, may_merge};
 ghost use Rattle.vx_plan_nodes.specs.Types.{unary_types, binary_types};
+ghost use Rattle.vx_plan_nodes.specs.Under.{unary_under};
 ghost use Rattle.vx_match_join.specs.Matching.{op_of_matching};
 ghost use Rattle.vx_ops.specs.Ledger.{one_op, two_op, receive};
 ghost use Rattle.vx_ops.specs.Turn.{fresh_ledger};
@@ -27,38 +28,39 @@ use vx_match_join::Matching;
 use vx_ops::{Limit, Project, Select, Sort, Union};
 use vx_ops_kernels::kept_columns;
 use vx_plan_nodes::{
-    Binary, Condition, Exchange, ExchangeKind, Unary, copied_conditions, copied_entries,
-    copied_filters,
+    Binary, Condition, Exchange, ExchangeKind, PlanFunctions, Unary, copied_conditions,
+    copied_entries, copied_filters,
 };
 use vx_rows_values::{ColType, KeySeed};
 
 /// The operator over one input of rows of these types, at the node with this number, to which nothing came. Keys are hashed by
-/// the seed. The program has the functions that the operator computes.
-pub fn unary_operator(
+/// the seed. Among these functions are those that the operator computes.
+pub fn unary_operator<F: PlanFunctions + Copy>(
     alloc: Global,
+    functions: F,
     seed: KeySeed,
     number: u32,
     unary: &Unary,
     input: &[ColType],
-) -> Result<Operator, AllocError>
+) -> Result<Operator<F>, AllocError>
     requires typed { is_unary input.now (unary_of unary.now) ≡ true }
-    requires known { unary_known input.now (unary_of unary.now) ≡ true }
-    ensures op { IfOk result (λ o. operator_op o ≡ one_op number (unary_of unary.now)) }
-    ensures stands { IfOk result (λ o. OperatorStands o fresh_ledger) }
-    ensures starts { IfOk result (λ o. StartsWithin (operator_op o) (operator_most o) (operator_idle o)) }
-    ensures reads { IfOk result (λ o. (operator_types o).left ≡ input.now) }
-    ensures returns { IfOk result (λ o. (operator_types o).out ≡ unary_types (unary_of unary.now) input.now) }
+    requires known { unary_known input.now (unary_under (F.functions functions) (unary_of unary.now)) ≡ true }
+    ensures op { IfOk result (λ o. operator_op F.PlanFunctions o ≡ one_op number (unary_under (F.functions functions) (unary_of unary.now))) }
+    ensures stands { IfOk result (λ o. OperatorStands F.PlanFunctions o fresh_ledger) }
+    ensures starts { IfOk result (λ o. StartsWithin (operator_op F.PlanFunctions o) (operator_most F.PlanFunctions o) (operator_idle F.PlanFunctions o)) }
+    ensures reads { IfOk result (λ o. (operator_types F.PlanFunctions o).left ≡ input.now) }
+    ensures returns { IfOk result (λ o. (operator_types F.PlanFunctions o).out ≡ unary_types (unary_of unary.now) input.now) }
 {
     match unary {
         Unary::Select(filters) => {
             let copies = copied_filters(alloc, filters.as_slice())?;
             let types = Vec::from_slice(alloc, input)?;
-            let select = Select::new(alloc, number, copies, types);
+            let select = Select::new(alloc, number, functions, copies, types);
             Ok(Operator::of(number, OperatorKind::Select(select)))
         }
         Unary::Project(entries) => {
             let copies = copied_entries(alloc, entries.as_slice())?;
-            let project = Project::new(alloc, number, copies, input)?;
+            let project = Project::new(alloc, number, functions, copies, input)?;
             Ok(Operator::of(number, OperatorKind::Project(project)))
         }
         Unary::Distinct(kept) => {
@@ -105,22 +107,22 @@ fn matching_of(
 }
 
 // The operator of a semi or an anti join over inputs of rows of these types, to which nothing came.
-fn semi_join_operator(
+fn semi_join_operator<F: PlanFunctions + Copy>(
     alloc: Global,
     seed: KeySeed,
     number: u32,
     matching: Matching,
     left: &[ColType],
     right: &[ColType],
-) -> Result<Operator, AllocError>
+) -> Result<Operator<F>, AllocError>
     requires left { AreColumns (length left.now) (map (λ (p : ℕ × ℕ). p.0) matching.on.items) }
     requires right { AreColumns (length right.now) (map (λ (p : ℕ × ℕ). p.1) matching.on.items) }
-    ensures op { IfOk result (λ o. operator_op o ≡ two_op number (op_of_matching matching)) }
-    ensures stands { IfOk result (λ o. OperatorStands o fresh_ledger) }
-    ensures starts { IfOk result (λ o. StartsWithin (operator_op o) (operator_most o) (operator_idle o)) }
-    ensures left { IfOk result (λ o. (operator_types o).left ≡ left.now) }
-    ensures right { IfOk result (λ o. (operator_types o).right ≡ right.now) }
-    ensures returns { IfOk result (λ o. (operator_types o).out ≡ left.now) }
+    ensures op { IfOk result (λ o. operator_op F.PlanFunctions o ≡ two_op number (op_of_matching matching)) }
+    ensures stands { IfOk result (λ o. OperatorStands F.PlanFunctions o fresh_ledger) }
+    ensures starts { IfOk result (λ o. StartsWithin (operator_op F.PlanFunctions o) (operator_most F.PlanFunctions o) (operator_idle F.PlanFunctions o)) }
+    ensures left { IfOk result (λ o. (operator_types F.PlanFunctions o).left ≡ left.now) }
+    ensures right { IfOk result (λ o. (operator_types F.PlanFunctions o).right ≡ right.now) }
+    ensures returns { IfOk result (λ o. (operator_types F.PlanFunctions o).out ≡ left.now) }
 {
     let join = SemiJoining::source(alloc, seed, number, matching, left, right)?;
     Ok(Operator::of(number, OperatorKind::SemiJoin(join)))
@@ -128,21 +130,21 @@ fn semi_join_operator(
 
 /// The operator over two inputs of rows of these types, at the node with this number, to which nothing came. Keys are hashed by
 /// the seed.
-pub fn binary_operator(
+pub fn binary_operator<F: PlanFunctions + Copy>(
     alloc: Global,
     seed: KeySeed,
     number: u32,
     binary: &Binary,
     left: &[ColType],
     right: &[ColType],
-) -> Result<Operator, AllocError>
+) -> Result<Operator<F>, AllocError>
     requires { is_binary left.now right.now (binary_of binary.now) ≡ true }
-    ensures op { IfOk result (λ o. operator_op o ≡ two_op number (binary_of binary.now)) }
-    ensures stands { IfOk result (λ o. OperatorStands o fresh_ledger) }
-    ensures starts { IfOk result (λ o. StartsWithin (operator_op o) (operator_most o) (operator_idle o)) }
-    ensures left { IfOk result (λ o. (operator_types o).left ≡ left.now) }
-    ensures right { IfOk result (λ o. (operator_types o).right ≡ right.now) }
-    ensures returns { IfOk result (λ o. (operator_types o).out ≡ binary_types (binary_of binary.now) left.now right.now) }
+    ensures op { IfOk result (λ o. operator_op F.PlanFunctions o ≡ two_op number (binary_of binary.now)) }
+    ensures stands { IfOk result (λ o. OperatorStands F.PlanFunctions o fresh_ledger) }
+    ensures starts { IfOk result (λ o. StartsWithin (operator_op F.PlanFunctions o) (operator_most F.PlanFunctions o) (operator_idle F.PlanFunctions o)) }
+    ensures left { IfOk result (λ o. (operator_types F.PlanFunctions o).left ≡ left.now) }
+    ensures right { IfOk result (λ o. (operator_types F.PlanFunctions o).right ≡ right.now) }
+    ensures returns { IfOk result (λ o. (operator_types F.PlanFunctions o).out ≡ binary_types (binary_of binary.now) left.now right.now) }
 {
     match binary {
         Binary::Union => {
@@ -180,24 +182,24 @@ fn is_concat(kind: &ExchangeKind) -> bool
 
 /// The consumer end, at `place`, of the exchange whose node has this `number`. It takes rows of these `types` from `producers` producers,
 /// and no packet has come yet.
-pub fn consumer_operator(
+pub fn consumer_operator<F: PlanFunctions + Copy>(
     alloc: Global,
     number: u32,
     exchange: &Exchange,
     place: u32,
     producers: u32,
     types: Vec<ColType>,
-) -> Result<Operator, AllocError>
+) -> Result<Operator<F>, AllocError>
     requires some { 1 ≤ producers }
     requires few { producers ≤ max_group_workers }
     requires columns { AreColumns (length types.items) (order_columns exchange.now.merge.items) }
     requires merges { may_merge (kind_of exchange.now.kind) exchange.now.merge.items ≡ true }
-    ensures op { IfOk result (λ o. operator_op o
+    ensures op { IfOk result (λ o. operator_op F.PlanFunctions o
         ≡ receive (record { exchange = number; place = place; producers = producers; types = types.items; merge = exchange.now.merge.items; in_order = is_concat (kind_of exchange.now.kind) })) }
-    ensures stands { IfOk result (λ o. OperatorStands o fresh_ledger) }
-    ensures starts { IfOk result (λ o. StartsWithin (operator_op o) (operator_most o) (operator_idle o)) }
-    ensures reads { IfOk result (λ o. (operator_types o).left ≡ types.items) }
-    ensures returns { IfOk result (λ o. (operator_types o).out ≡ types.items) }
+    ensures stands { IfOk result (λ o. OperatorStands F.PlanFunctions o fresh_ledger) }
+    ensures starts { IfOk result (λ o. StartsWithin (operator_op F.PlanFunctions o) (operator_most F.PlanFunctions o) (operator_idle F.PlanFunctions o)) }
+    ensures reads { IfOk result (λ o. (operator_types F.PlanFunctions o).left ≡ types.items) }
+    ensures returns { IfOk result (λ o. (operator_types F.PlanFunctions o).out ≡ types.items) }
 {
     if is_concat(&exchange.kind) {
         let receiver = InOrderReceiver::new(number, place, producers, types);

@@ -4,17 +4,18 @@ use crate::counting::{count_given, count_got};
 use crate::kind::OperatorKind;
 use vx_exec_setup::OperatorCounts;
 use vx_ops::{Got, Polled, Source, Want};
+use vx_plan_nodes::PlanFunctions;
 
 /// One operator of a fragment, and what it counted of its turns.
-pub struct Operator {
+pub struct Operator<F: PlanFunctions + Copy> {
     // The number of its node.
     node: u32,
-    kind: OperatorKind,
+    kind: OperatorKind<F>,
     counts: OperatorCounts,
 }
 
 // By hand, as that of the kinds is.
-impl Drop for Operator {
+impl<F: PlanFunctions + Copy> Drop for Operator<F> {
     fn drop(self) {
         let Operator {
             node: _,
@@ -24,7 +25,7 @@ impl Drop for Operator {
     }
 }
 
-impl Operator {
+impl<F: PlanFunctions + Copy> Operator<F> {
     ghost use Rattle.std.specs.Prelude.{◌≡◌};
     ghost use Rattle.vx_ops.specs.Turn.{fresh_ledger};
     ghost use Rattle.vx_ops.specs.Starts.{Starts, StartsWithin};
@@ -33,13 +34,13 @@ impl Operator {
     ghost use Rattle.vx_exec_setup.specs.Counts.{no_turns};
 
     /// The operator at the node with this number, to which nothing came.
-    pub fn of(node: u32, kind: OperatorKind) -> Operator
-        requires { KindStands kind fresh_ledger }
+    pub fn of(node: u32, kind: OperatorKind<F>) -> Operator<F>
+        requires { KindStands F.PlanFunctions kind fresh_ledger }
         ensures node { node_in result ≡ node }
         ensures kind { result.kind ≡ kind }
         ensures counts { counts_in result ≡ no_turns }
-        ensures stands { OperatorStands result fresh_ledger }
-        ensures starts { Starts (kind_meaning kind) → StartsWithin (operator_op result) (operator_most result) (operator_idle result) }
+        ensures stands { OperatorStands F.PlanFunctions result fresh_ledger }
+        ensures starts { Starts (kind_meaning F.PlanFunctions kind) → StartsWithin (operator_op F.PlanFunctions result) (operator_most F.PlanFunctions result) (operator_idle F.PlanFunctions result) }
     {
         Operator {
             node,
@@ -63,20 +64,20 @@ impl Operator {
     }
 }
 
-impl Source for Operator {
+impl<F: PlanFunctions + Copy> Source for Operator<F> {
     ghost use Rattle.vx_exec_operators.specs.Operator.{OperatorStands, operator_op, operator_types, operator_want, operator_most, operator_idle, operator_abides, operator-most-grows, operator-idle-grows};
 
-    ghost Stands = { OperatorStands };
+    ghost Stands = { OperatorStands F.PlanFunctions };
 
-    ghost op = { operator_op };
+    ghost op = { operator_op F.PlanFunctions };
 
-    ghost types = { operator_types };
+    ghost types = { operator_types F.PlanFunctions };
 
-    ghost want = { operator_want };
+    ghost want = { operator_want F.PlanFunctions };
 
-    ghost most = { operator_most };
+    ghost most = { operator_most F.PlanFunctions };
 
-    ghost idle = { operator_idle };
+    ghost idle = { operator_idle F.PlanFunctions };
 
     ghost abides = { operator_abides };
 

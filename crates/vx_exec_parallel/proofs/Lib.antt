@@ -6,3 +6,4 @@ pub mod Crews
 pub mod Wirings
 pub mod Ends
 pub mod GivingUp
+pub mod Standard

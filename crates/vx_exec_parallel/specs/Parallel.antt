@@ -1,6 +1,7 @@
 -- What a run whose workers are threads comes to.
 use Rattle.std.specs.Prelude.{ℕ, ◌≡◌, ◌<◌, ◌⊎◌, Result, Ok, Err, List, length, map}
 use Rattle.vx_rows_values.specs.Values.{Row}
+use Rattle.vx_plan_nodes.specs.declared.functions.PlanFunctions.{Ghosts}
 use Rattle.vx_plan_nodes.specs.Plan.{Plan}
 use Rattle.vx_worker.specs.Fragment.{RunModel}
 use Rattle.vx_worker.specs.Trace.{scan_morsels}
@@ -29,20 +30,20 @@ use Rattle.vx_exec_runs.specs.declared.outcome.RunOutcome.{RunOutcome}
 abbrev pub NeedsFew : (most workers : ℕ) → Result RunOutcome RunFault → Type 0
 NeedsFew most workers result = most < workers → (result ≡ Err fault.NoThread) ⊎ (result ≡ Err fault.NoMemory)
 
-module _ (hash : List ℕ → Row → ℕ → ℕ) (W : RunModel) (p : Plan) where
+module _ {F : Type 0} (given : Ghosts F) (hash : List ℕ → Row → ℕ → ℕ) (W : RunModel) (p : Plan) where
   -- the workers that were joined, in the order of their numbers: one for each place of the plan, which was given to a thread before its first step, wired as the
   -- plan says, and which that thread gave back once it had ended (`WasRun`). Their traces are those of a run that comes to this verdict (`Settled`)
-  pub record WereJoined (ended : List (Worker Operator Destination)) (verdict : RunState) : Type 0 where
+  pub record WereJoined (ended : List (Worker (Operator F given) Destination)) (verdict : RunState) : Type 0 where
     pub decks : List DeckView
     pub places : List DeckPlace
-    pub joined : List (Joined Operator Destination)
-    pub run : WasRun OperatorStands operator_op DestinationStands task_of post_of bounds_of hash (scan_morsels W) W p decks places joined
+    pub joined : List (Joined (Operator F given) Destination)
+    pub run : WasRun (OperatorStands given) (operator_op given) DestinationStands task_of post_of bounds_of hash (scan_morsels W) W p decks places joined
     pub workers : ended ≡ map worker_in joined
     pub settled : Settled task_of W p ended verdict
 
   -- the workers that were joined came to this result: all have ended, and a fault is that of the lowest-numbered one of them that failed by itself
   pub record IsJoinedCrew (result : Result RunOutcome RunFault) : Type 0 where
-    pub ended : List (Worker Operator Destination)
+    pub ended : List (Worker (Operator F given) Destination)
     pub as_many : length ended ≡ crew_size W.sizes p
     pub verdict : RunState
     pub joined : WereJoined ended verdict

@@ -11,16 +11,17 @@ use vx_exec::run_rounds;
 use vx_exec_runs::{MAX_ROUNDS, RunOutcome, Runs};
 use vx_exec_setup::{Mode, RunCounts, RunFault, Setting};
 use vx_exec_threads::Free;
+use vx_plan_nodes::{PlanFunctions, StandardFunctions};
 
-/// Runs plans by the workers of this repository: by rounds in one thread, or each worker in a thread of its own. Hash routes send keys by
-/// their bytes.
+/// Runs plans by the workers of this repository and by the standard functions: by rounds in one thread, or each worker in a thread of its own.
+/// Hash routes send keys by their bytes.
 #[derive(Clone, Copy)]
 pub struct Engine;
 
 impl Runs for Engine {
     ghost use Rattle.vx_exec_parallel.specs.Engine.{CountedIn};
 
-    ghost counted = { λ _ mode p db s result ws. CountedIn mode p db s result ws };
+    ghost counted = { λ _ mode p db s result ws. CountedIn ⟦<StandardFunctions as PlanFunctions>⟧ mode p db s result ws };
 
     fn run<T: Threads + Wait + Sync>(
         &self,
@@ -38,6 +39,7 @@ impl Runs for Engine {
                 plan,
                 database,
                 setup,
+                &StandardFunctions,
                 &ByteRouter,
                 MAX_ROUNDS,
                 counts,
@@ -45,7 +47,16 @@ impl Runs for Engine {
             Mode::Threads => {
                 let (router, gate) = (ByteRouter, Free);
                 let threading = Threading::new(&router, &gate);
-                run_threads(rt, alloc, plan, database, setup, &threading, counts)
+                run_threads(
+                    rt,
+                    alloc,
+                    plan,
+                    database,
+                    setup,
+                    &StandardFunctions,
+                    &threading,
+                    counts,
+                )
             }
         }
     }

@@ -1,7 +1,6 @@
 //! Runs whose workers are threads.
 
 ghost use Rattle.std.specs.Prelude.{◌≡◌, ◌⊎◌, true, IfOk, IfErr};
-ghost use Rattle.vx_plan_nodes.specs.TypedView.{plan as whole_plan};
 ghost use Rattle.vx_check_rules.specs.Checked.{is_allowed, is_root_allowed};
 ghost use Rattle.vx_check_rules.specs.CheckedView.{typed_plan};
 ghost use Rattle.vx_exec_operators.specs.Operator.{operator_types};
@@ -10,7 +9,7 @@ ghost use Rattle.vx_plan_nodes.specs.Workers.{crew_size, worker_group_at};
 ghost use Rattle.vx_exec_spawn.specs.Each.{AllReady};
 ghost use Rattle.vx_exec_setup.specs.declared.fault.RunFault.TheVariants.{NoMemory, NoThread};
 ghost use Rattle.vx_exec_setup.specs.Counts.{is_wanted, counts_in};
-ghost use Rattle.vx_exec.specs.Job.{model_of, sizes_of, types_at};
+ghost use Rattle.vx_exec.specs.Job.{model_of, sizes_of, types_at, job_plan};
 ghost use Rattle.vx_exec_runs.specs.Promise.{NoThreadStarted};
 ghost use Rattle.vx_exec.specs.Part.{HasKnown};
 ghost use Rattle.vx_exec.specs.Promise.{CrewPromise, PromiseOnceSet, WhereSet};
@@ -36,34 +35,42 @@ use vx_exec_steps::RunState;
 use vx_exec_threads::Gate;
 use vx_exec_wiring::{Wiring, wiring_of};
 use vx_morsel_decks::SharedDeck;
-use vx_plan_nodes::Router;
+use vx_plan_nodes::{PlanFunctions, Router};
 use vx_rows_values::limits::MAX_WORKERS;
 use vx_worker::Worker;
 
 // What the threads of a job's workers hold before the first step.
-fn wiring_for(alloc: Global, job: &Job<'_>) -> Result<Wiring, AllocError>
+fn wiring_for<F: PlanFunctions + Copy>(
+    alloc: Global,
+    job: &Job<'_, F>,
+) -> Result<Wiring, AllocError>
     requires allowed { is_allowed job.now.plan.now ≡ true }
     requires root { is_root_allowed job.now.plan.now ≡ true }
-    ensures { IfOk result (IsWiringOf job.now) }
+    ensures { IfOk result (IsWiringOf F.PlanFunctions job.now) }
 {
     let counts = job.morsel_counts(alloc)?;
     wiring_of(alloc, job.layout(), counts.as_slice(), job.slack())
 }
 
 // Runs all workers of a job, each in a thread of its own, and puts together what they give back.
-fn run_crew<R: Router + Sync, G: Gate + Sync, T: Threads + Wait + Sync>(
+fn run_crew<
+    F: PlanFunctions + Copy + Send + Sync,
+    R: Router + Sync,
+    G: Gate + Sync,
+    T: Threads + Wait + Sync,
+>(
     rt: &T,
     alloc: Global,
-    job: &Job<'_>,
+    job: &Job<'_, F>,
     router: &R,
     gate: &G,
-    workers: Vec<Worker<Operator, Destination>>,
+    workers: Vec<Worker<Operator<F>, Destination>>,
     wiring: Wiring,
-) -> Result<(Vec<Worker<Operator, Destination>>, RunState), RunFault>
-    requires new { AreNew job.now workers.items }
-    requires wired { IsWiringOf job.now wiring }
-    ensures run { IsAcceptedJob (R.route_of router.now) job.now → IfOk result (λ r. HaveRun (R.route_of router.now) job.now workers.items r.0.items r.1) }
-    ensures joined { IfOk result (λ r. WereJoined (R.route_of router.now) (model_of (R.route_of router.now) job.now) (whole_plan job.now.plan.now) r.0.items r.1) }
+) -> Result<(Vec<Worker<Operator<F>, Destination>>, RunState), RunFault>
+    requires new { AreNew F.PlanFunctions job.now workers.items }
+    requires wired { IsWiringOf F.PlanFunctions job.now wiring }
+    ensures run { IsAcceptedJob F.PlanFunctions (R.route_of router.now) job.now → IfOk result (λ r. HaveRun F.PlanFunctions (R.route_of router.now) job.now workers.items r.0.items r.1) }
+    ensures joined { IfOk result (λ r. WereJoined F.PlanFunctions (R.route_of router.now) (model_of (R.route_of router.now) job.now) (job_plan F.PlanFunctions job.now) r.0.items r.1) }
     ensures judged { IfOk result (λ r. Judged r.0.items r.1) }
     ensures fault { IfErr result (λ e. (e ≡ NoMemory) ⊎ (e ≡ NoThread)) }
 {
@@ -82,10 +89,15 @@ fn run_crew<R: Router + Sync, G: Gate + Sync, T: Threads + Wait + Sync>(
 
 // All workers of a job as threads, and what they come to. None is started where they are more than `most`. What they counted is
 // kept, if that is wanted.
-fn run_job<R: Router + Sync, G: Gate + Sync, T: Threads + Wait + Sync>(
+fn run_job<
+    F: PlanFunctions + Copy + Send + Sync,
+    R: Router + Sync,
+    G: Gate + Sync,
+    T: Threads + Wait + Sync,
+>(
     rt: &T,
     alloc: Global,
-    job: &Job<'_>,
+    job: &Job<'_, F>,
     router: &R,
     gate: &G,
     most: u32,
@@ -93,13 +105,13 @@ fn run_job<R: Router + Sync, G: Gate + Sync, T: Threads + Wait + Sync>(
 ) -> Result<RunOutcome, RunFault>
     requires allowed { is_allowed job.now.plan.now ≡ true }
     requires root { is_root_allowed job.now.plan.now ≡ true }
-    requires known { HasKnown job.now }
-    ensures run { PromiseOnceSet (R.route_of router.now) NoThreadStarted job.now.plan.now job.now.database.now (sizes_of job.now) result }
+    requires known { HasKnown F.PlanFunctions job.now }
+    ensures run { PromiseOnceSet (R.route_of router.now) (F.functions job.now.functions) NoThreadStarted job.now.plan.now job.now.database.now (sizes_of job.now) result }
     ensures whole { IfOk result IsWhole }
-    ensures few { NeedsFew most (crew_size (worker_group_at job.now.layout.worker_groups.items) (whole_plan job.now.plan.now)) result }
-    ensures joined { RanByThreads (R.route_of router.now) (model_of (R.route_of router.now) job.now) (whole_plan job.now.plan.now) result }
+    ensures few { NeedsFew most (crew_size (worker_group_at job.now.layout.worker_groups.items) (job_plan F.PlanFunctions job.now)) result }
+    ensures joined { RanByThreads F.PlanFunctions (R.route_of router.now) (model_of (R.route_of router.now) job.now) (job_plan F.PlanFunctions job.now) result }
     ensures counted { is_wanted counts.old ≡ true
-        → CountedByThreads (R.route_of router.now) (model_of (R.route_of router.now) job.now) (whole_plan job.now.plan.now) result (counts_in counts.new) }
+        → CountedByThreads F.PlanFunctions (R.route_of router.now) (model_of (R.route_of router.now) job.now) (job_plan F.PlanFunctions job.now) result (counts_in counts.new) }
 {
     job.meets();
     let crew = Crew::new(alloc, job)?;
@@ -141,28 +153,34 @@ impl<'a, R, G> Threading<'a, R, G> {
     }
 }
 
-/// A run of a plan over a database, each worker in a thread of its own. They start together or not at all: where there
+/// A run of a plan over a database by these functions, each worker in a thread of its own. They start together or not at all: where there
 /// are more workers than there may be, or the machine refuses a thread, none takes a step. Once all have ended and some
 /// failed, the fault is that of the lowest-numbered one that failed by itself. That the threads end is not promised.
 /// What each worker counted is in `counts` afterwards, also where some failed; memory for it is refused only where it is wanted.
-pub fn run_threads<R: Router + Sync, G: Gate + Sync, T: Threads + Wait + Sync>(
+pub fn run_threads<
+    F: PlanFunctions + Copy + Send + Sync,
+    R: Router + Sync,
+    G: Gate + Sync,
+    T: Threads + Wait + Sync,
+>(
     rt: &T,
     alloc: Global,
     plan: &CheckedPlan,
     database: &Database,
     setup: &Setup,
+    functions: &F,
     threading: &Threading<'_, R, G>,
     counts: &mut RunCounts,
 ) -> Result<RunOutcome, RunFault>
-    ensures promise { CrewPromise (R.route_of threading.now.router.now) NoThreadStarted (typed_plan plan.now) database.now setup.now result }
+    ensures promise { CrewPromise (R.route_of threading.now.router.now) (F.functions functions.now) NoThreadStarted (typed_plan plan.now) database.now setup.now result }
     ensures whole { IfOk result IsWhole }
-    ensures few { WhereSet (R.route_of threading.now.router.now) (typed_plan plan.now) database.now setup.now (λ W p. NeedsFew threading.now.most (crew_size W.sizes p) result) }
-    ensures joined { WhereSet (R.route_of threading.now.router.now) (typed_plan plan.now) database.now setup.now (λ W p. RanByThreads (R.route_of threading.now.router.now) W p result) }
+    ensures few { WhereSet (R.route_of threading.now.router.now) (F.functions functions.now) (typed_plan plan.now) database.now setup.now (λ W p. NeedsFew threading.now.most (crew_size W.sizes p) result) }
+    ensures joined { WhereSet (R.route_of threading.now.router.now) (F.functions functions.now) (typed_plan plan.now) database.now setup.now (λ W p. RanByThreads F.PlanFunctions (R.route_of threading.now.router.now) W p result) }
     ensures counted { is_wanted counts.old ≡ true
-        → WhereSet (R.route_of threading.now.router.now) (typed_plan plan.now) database.now setup.now
-        (λ W p. CountedByThreads (R.route_of threading.now.router.now) W p result (counts_in counts.new)) }
+        → WhereSet (R.route_of threading.now.router.now) (F.functions functions.now) (typed_plan plan.now) database.now setup.now
+        (λ W p. CountedByThreads F.PlanFunctions (R.route_of threading.now.router.now) W p result (counts_in counts.new)) }
 {
-    let job = job_of(alloc, plan.plan(), database, setup)?;
+    let job = job_of(alloc, *functions, plan.plan(), database, setup)?;
     let (router, gate, most) = (threading.router, threading.gate, threading.most);
     run_job(rt, alloc, &job, router, gate, most, counts)
 }

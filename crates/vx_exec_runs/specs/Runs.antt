@@ -24,8 +24,8 @@ use Rattle.vx_exec_setup.specs.Setup.{SetupView}
 use Rattle.vx_exec_setup.specs.declared.fault.RunFault.{RunFault}
 use Rattle.vx_exec_setup.specs.declared.fault.RunFault.TheVariants as fault
 
--- rows that a run gave, of the output's types: they are stream 0 of a run of the plan relation with worker groups of these sizes, where a hash route sends
--- keys so, and those of the plan without its exchanges, each as often, and the same list where the root claims a total order
+-- rows that a run gave, of the output's types. They are stream 0 of a run of the plan relation with worker groups of these sizes, where a hash route sends
+-- keys so. They are those of the plan without its exchanges, each as often, and the same list where the root claims a total order
 pub record IsRunOf (hash : List ℕ → Row → ℕ → ℕ) (p : TypedPlanView) (db : Database) (worker_groups : List ℕ) (rows : RowsView) : Type 0 where
   pub types : rows.types ≡ types_of (relation_at p.names.catalog) (plan_in p.root)
   pub runs : Runs (rows_at db) (worker_group_at worker_groups) (sends_by hash (bounds_at (scope_of p.names).ranges)) (plan_in p.root) (λ _. rows.rows)
@@ -57,12 +57,12 @@ pub record HasSizes (p : TypedPlanView) (db : Database) (setup : SetupView) (s :
   pub same : db.catalog ≡ p.names.catalog
   pub sizes : sizes_set setup p.names.sizes (plan_in p.root) ≡ Ok s
 
--- the number of the first node, inputs before their node, that names a function which is not one of the program's for the types of its operands, or has
--- another answer than the plan says
+-- the number of the first node, inputs before their node, that names a function which has no signature for the types of its operands, or another answer than
+-- the plan says
 abbrev pub unknown_in : TypedPlanView → Option ℕ
 unknown_in p = first_unknown (relation_at p.names.catalog) (plan_in p.root)
 
--- the same, and each function that the plan names is one of the program's, for the types of its operands and with the answer that the plan says
+-- what `HasSizes` says, and each function that the plan names has a signature for the types of its operands, with the answer that the plan says
 pub record IsSetUp (p : TypedPlanView) (db : Database) (setup : SetupView) (s : Sizes) : Type 0 where
   pub same : db.catalog ≡ p.names.catalog
   pub sizes : sizes_set setup p.names.sizes (plan_in p.root) ≡ Ok s
@@ -72,7 +72,7 @@ pub record IsSetUp (p : TypedPlanView) (db : Database) (setup : SetupView) (s : 
 abbrev pub NeedsMoreRounds : TypedPlanView → Database → Sizes → Type 0
 NeedsMoreRounds p db s = MAX_ROUNDS < rounds_needed (rows_at db) (worker_group_at s.worker_groups) (plan_in p.root)
 
--- why a plan gives no rows over a database: another catalog, the first refusal of the setup, a function that the program does not have, or what the run came to
+-- why a plan gives no rows over a database: another catalog, the first refusal of the setup, a function that has no such signature, or what the run came to
 pub data RunFails (p : TypedPlanView) (db : Database) (setup : SetupView) (e : RunFault) : Type 0 where
   for_catalog : e ≡ fault.OtherCatalog → db.catalog ≢ p.names.catalog → RunFails p db setup e
   for_setup : db.catalog ≡ p.names.catalog → Fails e (sizes_set setup p.names.sizes (plan_in p.root)) → RunFails p db setup e

@@ -48,7 +48,7 @@ pub trait Runs {
         counts: &mut RunCounts,
     ) -> Result<RunOutcome, RunFault>
         requires shared { IsSync T.row }
-        ensures promise { RunPromise byte_route (MayReport setting.now.mode) (typed_plan plan.now) database.now setting.now.setup result }
+        ensures promise { RunPromise byte_route (MayReport setting.now.mode) (resolved_of (typed_plan plan.now)) database.now setting.now.setup result }
         ensures whole { setting.now.mode ≡ mode.Threads → IfOk result IsWhole }
         ensures unfinished { IfOk result (IfUnfinished ((setting.now.mode ≡ mode.Rounds)
             × ((s : Sizes) × IsSetUp (resolved_of (typed_plan plan.now)) database.now setting.now.setup s × NeedsMoreRounds (resolved_of (typed_plan plan.now)) database.now s))) }

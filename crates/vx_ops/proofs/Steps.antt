@@ -4,9 +4,8 @@ use Rattle.vx_rows_values.specs.Values.{Row}
 use Rattle.vx_rows.specs.Lists.{IsBeginning}
 use Rattle.vx_plan_nodes.specs.Plan.{Unary, select, project, distinct, sort, group, limit}
 use Rattle.vx_plan_nodes.specs.Serial.{unary_rows}
-use Rattle.vx_ports.specs.Packets.{rows_of}
 use Rattle.vx_ops.specs.Ledger.{Ledger, one_op, HoldsBack, Begun, OwnBlame}
-use Rattle.vx_ops.specs.Begun.{all_of, begun_whole}
+use Rattle.vx_ops.specs.Begun.{begun_whole}
 use Rattle.vx_ops.specs.declared.fault.Code.TheVariants.{Overflow, NoMemory}
 use Rattle.vx_ops.specs.declared.fault.Fault.{Fault}
 use Rattle.vx_ops.specs.declared.fault.Fault.TheVariants.{Own}

@@ -77,7 +77,9 @@ pub record Came (P : PacketView → Type 0) (ps : List PacketView) : Type 0 wher
   pub joined : front ++ packet ∷ back ≡ ps
   pub is : P packet
 
--- why a source returns a fault that no input returned
+-- why a source returns a fault that no input returned. NoMemory: any source. Overflow: a select, a project or a group whose input has ended and of whose rows
+-- it makes no list, or a group whose input is too long. Unsorted: a merge join or a merging consumer end, where rows fall that came. Stranger, Passed: a
+-- consumer end to which a packet came that is not for it, or a Fault
 abbrev pub OwnBlame : Op → Ledger → Fault → Type 0
 OwnBlame op l (Own NoMemory node) = Unit {0}
 OwnBlame (one_op n (select fs)) l (Own Overflow node) = (node ≡ n) × (l.left.over ≡ Ended) × (unary_rows (select fs) l.left.rows ≡ None)
@@ -132,7 +134,8 @@ HoldsBack (two_op n (join by_hashing on)) l = (l.right.over ≡ Ended) ⊎ (l.ga
 HoldsBack (two_op n (semi_join matched on conditions)) l = (l.right.over ≡ Ended) ⊎ (l.gave.rows ≡ [])
 HoldsBack op l = Unit {0}
 
--- what is known of a source after any turns
+-- what is known of a source after any turns: `Begun`, `TestsPackets` and `HoldsBack` hold of it. If it ended, its inputs have, and it returned all that it
+-- makes of what it took. It passes on an input's fault, and a fault that it returns is an input's, or has a reason by `OwnBlame`
 pub record Abides (op : Op) (l : Ledger) : Type 0 where
   pub before : Begun op l
   pub ended : l.gave.over ≡ Ended → InputsEnded op l × Makes op l l.gave.rows

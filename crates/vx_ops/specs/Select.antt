@@ -4,20 +4,21 @@ use Rattle.vx_ops.specs.Turn.{Shape}
 use Rattle.vx_ops.specs.Meaning.{Meaning}
 use Rattle.vx_ops.specs.Selection.{selection, selection_types, HasSelected}
 use Rattle.vx_ops.specs.Stepping.{stepping_op, stepping_types, SteppingStands, stepping_meaning}
+use Rattle.vx_plan_nodes.specs.declared.functions.PlanFunctions.{Ghosts}
 use Rattle.vx_ops.specs.declared.select.Selection.{Selection}
 use Rattle.vx_ops.specs.declared.stepping.Stepping.{Stepping}
 
-abbrev pub Select : Type 0
-Select = Stepping Selection
+abbrev pub Select : (F : Type 0) → Ghosts F → Type 0
+Select F given = Stepping (Selection F given)
 
-abbrev pub select_op : Select → Op
-select_op s = stepping_op selection s
+abbrev pub select_op : {F : Type 0} (given : Ghosts F) → Select F given → Op
+select_op given s = stepping_op (selection given) s
 
-abbrev pub select_types : Select → Shape
-select_types s = stepping_types selection_types s
+abbrev pub select_types : {F : Type 0} (given : Ghosts F) → Select F given → Shape
+select_types given s = stepping_types (selection_types given) s
 
-abbrev pub SelectStands : Select → Ledger → Type 0
-SelectStands s l = SteppingStands selection HasSelected s l
+abbrev pub SelectStands : {F : Type 0} (given : Ghosts F) → Select F given → Ledger → Type 0
+SelectStands given s l = SteppingStands (selection given) (HasSelected given) s l
 
-abbrev pub select_meaning : Select → Meaning
-select_meaning s = stepping_meaning selection selection_types HasSelected s
+abbrev pub select_meaning : {F : Type 0} (given : Ghosts F) → Select F given → Meaning
+select_meaning given s = stepping_meaning (selection given) (selection_types given) (HasSelected given) s

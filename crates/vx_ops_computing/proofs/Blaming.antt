@@ -1,5 +1,5 @@
 -- What an overflow says follows from what another one says.
-use Rattle.std.proofs.Common.{◌≡◌, Option, Some, None, Result, Ok, Err}
+use Rattle.std.proofs.Common.{Option, Some, None, Result, Ok, Err}
 use Rattle.std.specs.Prelude.{IfErr, IfSome}
 use Rattle.vx_ops_computing.specs.declared.fault.ComputeFault.{ComputeFault}
 use Rattle.vx_ops_computing.specs.declared.fault.ComputeFault.TheVariants.{Overflow, NoMemory}

@@ -1,13 +1,13 @@
 -- Rows that pass comparisons and computed conditions.
-use Rattle.std.proofs.Common.{◌≡◌, ℕ, zero, suc, ◌+◌, ◌-◌, ◌<◌, replicate, take_all, Bool, true, false, ◌&&◌, List, [], ◌∷◌, ◌++◌, length, map, take, filter, get_or, Some, refl, sym, ap, ap₂, ◌∙◌, arith}
+use Rattle.std.proofs.Common.{◌≡◌, ℕ, zero, suc, ◌-◌, ◌<◌, replicate, take_all, Bool, true, false, ◌&&◌, List, [], ◌∷◌, ◌++◌, length, map, take, filter, get_or, Some, refl, sym, ap, ap₂, ◌∙◌, arith}
 use Rattle.std.specs.List.{list_all}
 use Rattle.std.proofs.lemmas.Simd.{splat_is_map}
 use Rattle.std.proofs.lemmas.List.Folds.{list_all-append}
 use Rattle.vx_rows_values.proofs.Booleans.{and-both}
-use Rattle.vx_rows_values.specs.Values.{Val, Row}
+use Rattle.vx_rows_values.specs.Values.{Row}
 use Rattle.vx_plan_nodes.specs.Expressions.{answer, is_answered, says_yes}
-use Rattle.vx_plan_nodes.specs.Plan.{Expression, Condition, Filter, comparing, computing, select}
-use Rattle.vx_plan_nodes.specs.Serial.{compares, filter_holds, filters_hold, filter_fits, filters_fit, unary_rows}
+use Rattle.vx_plan_nodes.specs.Plan.{Expression, Condition, Filter, comparing, computing}
+use Rattle.vx_plan_nodes.specs.Serial.{compares, filter_holds, filters_hold, filter_fits, filters_fit}
 use Rattle.vx_rows_views.specs.Selected.{places_of}
 use Rattle.vx_rows_views.proofs.Passing.{places-map}
 use Rattle.vx_ops_kernels.proofs.Conditions.{filter-both, filter-same}

@@ -1,5 +1,5 @@
 -- The values of operands as columns, and columns beside others.
-use Rattle.std.proofs.Common.{◌≡◌, ℕ, ℤ, zero, suc, ◌<◌, List, [], ◌∷◌, ◌++◌, length, map, zip, get_or, pos, refl, sym, ap, ap₂, ◌∙◌, arith}
+use Rattle.std.proofs.Common.{◌≡◌, ℕ, ℤ, zero, suc, ◌<◌, List, [], ◌∷◌, ◌++◌, length, map, zip, get_or, pos, refl, sym, ap, ◌∙◌, arith}
 use Rattle.std.proofs.lemmas.List.{length-map, get_or-map}
 use Rattle.vx_rows_values.specs.declared.value.ColType.{ColType}
 use Rattle.vx_rows_values.specs.declared.value.ColType.TheVariants.{Text}
@@ -8,7 +8,7 @@ use Rattle.vx_rows_values.specs.Values.{Val, num, Row, value_at, pick}
 use Rattle.vx_rows.specs.View.{RowsView, row}
 use Rattle.vx_rows.proofs.Below.{all_at}
 use Rattle.vx_rows_views.proofs.Fitting.{fit-width}
-use Rattle.vx_plan_nodes.specs.Expressions.{answer, is_answered, answered}
+use Rattle.vx_plan_nodes.specs.Expressions.{is_answered, answered}
 use Rattle.vx_plan_nodes.specs.Plan.{Expression}
 use Rattle.vx_ops_computing.specs.declared.operands.Operand.{Operand}
 use Rattle.vx_ops_computing.specs.Answers.{IsAnswered, IsWidened}

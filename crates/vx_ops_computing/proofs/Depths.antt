@@ -1,5 +1,5 @@
 -- How deep expressions are: operands are less deep than their call.
-use Rattle.std.proofs.Common.{◌≡◌, ℕ, zero, suc, ◌+◌, ◌<◌, ◌≤◌, arith, List, [], ◌∷◌, length, get_or, sym, ap, String, Global, Vec}
+use Rattle.std.proofs.Common.{◌≡◌, ℕ, zero, suc, ◌+◌, ◌<◌, ◌≤◌, arith, List, [], ◌∷◌, length, get_or, ap, String, Global, Vec}
 use Rattle.vx_rows_values.specs.declared.value.ColType.{ColType}
 use Rattle.vx_plan_nodes.specs.declared.typed.Expression.{Expression, Call}
 use Rattle.vx_plan_nodes.specs.Plan as plan

@@ -13,4 +13,5 @@ pub mod Entries
 pub mod Choosing
 pub mod ChunkFacts
 pub mod CallResults
+pub mod Under
 mod Depths

@@ -1,11 +1,10 @@
 -- Operands have a value for each row, and of their type.
-use Rattle.std.proofs.Common.{◌≡◌, ℕ, ◌<◌, List, [], ◌∷◌, length, map, refl, sym, ap, ap₂, ◌∙◌, arith}
+use Rattle.std.proofs.Common.{◌≡◌, ℕ, ◌<◌, List, [], ◌∷◌, map, refl, ap, ap₂, ◌∙◌, arith}
 use Rattle.std.specs.Prelude.{All}
 use Rattle.std.proofs.lemmas.List.Elements.{All-head, All-tail}
 use Rattle.vx_rows_values.specs.declared.value.ColType.{ColType}
-use Rattle.vx_rows_values.specs.declared.value.ColType.TheVariants.{Text}
 use Rattle.vx_rows_values.specs.Types.{type_of, type_at, Fits}
-use Rattle.vx_rows_values.specs.Values.{Val, value_at}
+use Rattle.vx_rows_values.specs.Values.{value_at}
 use Rattle.vx_rows.specs.View.{RowsView, row}
 use Rattle.vx_rows.proofs.Below.{all_at}
 use Rattle.vx_rows_views.proofs.Fitting.{value-type}

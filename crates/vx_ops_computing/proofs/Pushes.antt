@@ -1,10 +1,8 @@
 -- Lists that grow by one element, which has what the others have.
-use Rattle.std.proofs.Common.{◌≡◌, ℕ, ℤ, pos, ◌+◌, ◌<◌, List, [], ◌∷◌, ◌++◌, length, get_or, Some, refl, sym, ap, subst, arith, inl, inr}
+use Rattle.std.proofs.Common.{◌≡◌, ℕ, ℤ, pos, ◌+◌, ◌<◌, List, [], ◌∷◌, ◌++◌, length, get_or, Option, Some, refl, sym, subst, arith, inl, inr}
 use Rattle.std.proofs.lemmas.Bool.{cases_lt}
 use Rattle.std.proofs.lemmas.List.{get_or_append_left, get_or_push, length_push}
-use Rattle.vx_rows_values.specs.Values.{num}
-use Rattle.vx_functions.specs.declared.standard.StandardFunction.{StandardFunction}
-use Rattle.vx_functions.specs.Standard.{meaning}
+use Rattle.vx_rows_values.specs.Values.{Val, num}
 use Rattle.vx_ops_computing.specs.declared.operands.Operand.{Operand}
 use Rattle.vx_ops_computing.specs.Applied.{AreNumbersOf}
 use Rattle.vx_ops_computing.specs.Operands.{values_at}
@@ -17,14 +15,14 @@ each-push P xs x d n long h here j l = elim (cases_lt j n) [
       subst (λ i. P i (get_or (xs ++ x ∷ []) i d)) (sym e) (subst (P n) (sym (get_or_push xs x d n long)) here)
 ]
 
-pub numbers-push : (f : StandardFunction) (os : List Operand) (k : ℕ) (xs ys : List ℤ) (y z : ℤ) → AreNumbersOf f os k xs → meaning f (values_at os k) ≡ Some (num z) → ys ≡ xs ++ y ∷ [] → y ≡ z → AreNumbersOf f os (k + 1) ys
-numbers-push f os k xs ys y z h here pushed same =
-    let P : ℕ → ℤ → Type 0 = λ j x. meaning f (values_at os j) ≡ Some (num x) in
-    let Q : List ℤ → Type 0 = λ zs. AreNumbersOf f os (k + 1) zs in
+pub numbers-push : (says : List Val → Option Val) (os : List Operand) (k : ℕ) (xs ys : List ℤ) (y z : ℤ) → AreNumbersOf says os k xs → says (values_at os k) ≡ Some (num z) → ys ≡ xs ++ y ∷ [] → y ≡ z → AreNumbersOf says os (k + 1) ys
+numbers-push says os k xs ys y z h here pushed same =
+    let P : ℕ → ℤ → Type 0 = λ j x. says (values_at os j) ≡ Some (num x) in
+    let Q : List ℤ → Type 0 = λ zs. AreNumbersOf says os (k + 1) zs in
     let R : ℤ → Type 0 = λ x. P k x in
     let long = h.long in
     let more = length_push xs y in
     subst Q (sym pushed) (record { long = omega (arith, long, more); values = each-push P xs y (pos 0) k long h.values (subst R (sym same) here) })
 
-pub numbers-none : (f : StandardFunction) (os : List Operand) → AreNumbersOf f os 0 []
-numbers-none f os = record { long = refl; values = λ k l. absurd (omega arith) }
+pub numbers-none : (says : List Val → Option Val) (os : List Operand) → AreNumbersOf says os 0 []
+numbers-none says os = record { long = refl; values = λ k l. absurd (omega arith) }

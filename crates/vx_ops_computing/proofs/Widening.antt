@@ -1,7 +1,7 @@
 -- A projection of the rows of a chunk: columns that are computed stand behind those of the chunk, and then some columns of all of these are taken.
-use Rattle.std.proofs.Common.{◌≡◌, ℕ, zero, suc, ◌+◌, ◌<◌, ◌≤◌, Bool, true, false, ◌&&◌, nat_lt, List, [], ◌∷◌, ◌++◌, length, map, get_or, Some, pos, refl, sym, ap, ap₂, ◌∙◌, subst, arith, Result, Ok, Err}
+use Rattle.std.proofs.Common.{◌≡◌, ℕ, zero, suc, ◌+◌, ◌<◌, true, List, [], ◌∷◌, ◌++◌, length, map, get_or, Some, pos, refl, sym, ap, ap₂, ◌∙◌, subst, arith, Result, Ok, Err}
 use Rattle.std.specs.Prelude.{All, IfOk}
-use Rattle.std.specs.List.{list_all, AllByRecursion}
+use Rattle.std.specs.List.{AllByRecursion}
 use Rattle.std.proofs.lemmas.List.{map-append, length-append, get_or_append_left, get_or_push}
 use Rattle.std.proofs.lemmas.List.Elements.{All-push, All-head, All-tail}
 use Rattle.std.proofs.lemmas.List.Folds.{list_all-append}
@@ -10,10 +10,10 @@ use Rattle.vx_rows_values.specs.declared.value.ColType.{ColType}
 use Rattle.vx_rows_values.specs.declared.value.ColType.TheVariants.{Int}
 use Rattle.vx_rows_values.specs.Types.{type_at, Fits}
 use Rattle.vx_rows_values.specs.Values.{Val, num, Row, value_at, pick}
-use Rattle.vx_rows.specs.View.{RowsView, AreColumns}
+use Rattle.vx_rows.specs.View.{RowsView}
 use Rattle.vx_rows.proofs.Below.{all_at}
 use Rattle.vx_rows_views.proofs.Fitting.{fit-width}
-use Rattle.vx_plan_nodes.specs.Expressions.{answer, is_answered, answered}
+use Rattle.vx_plan_nodes.specs.Expressions.{answer, answered}
 use Rattle.vx_plan_nodes.specs.Plan.{Entry, copy_of, made_by, Expression, project}
 use Rattle.vx_plan_nodes.specs.Serial.{entry_value, entries_row, entry_fits, entries_fit, unary_rows}
 use Rattle.vx_plan_nodes.specs.Types.{entry_type, expression_type}

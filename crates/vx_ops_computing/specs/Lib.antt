@@ -1,4 +1,5 @@
 pub mod Fault
+pub mod Given
 pub mod Operands
 pub mod Numbers
 pub mod Columns

@@ -6,13 +6,16 @@ ghost use Rattle.vx_rows_values.specs.Values.{Row};
 ghost use Rattle.vx_rows_values.specs.ValueView.{cell_val};
 ghost use Rattle.vx_plan_nodes.specs.Expressions.{says_yes};
 ghost use Rattle.vx_plan_nodes.specs.Known.{filter_known, unary_known};
+ghost use Rattle.vx_plan_nodes.specs.Functions.{Functions};
 ghost use Rattle.vx_plan_nodes.specs.Outline.{filter_of};
 ghost use Rattle.vx_plan_nodes.specs.Plan.{Filter as PlanFilter, select};
 ghost use Rattle.vx_plan_nodes.specs.Serial.{filter_fits, filters_fit, unary_rows};
+ghost use Rattle.vx_plan_nodes.specs.Under.{unary_under};
 ghost use Rattle.vx_rows_views.specs.Chunks.{all_rows};
 ghost use Rattle.vx_rows_views.specs.Selected.{places_of};
 ghost use Rattle.vx_ops_computing.specs.Computed.{comparisons_hold, computed_hold, IsMask, IsNarrowed};
 ghost use Rattle.vx_ops_computing.specs.Fault.{Blames, ComputeBlame};
+ghost use Rattle.vx_ops_computing.specs.Given.{filter_by};
 ghost use Rattle.vx_ops_computing.specs.Operands.{operand_at, IsFor};
 ghost use Rattle.vx_ops_computing.specs.Projecting.{FilterFails};
 
@@ -21,7 +24,7 @@ use crate::fault::ComputeFault;
 use crate::operands::Operand;
 use std::alloc::{AllocError, Global};
 use vx_ops_kernels::kept;
-use vx_plan_nodes::Filter;
+use vx_plan_nodes::{Filter, PlanFunctions};
 use vx_rows_values::Cell;
 use vx_rows_views::{Chunk, Rows, places_are_a_filter, push_place_if};
 
@@ -49,8 +52,8 @@ fn leave(mask: &mut [bool], operand: &Operand<'_>)
 
 // Whether some condition is computed.
 fn has_computed(filters: &[Filter]) -> bool
-    ensures hold { result ≡ false → (row : Row) → computed_hold (map filter_of filters.now) row ≡ true }
-    ensures fit { result ≡ false → (row : Row) → filters_fit (map filter_of filters.now) row ≡ true }
+    ensures hold { result ≡ false → (given : Functions) (row : Row) → computed_hold (map (filter_by given) filters.now) row ≡ true }
+    ensures fit { result ≡ false → (given : Functions) (row : Row) → filters_fit (map (filter_by given) filters.now) row ≡ true }
 {
     for filter in filters {
         if let Filter::Computed(_) = filter {
@@ -61,23 +64,24 @@ fn has_computed(filters: &[Filter]) -> bool
 }
 
 // Leaves those rows of a chunk in a mask of which a condition holds, if it is computed.
-fn narrow(
+fn narrow<F: PlanFunctions>(
     alloc: Global,
+    functions: &F,
     mask: &mut [bool],
     filter: &Filter,
     chunk: &Chunk,
 ) -> Result<(), ComputeFault>
-    requires known { filter_known chunk.now.types (filter_of filter.now) ≡ true }
+    requires known { filter_known chunk.now.types (filter_by (F.functions functions.now) filter.now) ≡ true }
     requires long { length mask.old ≡ length chunk.now.rows }
     ensures long { length mask.new ≡ length mask.old }
-    ensures mask { OnOk result ((fs : List PlanFilter) → IsMask (computed_hold fs) chunk.now.rows mask.old → IsMask (computed_hold (fs ++ filter_of filter.now ∷ [])) chunk.now.rows mask.new) }
-    ensures fits { OnOk result ((k : ℕ) → k < length chunk.now.rows → filter_fits (filter_of filter.now) (slice_index_or chunk.now.rows k []) ≡ true) }
-    ensures fault { IfErr result (Blames (FilterFails (filter_of filter.now) chunk.now.rows)) }
+    ensures mask { OnOk result ((fs : List PlanFilter) → IsMask (computed_hold fs) chunk.now.rows mask.old → IsMask (computed_hold (fs ++ filter_by (F.functions functions.now) filter.now ∷ [])) chunk.now.rows mask.new) }
+    ensures fits { OnOk result ((k : ℕ) → k < length chunk.now.rows → filter_fits (filter_by (F.functions functions.now) filter.now) (slice_index_or chunk.now.rows k []) ≡ true) }
+    ensures fault { IfErr result (Blames (FilterFails (filter_by (F.functions functions.now) filter.now) chunk.now.rows)) }
 {
     match filter {
         Filter::Compared(_) => Ok(()),
         Filter::Computed(expression) => {
-            let operand = evaluated(alloc, chunk, expression)?;
+            let operand = evaluated(alloc, functions, chunk, expression)?;
             leave(mask, &operand);
             Ok(())
         }
@@ -85,20 +89,21 @@ fn narrow(
 }
 
 // For each row of a chunk whether the computed conditions hold of it.
-fn computed_mask(
+fn computed_mask<F: PlanFunctions>(
     alloc: Global,
+    functions: &F,
     filters: &[Filter],
     chunk: &Chunk,
 ) -> Result<Vec<bool>, ComputeFault>
-    requires { unary_known chunk.now.types (select (map filter_of filters.now)) ≡ true }
-    ensures mask { IfOk result (λ v. IsMask (computed_hold (map filter_of filters.now)) chunk.now.rows v.items) }
-    ensures fits { IfOk result (λ v. list_all (filters_fit (map filter_of filters.now)) chunk.now.rows ≡ true) }
-    ensures fault { IfErr result (Blames (list_all (filters_fit (map filter_of filters.now)) chunk.now.rows ≡ false)) }
+    requires { unary_known chunk.now.types (select (map (filter_by (F.functions functions.now)) filters.now)) ≡ true }
+    ensures mask { IfOk result (λ v. IsMask (computed_hold (map (filter_by (F.functions functions.now)) filters.now)) chunk.now.rows v.items) }
+    ensures fits { IfOk result (λ v. list_all (filters_fit (map (filter_by (F.functions functions.now)) filters.now)) chunk.now.rows ≡ true) }
+    ensures fault { IfErr result (Blames (list_all (filters_fit (map (filter_by (F.functions functions.now)) filters.now)) chunk.now.rows ≡ false)) }
 {
     let mut mask = Vec::new(alloc);
     mask.resize(chunk.len(), true)?;
     for filter in filters {
-        narrow(alloc, mask.as_mut_slice(), filter, chunk)?;
+        narrow(alloc, functions, mask.as_mut_slice(), filter, chunk)?;
     }
     Ok(mask)
 }
@@ -115,17 +120,22 @@ fn places_in(alloc: Global, mask: &[bool]) -> Result<Vec<usize>, AllocError>
 }
 
 // The rows of a chunk of which the computed conditions hold.
-fn chosen_computed(alloc: Global, filters: &[Filter], chunk: &Chunk) -> Result<Chunk, ComputeFault>
-    requires { unary_known chunk.now.types (select (map filter_of filters.now)) ≡ true }
+fn chosen_computed<F: PlanFunctions>(
+    alloc: Global,
+    functions: &F,
+    filters: &[Filter],
+    chunk: &Chunk,
+) -> Result<Chunk, ComputeFault>
+    requires { unary_known chunk.now.types (select (map (filter_by (F.functions functions.now)) filters.now)) ≡ true }
     ensures types { IfOk result (λ c. c.types ≡ chunk.now.types) }
-    ensures rows { IfOk result (λ c. c.rows ≡ filter (computed_hold (map filter_of filters.now)) chunk.now.rows) }
-    ensures fits { IfOk result (λ v. list_all (filters_fit (map filter_of filters.now)) chunk.now.rows ≡ true) }
-    ensures fault { IfErr result (Blames (list_all (filters_fit (map filter_of filters.now)) chunk.now.rows ≡ false)) }
+    ensures rows { IfOk result (λ c. c.rows ≡ filter (computed_hold (map (filter_by (F.functions functions.now)) filters.now)) chunk.now.rows) }
+    ensures fits { IfOk result (λ v. list_all (filters_fit (map (filter_by (F.functions functions.now)) filters.now)) chunk.now.rows ≡ true) }
+    ensures fault { IfErr result (Blames (list_all (filters_fit (map (filter_by (F.functions functions.now)) filters.now)) chunk.now.rows ≡ false)) }
 {
     if !has_computed(filters) {
         return Ok(chunk.share(alloc)?);
     }
-    let mask = computed_mask(alloc, filters, chunk)?;
+    let mask = computed_mask(alloc, functions, filters, chunk)?;
     let places = places_in(alloc, mask.as_slice())?;
     places_are_a_filter();
     Ok(chunk.at(alloc, places.as_slice())?)
@@ -134,7 +144,7 @@ fn chosen_computed(alloc: Global, filters: &[Filter], chunk: &Chunk) -> Result<C
 // The rows of a chunk of which the comparisons hold.
 fn chosen_compared(alloc: Global, filters: &[Filter], chunk: Chunk) -> Result<Chunk, AllocError>
     ensures types { IfOk result (λ c. c.types ≡ chunk.types) }
-    ensures rows { IfOk result (λ c. c.rows ≡ filter (comparisons_hold (map filter_of filters.now)) chunk.rows) }
+    ensures rows { IfOk result (λ c. (given : Functions) → c.rows ≡ filter (comparisons_hold (map (filter_by given) filters.now)) chunk.rows) }
 {
     let mut found = chunk;
     for filter in filters {
@@ -147,45 +157,56 @@ fn chosen_compared(alloc: Global, filters: &[Filter], chunk: Chunk) -> Result<Ch
 }
 
 // What a selection makes of the rows of a chunk.
-fn filtered_chunk(alloc: Global, filters: &[Filter], chunk: &Chunk) -> Result<Chunk, ComputeFault>
-    requires { unary_known chunk.now.types (select (map filter_of filters.now)) ≡ true }
+fn filtered_chunk<F: PlanFunctions>(
+    alloc: Global,
+    functions: &F,
+    filters: &[Filter],
+    chunk: &Chunk,
+) -> Result<Chunk, ComputeFault>
+    requires { unary_known chunk.now.types (select (map (filter_by (F.functions functions.now)) filters.now)) ≡ true }
     ensures types { IfOk result (λ c. c.types ≡ chunk.now.types) }
-    ensures rows { IfOk result (λ c. unary_rows (select (map filter_of filters.now)) chunk.now.rows ≡ Some c.rows) }
-    ensures fault { IfErr result (ComputeBlame (unary_rows (select (map filter_of filters.now)) chunk.now.rows)) }
+    ensures rows { IfOk result (λ c. unary_rows (select (map (filter_by (F.functions functions.now)) filters.now)) chunk.now.rows ≡ Some c.rows) }
+    ensures fault { IfErr result (ComputeBlame (unary_rows (select (map (filter_by (F.functions functions.now)) filters.now)) chunk.now.rows)) }
 {
-    let found = chosen_computed(alloc, filters, chunk)?;
+    let found = chosen_computed(alloc, functions, filters, chunk)?;
     Ok(chosen_compared(alloc, filters, found)?)
 }
 
 // Adds what a selection makes of the rows of chunks.
-fn add_filtered(
+fn add_filtered<F: PlanFunctions>(
     alloc: Global,
+    functions: &F,
     found: &mut Rows,
     filters: &[Filter],
     chunks: &[Chunk],
 ) -> Result<(), ComputeFault>
     requires chunks { All (λ c. c.types ≡ found.old.types) chunks.now }
-    requires known { unary_known found.old.types (select (map filter_of filters.now)) ≡ true }
+    requires known { unary_known found.old.types (select (map (filter_by (F.functions functions.now)) filters.now)) ≡ true }
     requires none { found.old.rows ≡ [] }
     ensures types { found.new.types ≡ found.old.types }
-    ensures ok { OnOk result (unary_rows (select (map filter_of filters.now)) (all_rows chunks.now) ≡ Some found.new.rows) }
-    ensures fault { IfErr result (ComputeBlame (unary_rows (select (map filter_of filters.now)) (all_rows chunks.now))) }
+    ensures ok { OnOk result (unary_rows (select (map (filter_by (F.functions functions.now)) filters.now)) (all_rows chunks.now) ≡ Some found.new.rows) }
+    ensures fault { IfErr result (ComputeBlame (unary_rows (select (map (filter_by (F.functions functions.now)) filters.now)) (all_rows chunks.now))) }
 {
     for i in 0..chunks.len() {
-        found.push(filtered_chunk(alloc, filters, &chunks[i])?)?;
+        found.push(filtered_chunk(alloc, functions, filters, &chunks[i])?)?;
     }
     Ok(())
 }
 
 /// What a selection makes of rows. No cell is copied, and a chunk of which the conditions hold throughout is handed on without positions,
 /// where none is computed.
-pub fn filtered(alloc: Global, rows: &Rows, filters: &[Filter]) -> Result<Rows, ComputeFault>
-    requires { unary_known rows.now.types (select (map filter_of filters.now)) ≡ true }
+pub fn filtered<F: PlanFunctions>(
+    alloc: Global,
+    functions: &F,
+    rows: &Rows,
+    filters: &[Filter],
+) -> Result<Rows, ComputeFault>
+    requires { unary_known rows.now.types (unary_under (F.functions functions.now) (select (map filter_of filters.now))) ≡ true }
     ensures types { IfOk result (λ r. r.types ≡ rows.now.types) }
-    ensures rows { IfOk result (λ r. unary_rows (select (map filter_of filters.now)) rows.now.rows ≡ Some r.rows) }
-    ensures fault { IfErr result (ComputeBlame (unary_rows (select (map filter_of filters.now)) rows.now.rows)) }
+    ensures rows { IfOk result (λ r. unary_rows (unary_under (F.functions functions.now) (select (map filter_of filters.now))) rows.now.rows ≡ Some r.rows) }
+    ensures fault { IfErr result (ComputeBlame (unary_rows (unary_under (F.functions functions.now) (select (map filter_of filters.now))) rows.now.rows)) }
 {
     let mut found = Rows::new(alloc, rows.types())?;
-    add_filtered(alloc, &mut found, filters, rows.chunks())?;
+    add_filtered(alloc, functions, &mut found, filters, rows.chunks())?;
     Ok(found)
 }

@@ -1,6 +1,7 @@
 //! Columns and conditions that are computed by functions, a chunk at a time: each function goes over whole columns.
 #![tactic(auto)]
 
+mod answers;
 mod applying;
 mod columns;
 mod expressions;

@@ -27,3 +27,4 @@ pub mod TypedKnown
 pub mod AnswerFacts
 pub mod KeptFacts
 pub mod KnownFacts
+pub mod UnderFacts

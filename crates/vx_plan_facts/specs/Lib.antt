@@ -17,3 +17,4 @@ pub mod AskingView
 pub mod Known
 pub mod AnswersView
 pub mod KnownView
+pub mod UnderLaws

@@ -1,6 +1,7 @@
 //! What equal and fixed columns say holds of each row, whatever the operators.
 
 ghost use Rattle.vx_plan_facts.specs.RowFacts.{TypedInputsFit, ScanMeets, UnaryMeets, BinaryMeets, ExchangeMeets, SerialMeets};
+ghost use Rattle.vx_plan_facts.specs.UnderLaws.{FactsStay};
 
 /// In a typed plan the inputs of unions are equally wide, and joins compare columns that their left inputs have.
 pub fn typed_inputs_fit()
@@ -30,4 +31,9 @@ pub fn exchange_meets()
 /// Each serial row of a plan meets the facts of its top node.
 pub fn serial_meets()
     ensures { SerialMeets }
+{}
+
+/// Whatever functions a plan has, the same is known of its columns.
+pub fn facts_stay()
+    ensures { FactsStay }
 {}

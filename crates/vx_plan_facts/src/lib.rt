@@ -32,6 +32,7 @@ pub use facts::{ColumnFacts, FixedColumn};
 pub use follow_laws::{keys_follow, orders_follow, totals_follow};
 pub use known::{KnownColumns, known_columns};
 pub use laws::{
-    binary_meets, exchange_meets, scan_meets, serial_meets, typed_inputs_fit, unary_meets,
+    binary_meets, exchange_meets, facts_stay, scan_meets, serial_meets, typed_inputs_fit,
+    unary_meets,
 };
 pub use numbered::column_facts;

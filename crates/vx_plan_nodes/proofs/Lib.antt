@@ -4,3 +4,6 @@ pub mod PhaseEqual
 pub mod ErasedFacts
 pub mod OutputFacts
 pub mod ExpressionFacts
+pub mod UnderFacts
+pub mod UnderErased
+pub mod CallUnder

@@ -23,3 +23,7 @@ pub mod Erased
 pub mod Real
 pub mod ByteRouter
 pub mod Workers
+pub mod Functions
+pub mod OwnFunctions
+pub mod Under
+pub mod UnderLaws

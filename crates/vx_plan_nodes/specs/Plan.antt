@@ -16,14 +16,14 @@ pub data Route : Type 0 where
   by_hash : List ℕ → Route
   by_range : ℕ → Route
 
--- how the rows of a node lie on its workers, as its note claims: all on one; some on each; all on each; or each row where its key is sent
+-- how the rows of a node lie on its workers, as its claim says: all on one; some on each; all on each; or each row where its key is sent
 pub data Part : Type 0 where
   one : Part
   any : Part
   all : Part
   routed : Route → List ℕ → Part
 
--- an optimizer's note on a node: how its rows lie, in which order they are, and which lists of columns are keys; columns of the output by position
+-- what an optimizer claims of a node: how its rows lie, in which order they are, and which lists of columns are keys; columns of the output by position
 pub record Claim : Type 0 where
   pub part : Part
   pub order : List OrderEntry
@@ -92,7 +92,8 @@ pub data Unary : Type 0 where
   group : Phase → List ℕ → List Aggregate → Unary
   limit : ℕ → Unary
 
--- how a join finds its pairs of rows: by hashing, or by merging inputs that are both in order on its columns, of each pair whether they fall
+-- how a join finds its pairs of rows: by hashing, or by merging inputs that are both in order on its columns; then it says of each pair whether its columns
+-- fall
 pub data JoinMethod : Type 0 where
   by_hashing : JoinMethod
   by_merging : (falls : List Bool) → JoinMethod
@@ -133,7 +134,7 @@ number (unary n c op p) = n
 number (binary n c op p q) = n
 number (exchange n c k m p) = n
 
--- its note
+-- the claim of the node at the top
 abbrev pub claim : Plan → Claim
 claim (scan n c r m z) = c
 claim (unary n c op p) = c

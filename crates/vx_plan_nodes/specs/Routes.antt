@@ -22,7 +22,7 @@ Sends goes concat n xs sent = (j : ℕ) → j < n → xs ≡ sent j
 abbrev pub range_consumer : List Val → Val → ℕ → ℕ
 range_consumer bounds v n = min (count (λ b. is_le (val_cmp b v)) bounds) (n - 1)
 
--- by a hash router, of which only the name and the key count, and by the declared ranges
+-- the router of a run: a hash function, of which only the name, the key and n count, and the declared ranges
 abbrev pub sends_by : (List ℕ → Row → ℕ → ℕ) → (ℕ → List Val) → Routing
 sends_by hash bounds (by_hash name) key n = hash name key n
 sends_by hash bounds (by_range k) key n = range_consumer (bounds k) (value_at key 0) n

@@ -129,7 +129,7 @@ abbrev pub greatest_of : ℕ → Row → List Row → Val
 greatest_of c x [] = value_at x c
 greatest_of c x (y ∷ ys) = larger (value_at x c) (greatest_of c y ys)
 
--- of no rows the number 0, which no group shows since each of its keys has a row
+-- the least or the greatest value of any rows; of no rows the number 0, which no group shows since each of its keys has a row
 abbrev pub first_or_none : (Row → List Row → Val) → List Row → Val
 first_or_none f [] = num (pos 0)
 first_or_none f (x ∷ xs) = f x xs
@@ -169,7 +169,8 @@ abbrev pub group_rows : List ℕ → List Aggregate → List Row → Option (Lis
 group_rows by aggregates xs =
     cond (list_all (group_fits by aggregates xs) (group_keys by xs)) (Some (map (group_row by aggregates xs) (group_keys by xs))) None
 
--- the list that an operator makes of its input's list, or none on overflow
+-- the list that an operator makes of its input's list, or none where a function, a sum or a count overflows. Select keeps the rows of which its filters hold,
+-- project makes a row of each, distinct takes the first occurrences of the picked rows, sort is `sort_on`, group `group_rows`, a limit takes the first rows
 abbrev pub unary_rows : Unary → List Row → Option (List Row)
 unary_rows (select fs) xs = where_fit (filters_fit fs) xs (filter (filters_hold fs) xs)
 unary_rows (project es) xs = where_fit (entries_fit es) xs (map (entries_row es) xs)
@@ -178,13 +179,14 @@ unary_rows (sort of_parts cols) xs = Some (sort_on cols xs)
 unary_rows (group phase by aggregates) xs = group_rows by aggregates xs
 unary_rows (limit n) xs = Some (take n xs)
 
--- the list that an operator makes of the lists of its left and its right input
+-- the list that an operator makes of its inputs' lists: union the left one and then the right one, a join of either method `join_rows`, a semi or an anti
+-- join `matched_rows`
 abbrev pub binary_rows : Binary → List Row → List Row → List Row
 binary_rows union ls rs = ls ++ rs
 binary_rows (join m on) ls rs = join_rows on ls rs
 binary_rows (semi_join matched on conditions) ls rs = matched_rows matched on conditions ls rs
 
--- the sum of this column
+-- the aggregate is the sum of this column
 abbrev pub is_sum_of : ℕ → Aggregate → Bool
 is_sum_of c (least d) = false
 is_sum_of c (greatest d) = false

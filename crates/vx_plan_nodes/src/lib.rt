@@ -3,8 +3,10 @@
 
 mod conditions;
 mod describe;
+mod functions;
 mod halves;
 mod known;
+mod laws;
 mod name;
 mod outputs;
 mod parts;
@@ -16,7 +18,12 @@ pub use conditions::{copied_conditions, copied_entries, copied_filters};
 pub use describe::{
     Copying, Described, DescribedBoth, KeptColumns, KeysAfter, Meeting, OrderAfter,
 };
+pub use functions::{PlanFunctions, StandardFunctions};
 pub use known::first_unknown;
+pub use laws::{
+    descriptions_stay, functions_go_along, last_functions_stand, nodes_stay, phases_stay,
+    types_stay,
+};
 pub use name::{Name, find_output_name, name_texts, share_names};
 pub use outputs::output_types;
 pub use parts::{copied_part, kind_part, routed_part};

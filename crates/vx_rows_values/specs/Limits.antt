@@ -1,4 +1,4 @@
--- The limits of tables, plans and runs; in code they are the constants of `src/limits.rt`.
+-- The limits of tables, plans and runs; in code they are the constants of `crates/vx_rows_values/src/limits.rt`.
 use Rattle.std.specs.Prelude.{ℕ, ◌^◌}
 
 -- the most columns of a relation, and of a node's output

@@ -1,3 +1,4 @@
 pub mod Agreement
 pub mod ColumnFacts
+pub mod UnderFacts
 pub mod Answered

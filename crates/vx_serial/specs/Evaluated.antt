@@ -37,7 +37,7 @@ evaluated db (unary n c op p) = after (evaluated db p) (λ xs. or_overflow n (ev
 evaluated db (binary n c op p q) = after (evaluated db p) (λ xs. after (evaluated db q) (λ ys. rows (binary_rows op xs ys)))
 evaluated db (exchange n c k m p) = evaluated db p
 
--- what evaluation needs of a typed plan: relations there are, and operators that fit the types of their inputs, with functions that the program has
+-- what evaluation needs of a typed plan: relations there are, and operators that fit the types of their inputs, with functions that are known
 abbrev pub IsFit : List Relation → Plan → Type 0
 IsFit catalog (scan n c r m z) = r < length catalog
 IsFit catalog (unary n c op p) =

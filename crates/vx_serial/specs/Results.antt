@@ -31,7 +31,7 @@ pub record IsPlain (p : TypedPlanView) (db : Database) : Type 0 where
   pub same : db.catalog ≡ p.names.catalog
   pub none : first_exchange (plan_in p.root) ≡ None
 
--- the number of the first node with a function that the program does not have
+-- the number of the first node with a function that is not known
 abbrev pub unknown_in : TypedPlanView → Option ℕ
 unknown_in p = first_unknown (relation_at p.names.catalog) (plan_in p.root)
 
@@ -47,8 +47,8 @@ pub record EndsAt (db : ℕ → List Row) (p : Plan) (node : ℕ) : Type 0 where
   pub first : evaluated db p ≡ overflow node
   pub real : (serial db p ≡ overflow node) ⊎ HasTooLong db p
 
--- why a plan has no rows over a database: another catalog, its first exchange, the first node with a function that the program does not have, or the first
--- overflow; want of memory may come anywhere
+-- why a plan has no rows over a database: another catalog, its first exchange, the first node with a function that is not known, or the first overflow; want of
+-- memory may come anywhere
 abbrev pub EvalFails : TypedPlanView → Database → EvalFault → Type 0
 EvalFails p db fault.OtherCatalog = db.catalog ≢ p.names.catalog
 EvalFails p db (fault.HasExchange node) = (db.catalog ≡ p.names.catalog) × (first_exchange (plan_in p.root) ≡ Some node)

@@ -12,6 +12,7 @@ ghost use Rattle.vx_plan_nodes.specs.Plan.{select, project, group, plain};
 ghost use Rattle.vx_plan_nodes.specs.Serial.{binary_rows, firsts, join_rows, matched_rows};
 ghost use Rattle.vx_plan_nodes.specs.Typed.{is_unary, is_binary, is_pair};
 ghost use Rattle.vx_plan_nodes.specs.Types.{unary_types, binary_types};
+ghost use Rattle.vx_plan_nodes.specs.Under.{unary_under};
 ghost use Rattle.vx_serial.specs.Evaluated.{evaluated_rows};
 ghost use Rattle.vx_serial.specs.Results.{IsFaultAt};
 
@@ -22,7 +23,9 @@ use vx_match_join::{Matching, hash_join, semi_join};
 use vx_match_keys::Seen;
 use vx_ops_computing::{ComputeFault, filtered, projected};
 use vx_ops_kernels::{kept_columns, left_columns, right_columns, sorted_chunks};
-use vx_plan_nodes::{Aggregate, Binary, Condition, Entry, Filter, Unary, copied_conditions};
+use vx_plan_nodes::{
+    Aggregate, Binary, Condition, Entry, Filter, PlanFunctions, Unary, copied_conditions,
+};
 use vx_rows_values::KeySeed;
 use vx_rows_views::Rows;
 
@@ -80,13 +83,19 @@ fn groups_of(
 }
 
 // The rows of which all conditions hold, at the node with this number.
-fn selected(alloc: Global, number: u32, rows: &Rows, filters: &[Filter]) -> Result<Rows, EvalFault>
-    requires { unary_known rows.now.types (select (map filter_of filters.now)) ≡ true }
+fn selected<F: PlanFunctions>(
+    alloc: Global,
+    functions: &F,
+    number: u32,
+    rows: &Rows,
+    filters: &[Filter],
+) -> Result<Rows, EvalFault>
+    requires { unary_known rows.now.types (unary_under (F.functions functions.now) (select (map filter_of filters.now))) ≡ true }
     ensures types { IfOk result (λ t. t.types ≡ rows.now.types) }
-    ensures rows { IfOk result (λ t. evaluated_rows (select (map filter_of filters.now)) rows.now.rows ≡ Some t.rows) }
-    ensures fault { IfErr result (IsFaultAt number (evaluated_rows (select (map filter_of filters.now)) rows.now.rows)) }
+    ensures rows { IfOk result (λ t. evaluated_rows (unary_under (F.functions functions.now) (select (map filter_of filters.now))) rows.now.rows ≡ Some t.rows) }
+    ensures fault { IfErr result (IsFaultAt number (evaluated_rows (unary_under (F.functions functions.now) (select (map filter_of filters.now))) rows.now.rows)) }
 {
-    match filtered(alloc, rows, filters) {
+    match filtered(alloc, functions, rows, filters) {
         Ok(found) => Ok(found),
         Err(ComputeFault::Overflow) => Err(EvalFault::Overflow { node: number }),
         Err(ComputeFault::NoMemory) => Err(EvalFault::NoMemory),
@@ -94,42 +103,46 @@ fn selected(alloc: Global, number: u32, rows: &Rows, filters: &[Filter]) -> Resu
 }
 
 // These columns of each row, kept and computed, at the node with this number.
-fn with_entries(
+fn with_entries<F: PlanFunctions>(
     alloc: Global,
+    functions: &F,
     number: u32,
     rows: &Rows,
     entries: &[Entry],
 ) -> Result<Rows, EvalFault>
     requires typed { is_unary rows.now.types (project (map entry_of entries.now)) ≡ true }
-    requires known { unary_known rows.now.types (project (map entry_of entries.now)) ≡ true }
+    requires known { unary_known rows.now.types (unary_under (F.functions functions.now) (project (map entry_of entries.now))) ≡ true }
     ensures types { IfOk result (λ t. t.types ≡ unary_types (project (map entry_of entries.now)) rows.now.types) }
-    ensures rows { IfOk result (λ t. evaluated_rows (project (map entry_of entries.now)) rows.now.rows ≡ Some t.rows) }
-    ensures fault { IfErr result (IsFaultAt number (evaluated_rows (project (map entry_of entries.now)) rows.now.rows)) }
+    ensures rows { IfOk result (λ t. evaluated_rows (unary_under (F.functions functions.now) (project (map entry_of entries.now))) rows.now.rows ≡ Some t.rows) }
+    ensures fault { IfErr result (IsFaultAt number (evaluated_rows (unary_under (F.functions functions.now) (project (map entry_of entries.now))) rows.now.rows)) }
 {
-    match projected(alloc, rows, entries) {
+    match projected(alloc, functions, rows, entries) {
         Ok(found) => Ok(found),
         Err(ComputeFault::Overflow) => Err(EvalFault::Overflow { node: number }),
         Err(ComputeFault::NoMemory) => Err(EvalFault::NoMemory),
     }
 }
 
-/// What the operator with this number makes of its input's rows. Keys are hashed by the seed.
-pub fn unary_rows(
+/// What the operator with this number makes of its input's rows by these functions. Keys are hashed by the seed.
+pub fn unary_rows<F: PlanFunctions>(
     alloc: Global,
+    functions: &F,
     seed: KeySeed,
     number: u32,
     unary: &Unary,
     rows: &Rows,
 ) -> Result<Rows, EvalFault>
     requires typed { is_unary rows.now.types (unary_of unary.now) ≡ true }
-    requires known { unary_known rows.now.types (unary_of unary.now) ≡ true }
+    requires known { unary_known rows.now.types (unary_under (F.functions functions.now) (unary_of unary.now)) ≡ true }
     ensures types { IfOk result (λ t. t.types ≡ unary_types (unary_of unary.now) rows.now.types) }
-    ensures rows { IfOk result (λ t. evaluated_rows (unary_of unary.now) rows.now.rows ≡ Some t.rows) }
-    ensures fault { IfErr result (IsFaultAt number (evaluated_rows (unary_of unary.now) rows.now.rows)) }
+    ensures rows { IfOk result (λ t. evaluated_rows (unary_under (F.functions functions.now) (unary_of unary.now)) rows.now.rows ≡ Some t.rows) }
+    ensures fault { IfErr result (IsFaultAt number (evaluated_rows (unary_under (F.functions functions.now) (unary_of unary.now)) rows.now.rows)) }
 {
     match unary {
-        Unary::Select(filters) => selected(alloc, number, rows, filters.as_slice()),
-        Unary::Project(entries) => with_entries(alloc, number, rows, entries.as_slice()),
+        Unary::Select(filters) => selected(alloc, functions, number, rows, filters.as_slice()),
+        Unary::Project(entries) => {
+            with_entries(alloc, functions, number, rows, entries.as_slice())
+        }
         Unary::Distinct(kept) => {
             let columns = kept_columns(alloc, kept.as_slice())?;
             Ok(distinct(alloc, seed, rows, columns.as_slice())?)

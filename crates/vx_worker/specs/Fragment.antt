@@ -10,8 +10,8 @@ use Rattle.vx_ports.specs.Packets.{PacketView}
 use Rattle.vx_ops.specs.Ledger.{Stream, Ledger, Op, scan_op, one_op, two_op, receive, Makes, InputsEnded, Abides}
 use Rattle.vx_plan_nodes.specs.Runs.{is_concat}
 
--- what a run gets beside its plan. relation_of: the relation that the scan with a number reads; sizes: the workers of each size name;
--- hash: the consumer of a key among n, by the route's name; bounds: those of each range; packet and morsel: their sizes in rows
+-- what a run gets beside its plan. relation_of: the relation that the scan with a number reads. sizes: the workers of each size name. hash: the consumer of a
+-- key among n, by the route's name. bounds: those of each range. packet and morsel: their sizes in rows
 pub record RunModel : Type 0 where
   pub catalog : ℕ → Relation
   pub db : ℕ → List Row

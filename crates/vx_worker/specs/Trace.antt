@@ -113,6 +113,7 @@ ReadsAre S t r = ReadsAreOf (scan_morsels S) t r
 abbrev pub ReadsBegin : RunModel → Trace → Reads → Type 0
 ReadsBegin S t r = ReadsBeginOf (scan_morsels S) t r
 
+-- `IsWellBy` and `HonestBy`, by the morsels and the routes of a setting
 abbrev pub IsWell : RunModel → Frag → Task → Trace → Type 0
 IsWell S f task t = IsWellBy (scan_morsels S) (goes S) f task t
 

@@ -1,5 +1,8 @@
+use Rattle.std.proofs.Common.{rules, subst}
 use Rattle.std.proofs.lemmas.Result.{err_from_is_err_and}
 use Rattle.vx_plan_nodes.specs.TypedView.{resolved_of}
+use Rattle.vx_plan_nodes.proofs.UnderErased.{last-functions-stand}
+use Rattle.vx_serial.specs.Results.{EvalFails, IsSerialOf}
 use Rattle.volcano_answer.specs.Commands.{for_texts}
 use Rattle.volcano_answer.proofs.SerialFacts.{refuses}
 use Rattle.volcano_answer.proofs.serial.serial_plan.Goals as goal
@@ -13,6 +16,13 @@ pub returns-in_err-rows-clause-refused : goal.returns-in_err-rows-clause-refused
 returns-in_err-rows-clause-refused g c =
     let built = c.in-Ok.ensures in
     let p = err_from_is_err_and c.from_residual-in_err-rows.result c.from_residual-in_err-rows.ensures.1 in
+    let fails = subst (λ z. EvalFails z c.in_ok-database.database c.in_err-rows.field-0.0) (last-functions-stand.own_plan c.in-Ok.erased) c.in_err-rows.ensures.refused in
     rw (p.1, p.2)
     (refuses (resolved_of c.args.plan.now) (resolved_of c.in-Ok.erased) (g.B.Tables.holds c.args.tables.now) (g.B.Tables.lacks c.args.tables.now) c.in_ok-database.database c.in_err-rows.field-0.0
-    built.names built.total built.derives built.outline (record { same = c.in_ok-database.ensures.catalog; filled = c.in_ok-database.ensures.filled }) c.in_err-rows.ensures.refused)
+    built.names built.total built.derives built.outline (record { same = c.in_ok-database.ensures.catalog; filled = c.in_ok-database.ensures.filled }) fails)
+
+pub returns-clause-text : goal.returns-clause-text
+returns-clause-text g c =
+    let meant : IsSerialOf (resolved_of c.in-Ok.erased) c.in_ok-database.database c.in_ok-rows.rows =
+    subst (λ z. IsSerialOf z c.in_ok-database.database c.in_ok-rows.rows) (last-functions-stand.own_plan c.in-Ok.erased) c.in_ok-rows.ensures.rows in
+    search rules

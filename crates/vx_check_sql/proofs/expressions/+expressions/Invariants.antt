@@ -7,5 +7,5 @@ use Rattle.vx_check_sql.proofs.expressions.+expressions.Given as goal
 
 abbrev pub invariant-push_operands-loop-i : goal.invariant-push_operands-loop-i
 invariant-push_operands-loop-i l =
-    string_bytes l.text ++ spaced (form_of l.form) l.i (map (λ e. expression_sql l.dialect l.from l.asks (expression_of e)) (drop l.i l.operands))
-    ≡ string_bytes l.initial.text ++ spaced (form_of l.form) 0 (map (λ e. expression_sql l.dialect l.from l.asks (expression_of e)) l.operands)
+    string_bytes l.text ++ spaced (form_of l.form) l.i (map (λ e. expression_sql l.dialect (map string_bytes l.columns) l.asks (expression_of e)) (drop l.i l.operands))
+    ≡ string_bytes l.initial.text ++ spaced (form_of l.form) 0 (map (λ e. expression_sql l.dialect (map string_bytes l.columns) l.asks (expression_of e)) l.operands)

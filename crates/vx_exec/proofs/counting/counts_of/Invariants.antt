@@ -3,4 +3,4 @@ use Rattle.vx_exec.specs.Counts.{AreCountsOf}
 use Rattle.vx_exec.proofs.counting.counts_of.Given as goal
 
 abbrev pub invariant-loop-worker : goal.invariant-loop-worker
-invariant-loop-worker l = AreCountsOf (take l.worker-index l.workers) l.counts.items
+invariant-loop-worker g l = AreCountsOf (take l.worker-index l.workers) l.counts.items

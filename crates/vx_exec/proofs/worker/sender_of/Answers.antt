@@ -19,12 +19,12 @@ use Rattle.vx_exec.proofs.Workers.{sends-as}
 use Rattle.vx_exec.proofs.worker.sender_of.Goals as goal
 
 pub new-requires-clause-served : goal.new-requires-clause-served
-new-requires-clause-served c =
+new-requires-clause-served g c =
     deal-serves (worker_group_at c.args.job.now.layout.worker_groups.items) c.in_ok-deal.deal (kind_of c.args.kind.now) c.workers-consumers.result c.in_ok-deal.ensures.kind c.workers-consumers.ensures.some
     (c.workers-consumers.ensures.value ∙ ap (λ z. workers (worker_group_at c.args.job.now.layout.worker_groups.items) z) c.target.ensures)
 
 pub new-requires-clause-columns : goal.new-requires-clause-columns
-new-requires-clause-columns c =
+new-requires-clause-columns g c =
     let s = scope c.args.job.now.plan.now in
     let types = c.output_types-types.result.now in
     deal-columns s types c.in_ok-deal.deal
@@ -32,12 +32,12 @@ new-requires-clause-columns c =
     (subst (λ z. is_kind s z (kind_of c.args.kind.now) ≡ true) (sym (c.output_types-types.ensures (relations c.args.job.now.plan.now) c.requires.outputs)) c.requires.kind))
 
 pub deal_of-requires : goal.deal_of-requires
-deal_of-requires c =
+deal_of-requires g c =
     subst (λ z. is_kind (scope c.args.job.now.plan.now) z (kind_of c.args.kind.now) ≡ true)
     (sym (c.output_types-types.ensures (relations c.args.job.now.plan.now) c.requires.outputs)) c.requires.kind
 
 pub returns-clause-post : goal.returns-clause-post
-returns-clause-post c = λ hash.
+returns-clause-post g c = λ hash.
     c.in_ok-sender.ensures.post
     ∙ sends-as c.args.job.now hash c.args.exchange c.args.place (kind_of c.args.kind.now) (plan_of c.args.node.now)
     c.workers-consumers.result c.output_types-types.result.now (kind_dealt c.in_ok-deal.deal) c.packet.result
@@ -45,7 +45,7 @@ returns-clause-post c = λ hash.
     (c.output_types-types.ensures (relations c.args.job.now.plan.now) c.requires.outputs) c.in_ok-deal.ensures.kind c.packet.ensures.value
 
 pub returns-clause-unused : goal.returns-clause-unused
-returns-clause-unused c = record {
+returns-clause-unused g c = record {
   opened = c.in_ok-sender.ensures.open;
   stands = c.in_ok-sender.ensures.stands;
   routes = λ hash.

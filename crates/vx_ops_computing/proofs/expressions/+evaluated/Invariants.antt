@@ -5,7 +5,7 @@ use Rattle.vx_ops_computing.proofs.Depths.{depth}
 use Rattle.vx_ops_computing.proofs.expressions.+evaluated.Given as goal
 
 abbrev pub decreases-evaluated : goal.decreases-evaluated
-decreases-evaluated l = depth (expression_of l.expression.now)
+decreases-evaluated g l = depth (expression_of l.expression.now)
 
 abbrev pub invariant-loop-inner : goal.invariant-loop-inner
-invariant-loop-inner l = AreAnswered l.chunk.types (take l.inner-index l.inner-items) l.chunk.rows l.operands.items
+invariant-loop-inner g l = AreAnswered (g.F.PlanFunctions.functions l.functions) l.chunk.types (take l.inner-index l.inner-items) l.chunk.rows l.operands.items

@@ -2,39 +2,39 @@ use Rattle.std.proofs.Common.{rules, ◌≡◌, false, ℕ, List, [], length, ma
 use Rattle.vx_rows.specs.View.{row, ArePositions}
 use Rattle.vx_rows_views.specs.Selected.{places_of}
 use Rattle.vx_rows_views.proofs.Passing.{places-near}
-use Rattle.vx_plan_nodes.specs.Outline.{filter_of}
 use Rattle.vx_plan_nodes.specs.Serial.{filters_fit}
 use Rattle.vx_ops_kernels.proofs.Conditions.{keeps-all}
 use Rattle.vx_ops_computing.specs.Computed.{computed_hold}
 use Rattle.vx_ops_computing.proofs.Choosing.{mask-places}
 use Rattle.vx_ops_computing.proofs.Fits.{all-fit}
+use Rattle.vx_ops_computing.specs.Given.{filter_by}
 use Rattle.vx_ops_computing.proofs.filtering.chosen_computed.Goals as goal
 
 pub returns-then-not-has_computed-clause-rows : goal.returns-then-not-has_computed-clause-rows
-returns-then-not-has_computed-clause-rows c =
+returns-then-not-has_computed-clause-rows g c =
     let none : c.has_computed.result ≡ false = search rules in
     let xs = c.args.chunk.now.rows in
-    ap (λ t. t.rows) c.in_ok-share.ensures ∙ keeps-all (computed_hold (map filter_of c.args.filters.now)) xs (λ k d l. c.has_computed.ensures.hold none (get_or xs k d))
+    ap (λ t. t.rows) c.in_ok-share.ensures ∙ keeps-all (computed_hold (map (filter_by (g.F.PlanFunctions.functions c.args.functions.now)) c.args.filters.now)) xs (λ k d l. c.has_computed.ensures.hold none (g.F.PlanFunctions.functions c.args.functions.now) (get_or xs k d))
 
 pub returns-then-not-has_computed-clause-fits : goal.returns-then-not-has_computed-clause-fits
-returns-then-not-has_computed-clause-fits c =
+returns-then-not-has_computed-clause-fits g c =
     let none : c.has_computed.result ≡ false = search rules in
     let xs = c.args.chunk.now.rows in
-    all-fit (filters_fit (map filter_of c.args.filters.now)) xs (λ k l. c.has_computed.ensures.fit none (get_or xs k []))
+    all-fit (filters_fit (map (filter_by (g.F.PlanFunctions.functions c.args.functions.now)) c.args.filters.now)) xs (λ k l. c.has_computed.ensures.fit none (g.F.PlanFunctions.functions c.args.functions.now) (get_or xs k []))
 
 pub at-requires : goal.at-requires
-at-requires c =
+at-requires g c =
     let xs = c.args.chunk.now.rows in
-    let holds = computed_hold (map filter_of c.args.filters.now) in
+    let holds = computed_hold (map (filter_by (g.F.PlanFunctions.functions c.args.functions.now)) c.args.filters.now) in
     let is : c.as_slice-2.result.now ≡ places_of holds xs =
     c.as_slice-2.ensures.value ∙ (c.in_ok-places.ensures ∙ (ap (places_of (λ b. b)) c.as_slice.ensures.value ∙ mask-places holds xs c.in_ok-mask.mask.items c.in_ok-mask.ensures.mask)) in
     let P : List ℕ → Type 0 = λ ps. ArePositions (length xs) ps in
     subst P (sym is) (places-near holds xs)
 
 pub returns-clause-rows : goal.returns-clause-rows
-returns-clause-rows c =
+returns-clause-rows g c =
     let xs = c.args.chunk.now.rows in
-    let holds = computed_hold (map filter_of c.args.filters.now) in
+    let holds = computed_hold (map (filter_by (g.F.PlanFunctions.functions c.args.functions.now)) c.args.filters.now) in
     let is : c.as_slice-2.result.now ≡ places_of holds xs =
     c.as_slice-2.ensures.value ∙ (c.in_ok-places.ensures ∙ (ap (places_of (λ b. b)) c.as_slice.ensures.value ∙ mask-places holds xs c.in_ok-mask.mask.items c.in_ok-mask.ensures.mask)) in
     c.in_ok-at.ensures.rows ∙ (ap (map (row c.args.chunk.now)) is ∙ c.places_are_a_filter.ensures holds c.args.chunk.now)

@@ -1,12 +1,13 @@
 use Rattle.std.proofs.Common.{◌≡◌, true, map, take}
 use Rattle.vx_rows_values.specs.Values.{Row}
-use Rattle.vx_plan_nodes.specs.Outline.{filter_of}
+use Rattle.vx_plan_nodes.specs.Functions.{Functions}
 use Rattle.vx_plan_nodes.specs.Serial.{filters_fit}
 use Rattle.vx_ops_computing.specs.Computed.{computed_hold}
+use Rattle.vx_ops_computing.specs.Given.{filter_by}
 use Rattle.vx_ops_computing.proofs.filtering.has_computed.Given as goal
 
 abbrev pub invariant-loop-filter : goal.invariant-loop-filter
 invariant-loop-filter l = record {
-  hold : (row : Row) → computed_hold (map filter_of (take l.filter-index l.filters)) row ≡ true;
-  fit : (row : Row) → filters_fit (map filter_of (take l.filter-index l.filters)) row ≡ true;
+  hold : (given : Functions) (row : Row) → computed_hold (map (filter_by given) (take l.filter-index l.filters)) row ≡ true;
+  fit : (given : Functions) (row : Row) → filters_fit (map (filter_by given) (take l.filter-index l.filters)) row ≡ true;
 }

@@ -1,4 +1,4 @@
-use Rattle.std.proofs.Common.{◌≡◌, ◌<◌, ◌∷◌, ◌++◌, [], false, length, get_or, ap, ◌∙◌, sym, arith}
+use Rattle.std.proofs.Common.{◌∷◌, ◌++◌, [], false, get_or, ap, ◌∙◌, sym}
 use Rattle.std.specs.Prelude.{cond}
 use Rattle.vx_rows_views.proofs.Passing.{next-place-here}
 use Rattle.vx_ops_computing.proofs.filtering.places_in.Goals as goal

@@ -9,7 +9,7 @@ use Rattle.vx_exec.proofs.Dealing.{range-there, declared-bounds, declared-rise}
 use Rattle.vx_exec.proofs.job.Job.key_route.Goals as goal
 
 pub new-requires : goal.new-requires
-new-requires c =
+new-requires g c =
     let p = c.args.self.now.plan.now in
     let k = c.in-Range.number in
     let there = range-there (scope p) c.args.types.now k c.args.columns.now (subst (λ z. is_routed (scope p) c.args.types.now (route_of z) c.args.columns.now ≡ true) c.in-Range.is c.requires) in
@@ -19,7 +19,7 @@ new-requires c =
     (declared-rise (scope p).ranges k p.ranges_are there)
 
 pub returns-in_ok-bounds-in-Range-clause-bounds : goal.returns-in_ok-bounds-in-Range-clause-bounds
-returns-in_ok-bounds-in-Range-clause-bounds c =
+returns-in_ok-bounds-in-Range-clause-bounds g c =
     let p = c.args.self.now.plan.now in
     let k = c.in-Range.number in
     let there = range-there (scope p) c.args.types.now k c.args.columns.now (subst (λ z. is_routed (scope p) c.args.types.now (route_of z) c.args.columns.now ≡ true) c.in-Range.is c.requires) in

@@ -11,7 +11,7 @@ use Rattle.vx_exec.proofs.ScanFacts.{span-at}
 use Rattle.vx_exec.proofs.job.JobMorsels.morsel.Goals as goal
 
 pub lend_morsel-requires : goal.lend_morsel-requires
-lend_morsel-requires c =
+lend_morsel-requires g c =
     let j = c.args.self.now in
     let k = c.in-Some-Scan.ensures.lookup in
     let p : Plan = plan j.plan.now in
@@ -19,7 +19,7 @@ lend_morsel-requires c =
     j.plan.now.numbered j.plan.now.typed_nodes (c.spans.ensures ∙ j.laid_out) k.3.0 k.1 c.in-Some-Scan.field-0-is).there
 
 pub returns-in-Some-Scan-clause-rows : goal.returns-in-Some-Scan-clause-rows
-returns-in-Some-Scan-clause-rows c =
+returns-in-Some-Scan-clause-rows g c =
     let j = c.args.self.now in
     let k = c.in-Some-Scan.ensures.lookup in
     let p : Plan = plan j.plan.now in
@@ -28,7 +28,7 @@ returns-in-Some-Scan-clause-rows c =
     subst (λ r. IfOk c.lend_morsel.result (λ rows. rows.rows ≡ morsel_of j.morsel (rows_at j.database.now r) c.args.number)) (sym at.relation) c.lend_morsel.ensures.rows
 
 pub returns-in-Some-Scan-clause-types : goal.returns-in-Some-Scan-clause-types
-returns-in-Some-Scan-clause-types c =
+returns-in-Some-Scan-clause-types g c =
     let j = c.args.self.now in
     let k = c.in-Some-Scan.ensures.lookup in
     let p : Plan = plan j.plan.now in

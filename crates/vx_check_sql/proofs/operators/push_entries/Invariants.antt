@@ -1,9 +1,0 @@
-use Rattle.std.proofs.Common.{◌≡◌, ◌++◌, map, string_bytes, codes, false, drop, nat_lt}
-use Rattle.vx_check.specs.Explain.{separated}
-use Rattle.vx_check_sql.specs.Operators.{entry_sql}
-use Rattle.vx_check_sql.proofs.operators.push_entries.Given as goal
-
-abbrev pub invariant-loop-i : goal.invariant-loop-i
-invariant-loop-i l =
-    string_bytes l.text ++ separated (codes ", ") (nat_lt 0 l.i) (map (entry_sql l.from) (drop l.i l.order))
-    ≡ string_bytes l.initial.text ++ separated (codes ", ") false (map (entry_sql l.from) l.order)
