@@ -17,6 +17,7 @@ use vx_rows_views::Rows;
 use vx_serial::eval;
 
 /// What a run is given besides its plan, its database and its setup.
+#[derive(Clone, Copy)]
 pub struct Given<'a, F, R> {
     /// The functions that the plan may name.
     pub functions: &'a F,

@@ -43,7 +43,8 @@ pub record ClaimOf (goes : Routing) (c : Claim) (n : ℕ) (s : Streams) (stands 
 abbrev pub ClaimHolds : Routing → Claim → ℕ → Streams → List Row → Type 0
 ClaimHolds goes c n s base = ClaimOf goes c n s (λ xs. SameRows xs base) base
 
--- the plan that the top's claim speaks of (at an open node the input of its partial) has serial rows, which are those of the plan without its exchanges, and the claim holds of them and of these streams
+-- the plan that the top's claim speaks of (at an open node the input of its partial) has serial rows. They are those of the plan without its exchanges, and
+-- the claim holds of them and of these streams
 pub record HoldsAt (db : ℕ → List Row) (sizes : ℕ → ℕ) (goes : Routing) (p : Plan) (s : Streams) : Type 0 where
   pub base : List Row
   pub is_serial : serial db (spoken p) ≡ rows base

@@ -1,4 +1,4 @@
--- The rule table of a plan that asks for what is known of its columns: a claim is shown too if it follows from one that the table shows, by equal and fixed
+-- The rule table of a plan that asks for what is known of its columns. A claim is shown too if it follows from one that the table shows, by equal and fixed
 -- columns and by what the claimed keys determine.
 use Rattle.std.specs.Prelude.{ℕ, Bool, true, false, not, ◌&&◌, ◌||◌, List, [], ◌∷◌, filter, Option, Some, None}
 use Rattle.std.specs.List.{list_all, list_any}

@@ -1,4 +1,4 @@
--- What follows from facts of columns: a part is one on equal columns too, an order may leave out what earlier columns determine, a key is one by what it
+-- What follows from facts of columns. A part is one on equal columns too, and an order may leave out what earlier columns determine. A key is one by what it
 -- determines, and an order is total if it determines a key or all columns.
 use Rattle.std.specs.Prelude.{ℕ, ◌==◌, Bool, true, false, cond, not, ◌&&◌, ◌||◌, List, [], ◌∷◌}
 use Rattle.std.specs.List.{list_all, list_any}

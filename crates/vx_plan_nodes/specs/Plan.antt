@@ -98,8 +98,8 @@ pub data JoinMethod : Type 0 where
   by_hashing : JoinMethod
   by_merging : (falls : List Bool) → JoinMethod
 
--- operators over two inputs; a join by the pairs (left column, right column); and the left rows that some right row matches (a semi join),
--- or those that none does (an anti join): it agrees on the pairs, and the conditions hold of the left columns and then the right ones
+-- operators over two inputs. A join is by the pairs (left column, right column). A semi join gives the left rows that some right row matches, and an anti
+-- join those that none does: it agrees on the pairs, and the conditions hold of the left columns and then the right ones
 pub data Binary : Type 0 where
   union : Binary
   join : JoinMethod → List (ℕ × ℕ) → Binary
