@@ -17,6 +17,8 @@ pub enum Answer<'t> {
     Labelled(Vec<(i64, &'t str)>),
     /// Numbers, each beside another.
     Pairs(Vec<(i64, i64)>),
+    /// Numbers.
+    Numbers(Vec<i64>),
     /// One number, or no row.
     Single(Option<i64>),
 }
@@ -99,6 +101,26 @@ impl<'t> Columns<'t> {
         let mut positions = Vec::new(self.alloc);
         for (i, number) in self.tenk1.iter().enumerate() {
             if least <= *number && *number <= last {
+                positions.push(i)?;
+            }
+        }
+        Ok(Answer::Rows(vec![in self.alloc; (TENK1, positions)]?))
+    }
+
+    /// The sum of unique1 and unique2 of each row of tenk1.
+    pub fn sums(&self) -> Result<Answer<'t>, AllocError> {
+        let mut sums = Vec::with_capacity(self.alloc, self.tenk1.len())?;
+        for (one, two) in self.unique1.iter().zip(self.tenk1.as_slice()) {
+            sums.push(one.wrapping_add(*two))?;
+        }
+        Ok(Answer::Numbers(sums))
+    }
+
+    /// The rows of tenk1 whose stringu1 begins with a text.
+    pub fn starting(&self, front: &str) -> Result<Answer<'t>, AllocError> {
+        let mut positions = Vec::new(self.alloc);
+        for (i, text) in self.stringu1.iter().enumerate() {
+            if text.starts_with(front) {
                 positions.push(i)?;
             }
         }
@@ -198,6 +220,7 @@ impl<'t> Answer<'t> {
             Answer::Rows(parts) => parts.first().map_or(0, |part| part.1.len()),
             Answer::Labelled(pairs) => pairs.len(),
             Answer::Pairs(pairs) => pairs.len(),
+            Answer::Numbers(numbers) => numbers.len(),
             Answer::Single(number) => number.iter().count(),
         }
     }
@@ -226,6 +249,7 @@ impl<'t> Answer<'t> {
                     digest.add_number(*number);
                 }
             }
+            Answer::Numbers(numbers) => digest.add_number(numbers.get(i).copied().unwrap_or(0)),
             Answer::Single(number) => digest.add_number(number.unwrap_or(0)),
         }
     }

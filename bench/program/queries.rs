@@ -20,7 +20,7 @@ use vx_exec_setup::{RunCounts, Setup};
 use vx_exec_threads::Free;
 use vx_plan::{erase, resolve};
 use vx_plan_json::Plan;
-use vx_plan_nodes::TypedPlan;
+use vx_plan_nodes::{StandardFunctions, TypedPlan};
 use vx_serial::eval;
 use vx_wisconsin::plan;
 
@@ -31,7 +31,16 @@ enum Subject {
     Query(u32),
     // The rows of tenk1 with unique2 below a number.
     Below(u64),
+    // The same rows, where a function compares.
+    Compared(u64),
+    // The sum of unique1 and unique2 of each row of tenk1.
+    Sums,
+    // The rows of tenk1 whose stringu1 begins with AAAAA.
+    Starting,
 }
+
+// The text with which stringu1 begins in the rows of `Subject::Starting`.
+const FRONT: &str = "AAAAA";
 
 // How a query is answered.
 #[derive(Clone, Copy)]
@@ -65,6 +74,9 @@ impl Subject {
         match self {
             Subject::Query(number) => format!(in alloc; "query {number}"),
             Subject::Below(bound) => format!(in alloc; "unique2 < {bound}"),
+            Subject::Compared(bound) => format!(in alloc; "lt(unique2,{bound})"),
+            Subject::Sums => String::from_str(alloc, "add(unique1,unique2)"),
+            Subject::Starting => format!(in alloc; "starts_with(stringu1)"),
         }
     }
 
@@ -90,9 +102,22 @@ impl Subject {
     fn text(self, alloc: Global, rows: u64) -> Result<String, AllocError> {
         match self {
             Subject::Query(number) => quartered(alloc, plan(number).unwrap_or(""), rows),
-            Subject::Below(bound) => format!(in alloc;
-                "{{\"sizes\":[\"many\"],\"root\":{{\"op\":\"exchange\",\"kind\":\"gather\",\"claim\":{{\"part\":\"one\"}},\"input\":{{\"op\":\"select\",\"where\":[{{\"column\":\"unique2\",\"op\":\"<\",\"value\":{bound}}}],\"claim\":{{\"part\":\"any\"}},\"input\":{{\"op\":\"scan\",\"relation\":\"tenk1\",\"mode\":\"shared\",\"size\":\"many\",\"claim\":{{\"part\":\"any\"}}}}}}}}}}"
+            Subject::Below(bound) => {
+                let test = format!(in alloc; "{{\"column\":\"unique2\",\"op\":\"<\",\"value\":{bound}}}")?;
+                gathered(alloc, select(alloc, test.as_str())?.as_str())
+            }
+            Subject::Compared(bound) => {
+                let test = format!(in alloc; "{{\"fn\":\"lt\",\"of\":[\"unique2\",{{\"value\":{bound}}}]}}")?;
+                gathered(alloc, select(alloc, test.as_str())?.as_str())
+            }
+            Subject::Sums => gathered(
+                alloc,
+                "\"op\":\"project\",\"columns\":[{\"fn\":\"add\",\"of\":[\"unique1\",\"unique2\"],\"type\":\"int\",\"as\":\"sum\"}]",
             ),
+            Subject::Starting => {
+                let test = format!(in alloc; "{{\"fn\":\"starts_with\",\"of\":[\"stringu1\",{{\"value\":\"{FRONT}\"}}]}}")?;
+                gathered(alloc, select(alloc, test.as_str())?.as_str())
+            }
         }
     }
 
@@ -100,12 +125,26 @@ impl Subject {
     fn answer<'t>(self, columns: &Columns<'t>) -> Result<Answer<'t>, AllocError> {
         match self {
             Subject::Query(number) => columns.query(number),
-            Subject::Below(bound) => {
+            Subject::Below(bound) | Subject::Compared(bound) => {
                 let bound = i64::try_from(bound).unwrap_or(i64::MAX);
                 columns.selected(i64::MIN, bound.saturating_sub(1))
             }
+            Subject::Sums => columns.sums(),
+            Subject::Starting => columns.starting(FRONT),
         }
     }
+}
+
+// The members of a select with a condition.
+fn select(alloc: Global, test: &str) -> Result<String, AllocError> {
+    format!(in alloc; "\"op\":\"select\",\"where\":[{test}]")
+}
+
+// A plan that gathers what the operator with these members gives of tenk1.
+fn gathered(alloc: Global, members: &str) -> Result<String, AllocError> {
+    format!(in alloc;
+        "{{\"sizes\":[\"many\"],\"root\":{{\"op\":\"exchange\",\"kind\":\"gather\",\"claim\":{{\"part\":\"one\"}},\"input\":{{{members},\"claim\":{{\"part\":\"any\"}},\"input\":{{\"op\":\"scan\",\"relation\":\"tenk1\",\"mode\":\"shared\",\"size\":\"many\",\"claim\":{{\"part\":\"any\"}}}}}}}}}}"
+    )
 }
 
 // A `plan` whose range is made for 10,000 rows, with the range that gives each of four workers a quarter of `rows` rows.
@@ -138,7 +177,7 @@ impl<'t> Query<'t> {
 
     fn by_serial<R: Clock>(&self, rt: &R, alloc: Global) -> Result<Outcome, Error> {
         let start = Instant::now(rt)?;
-        let rows = eval(alloc, &self.erased, self.database)?;
+        let rows = eval(alloc, &StandardFunctions, &self.erased, self.database)?;
         let nanos = nanos_since(rt, start)?;
         Ok((Digest::of(&rows.gathered(alloc)?), nanos))
     }
@@ -152,6 +191,7 @@ impl<'t> Query<'t> {
             &self.plan,
             self.database,
             &setup,
+            &StandardFunctions,
             &ByteRouter,
             u64::MAX,
             &mut unread,
@@ -181,6 +221,7 @@ impl<'t> Query<'t> {
             &self.plan,
             self.database,
             &setup,
+            &StandardFunctions,
             &threading,
             &mut unread,
         )? {
@@ -290,8 +331,8 @@ impl Bench {
         )
     }
 
-    /// Selections of a hundredth and of all of tenk1, and the queries of the benchmark. It fails where one way gives other
-    /// rows.
+    /// Selections of a hundredth and of all of tenk1, functions, and the queries of the benchmark. It fails where one way gives
+    /// other rows.
     pub fn measure_queries<R: Print + Clock + Threads + Wait + Sync>(
         self,
         rt: &R,
@@ -300,6 +341,10 @@ impl Bench {
     ) -> Result<(), Error> {
         self.measure_query(rt, database, columns, Subject::Below(self.rows / 100))?;
         self.measure_query(rt, database, columns, Subject::Below(self.rows))?;
+        self.measure_query(rt, database, columns, Subject::Compared(self.rows / 100))?;
+        self.measure_query(rt, database, columns, Subject::Compared(self.rows))?;
+        self.measure_query(rt, database, columns, Subject::Sums)?;
+        self.measure_query(rt, database, columns, Subject::Starting)?;
         for number in 1..14 {
             self.measure_query(rt, database, columns, Subject::Query(number))?;
         }
