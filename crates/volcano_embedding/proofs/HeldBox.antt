@@ -1,9 +1,6 @@
 -- A session that is held, and its parts, own what a box of the session owns.
 use Rattle.std.specs.Prelude.{◌≡◌, Option, Some, None, is_some, true}
-use Rattle.std.proofs.Common.{◌∙◌, ℕ, List, refl, sym, ap, subst}
-use Rattle.vx_catalog_relations.specs.Relation.{Relation}
-use Rattle.volcano_embedding.specs.Session as specs
-use Rattle.volcano_embedding.specs.Opened.{session_of}
+use Rattle.std.proofs.Common.{refl, sym, subst}
 use mathlib.Core.List.{[]}
 use lib.Dec.{T}
 use mir.Syntax.{impl, tnil, dnil}
@@ -12,8 +9,8 @@ use Rattle.std_alloc.proofs.BoxSteps.Form.{Bx}
 use Rattle.std_heap.specs.contracts.Global as Heap
 use Rattle.std_heap.specs.contracts.GlobalAllocator.TheImpl.{ghosts, dict}
 use Rattle.std_heap.proofs.Global.TheLaws as heap
-use Rattle.volcano_embedding.specs.contracts.session.Session as Session
-use Rattle.volcano_embedding.proofs.session.Session.TheLaws as session
+use Rattle.volcano_embedding.specs.contracts.shared.SharedSession as Session
+use Rattle.volcano_embedding.proofs.shared.SharedSession.TheLaws as session
 use Rattle.volcano_embedding.specs.contracts.box_parts.BoxParts as BoxParts
 use Rattle.volcano_embedding.specs.contracts.held.Held as Held
 
@@ -31,7 +28,3 @@ FromHeld = plain (λ _. Held.the_row)
 pub some_of : {A : Type 0} (o : Option A) → is_some o ≡ true → (s : A) × (o ≡ Some s)
 some_of (Some s) e = (s, refl)
 some_of None e = absurd (subst T (sym e) tt)
-
--- a session is one over its relations, with its tables
-pub is_session : (s : specs.Session) (relations : List Relation) (tables : List (List ℕ × List ℕ)) → s.catalog ≡ relations → s.tables ≡ tables → s ≡ session_of relations tables
-is_session s relations tables e f = ap (λ (r : List Relation). session_of r s.tables) e ∙ ap (λ (t : List (List ℕ × List ℕ)). session_of relations t) f

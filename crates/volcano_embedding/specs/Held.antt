@@ -6,7 +6,7 @@ use Rattle.std.specs.Global.{Global}
 use base.Fml.{Fml, ftrue}
 use denote.RawPtr.{Ptr}
 use Rattle.std_heap.specs.contracts.GlobalAllocator.TheImpl.{ghosts}
-use Rattle.volcano_embedding.specs.contracts.session.Session.{the_row}
+use Rattle.volcano_embedding.specs.contracts.shared.SharedSession.{the_row}
 
 abbrev pub held_owns : Global → Ptr → Option the_row.Denot → Fml
 held_owns alloc at (Some s) = box_owns (ghosts.dealloc_token alloc) the_row at s

@@ -1,6 +1,8 @@
-pub mod Session
 pub mod Texts
 pub mod Planning
+pub mod Annotated
+pub mod Verdict
+pub mod Forms
 pub mod Serial
 pub mod Lines
 pub mod Replies

@@ -6,7 +6,8 @@ ghost use Rattle.volcano_embedding.specs.Opened.{IsOpenOn};
 
 use crate::held::Held;
 use crate::session::Session;
-use std::alloc::Global;
+use crate::shared::SharedSession;
+use std::alloc::{AllocError, Global};
 use std::mem::replace;
 use volcano_refusals::Refusal;
 
@@ -38,7 +39,7 @@ impl CatalogHandle {
     }
 
     /// A handle of this session.
-    pub(crate) fn of(session: Box<Session>) -> CatalogHandle
+    pub(crate) fn of(session: Box<SharedSession>) -> CatalogHandle
         ensures { result.held.session ≡ Some session.value }
     {
         CatalogHandle {
@@ -48,7 +49,7 @@ impl CatalogHandle {
     }
 
     // The session, where the handle is open.
-    fn into_session(self) -> Option<Box<Session>>
+    fn into_session(self) -> Option<Box<SharedSession>>
         ensures { option_map (λ b. b.value) result ≡ self.held.session }
     {
         let CatalogHandle { held, is_open } = self;
@@ -60,7 +61,7 @@ impl CatalogHandle {
     }
 
     /// Takes the session out, where the handle is open, and leaves it closed.
-    pub(crate) fn take(&mut self, alloc: Global) -> Option<Box<Session>>
+    pub(crate) fn take(&mut self, alloc: Global) -> Option<Box<SharedSession>>
         ensures taken { option_map (λ b. b.value) result ≡ self.old.held.session }
         ensures left { self.new.held.session ≡ None }
     {
@@ -72,6 +73,29 @@ impl CatalogHandle {
         ensures { result ≡ self }
     {
         for_thread(self)
+    }
+
+    /// Whether it holds a catalog.
+    pub fn is_open(&self) -> bool
+        ensures { result ≡ is_some self.now.held.session }
+    {
+        self.is_open
+    }
+
+    /// Another handle of the same catalog, which may go to another thread: closed where this one is.
+    pub fn another(&mut self, alloc: Global) -> Result<CatalogHandle, AllocError>
+        ensures same { IfOk result (λ h. h.held.session ≡ self.old.held.session) }
+        ensures kept { self.new.held.session ≡ self.old.held.session }
+    {
+        let Some(session) = self.take(alloc) else {
+            return Ok(CatalogHandle::closed(alloc));
+        };
+        let another = session.another();
+        *self = CatalogHandle::of(session);
+        match Box::new(alloc, another?) {
+            Ok(another) => Ok(CatalogHandle::of(another)),
+            Err(_) => Err(AllocError),
+        }
     }
 
     /// Lets the catalog go, where the handle is open.
@@ -88,7 +112,7 @@ impl CatalogHandle {
         ensures closed { IfErr result (λ _. self.new.held.session ≡ None) }
     {
         self.close(alloc);
-        let session = Session::open(alloc, catalog)?;
+        let session = SharedSession::new(alloc, Session::open(alloc, catalog)?)?;
         *self = CatalogHandle::of(Box::new(alloc, session)?);
         Ok(())
     }

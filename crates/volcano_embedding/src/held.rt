@@ -1,11 +1,11 @@
 //! A session on the heap, or none, behind a pointer that does not show what it points to.
 
-ghost use Rattle.std.specs.Prelude.{◌≡◌, true, Option, Some, None, is_some};
-ghost use Rattle.volcano_embedding.specs.Session.{Session};
+ghost use Rattle.std.specs.Prelude.{◌≡◌, true, List, Option, Some, None, is_some};
+ghost use Rattle.vx_catalog_relations.specs.Relation.{Relation};
 ghost use Rattle.volcano_embedding.specs.Held.{held_owns, held_coded};
 
 use crate::box_parts::BoxParts;
-use crate::session::Session;
+use crate::shared::SharedSession;
 use std::alloc::Global;
 use std::marker::Model;
 use std::ptr::null_mut;
@@ -18,7 +18,7 @@ use std::ptr::null_mut;
 pub(crate) struct Held {
     at: *mut u8,
     alloc: Global,
-    pub(crate) ghost session: { Option Session } by { held_coded },
+    pub(crate) ghost session: { Option (List Relation) } by { held_coded },
 }
 
 impl Model for Held {
@@ -35,7 +35,7 @@ impl Held {
     }
 
     // The session whose box has these parts.
-    fn of_parts(parts: BoxParts<Session, Global>) -> Held
+    fn of_parts(parts: BoxParts<SharedSession, Global>) -> Held
         ensures { result.session ≡ Some parts.value }
     {
         let BoxParts { ptr, alloc } = parts;
@@ -46,26 +46,26 @@ impl Held {
     }
 
     // The parts of the session's box.
-    fn into_parts(self) -> BoxParts<Session, Global>
+    fn into_parts(self) -> BoxParts<SharedSession, Global>
         requires { is_some self.session ≡ true }
         ensures { Some result.value ≡ self.session }
     {
         let Held { at, alloc } = self;
         BoxParts {
-            ptr: at as *mut Session,
+            ptr: at as *mut SharedSession,
             alloc,
         }
     }
 
     /// This session.
-    pub(crate) fn of(session: Box<Session>) -> Held
+    pub(crate) fn of(session: Box<SharedSession>) -> Held
         ensures { result.session ≡ Some session.value }
     {
         Held::of_parts(BoxParts::of(session))
     }
 
     /// The session, which is there.
-    pub(crate) fn into_session(self) -> Box<Session>
+    pub(crate) fn into_session(self) -> Box<SharedSession>
         requires { is_some self.session ≡ true }
         ensures { Some result.value ≡ self.session }
     {

@@ -1,4 +1,4 @@
-//! The texts of a session's tables, which have the rows of relations.
+//! The texts of tables, which have the rows of relations.
 
 ghost use Rattle.std.specs.Prelude.{◌≡◌, ◌<◌, length, map, option_map, bytes_eq, IfOk};
 ghost use Rattle.std.specs.List.{find};
@@ -7,7 +7,6 @@ ghost use Rattle.vx_catalog.specs.Loading.{Gives, load_of};
 ghost use Rattle.volcano_tables.specs.Texts.{text_of};
 ghost use Rattle.volcano_embedding.specs.Texts.{table_form};
 
-use crate::session::Session;
 use std::alloc::Global;
 use volcano_refusals::Refusal;
 use volcano_tables::Tables;
@@ -22,6 +21,12 @@ pub struct TableText {
     pub text: Vec<u8>,
 }
 
+/// Texts of tables. Of two texts of one table the first counts.
+#[derive(Clone, Copy)]
+pub(crate) struct TextTables<'t> {
+    pub(crate) texts: &'t [TableText],
+}
+
 // The first text of this name.
 fn find_table<'t>(tables: &'t [TableText], name: &str) -> Option<&'t TableText>
     ensures { option_map (λ t. t.now) result ≡ find (λ t. bytes_eq t.name.items name.now) tables.now }
@@ -29,8 +34,8 @@ fn find_table<'t>(tables: &'t [TableText], name: &str) -> Option<&'t TableText>
     tables.iter().find(|t| t.name.as_slice() == name.as_bytes())
 }
 
-// The text of the table of this name.
-fn table<'t>(tables: &'t [TableText], name: &str) -> Option<&'t [u8]>
+/// The text of the table of this name.
+pub(crate) fn table<'t>(tables: &'t [TableText], name: &str) -> Option<&'t [u8]>
     ensures { option_map (λ t. t.now) result ≡ text_of name.now (map table_form tables.now) }
 {
     match find_table(tables, name) {
@@ -55,16 +60,18 @@ fn load_text(
     Loader::load(alloc, catalog, relation, &mut reader)
 }
 
-impl Tables for Session {
+impl Tables for TextTables<'_> {
+    ghost use Rattle.std.specs.Prelude.{map};
     ghost use Rattle.volcano_tables.specs.Texts.{holds_in, lacks_in};
+    ghost use Rattle.volcano_embedding.specs.Texts.{table_form};
 
-    ghost holds = { λ s. holds_in s.tables };
+    ghost holds = { λ s. holds_in (map table_form s.texts.now) };
 
-    ghost lacks = { λ s. lacks_in s.tables };
+    ghost lacks = { λ s. lacks_in (map table_form s.texts.now) };
 
     fn load(&self, alloc: Global, catalog: &Catalog, relation: usize) -> Result<Loaded, Refusal> {
         let name = catalog.get(relation).name();
-        let Some(text) = table(self.tables(), name) else {
+        let Some(text) = table(self.texts, name) else {
             let name = String::from_str(alloc, name)?;
             return Err(Refusal::NoTable { name });
         };

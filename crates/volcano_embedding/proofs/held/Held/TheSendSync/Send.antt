@@ -12,8 +12,8 @@ use Rattle.std.proofs.Crossing as heap
 use Rattle.std_alloc.proofs.SendSync.{quiet, lies}
 use Rattle.std_heap.proofs.Global.TheSendSync as handle
 use Rattle.volcano_embedding.specs.Held.{held_owns}
-use Rattle.volcano_embedding.specs.contracts.session.Session as Session
-use Rattle.volcano_embedding.proofs.session.Session.TheSendSync.{the_send as session}
+use Rattle.volcano_embedding.specs.contracts.shared.SharedSession as Session
+use Rattle.volcano_embedding.proofs.shared.SharedSession.TheSendSync.{the_send as session}
 use Rattle.volcano_embedding.specs.contracts.held.Held.{the_row, the_type}
 
 owned : (alloc : Global) (at : Ptr) (o : Option Session.the_row.Denot) → Keyless (held_owns alloc at o)

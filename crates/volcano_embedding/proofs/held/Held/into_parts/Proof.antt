@@ -26,7 +26,7 @@ use denote.Triple.Walked.{says, Stays, stay_dropped, walk_of, ends_at, Goes-drop
 use Rattle.std_alloc.proofs.BoxSteps.Form.{D, B, word, box_typed}
 use Rattle.std_alloc.proofs.BoxSteps.Steps.{box_out, box_in}
 use Rattle.volcano_embedding.proofs.HeldBox.{some_of}
-use Rattle.volcano_embedding.specs.contracts.session.Session as Session
+use Rattle.volcano_embedding.specs.contracts.shared.SharedSession as Session
 use Rattle.volcano_embedding.specs.contracts.held.Held as Held
 use Rattle.volcano_embedding.proofs.HeldBox.{E, FromHeld as From}
 use Rattle.volcano_embedding.specs.contracts.held.Held.into_parts as F
