@@ -12,6 +12,8 @@ pub mod Widening
 pub mod Entries
 pub mod Choosing
 pub mod ChunkFacts
+pub mod BlockFacts
+pub mod TestFacts
 pub mod CallResults
 pub mod Under
 mod Depths

@@ -1,5 +1,5 @@
 -- What a function of two numbers answers of two operands.
-use Rattle.std.proofs.Common.{◌≡◌, ℕ, ℤ, ◌<◌, List, [], ◌∷◌, Some, None, ap, ap₂, ◌∙◌}
+use Rattle.std.proofs.Common.{◌≡◌, ℕ, ℤ, ◌<◌, List, [], ◌∷◌, ap, ap₂, ◌∙◌}
 use Rattle.std.specs.Prelude.{option_map}
 use Rattle.vx_rows_values.specs.Values.{Val, num}
 use Rattle.vx_functions.specs.declared.standard.StandardFunction.{StandardFunction}

@@ -6,5 +6,7 @@ pub mod Columns
 pub mod Called
 pub mod Applied
 pub mod Answers
+pub mod Blocks
+pub mod Tested
 pub mod Projecting
 pub mod Computed

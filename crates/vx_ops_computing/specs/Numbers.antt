@@ -7,12 +7,16 @@ use Rattle.vx_ops_computing.specs.declared.numbers.Gathered.TheVariants as gathe
 -- the number for row k
 abbrev pub gathered_at : Gathered → ℕ → ℤ
 gathered_at (gathered.Same z) k = z
-gathered_at (gathered.Each v) k = slice_index_or v.items k (pos 0)
+gathered_at (gathered.Narrow list) k = slice_index_or list.now k (pos 0)
+gathered_at (gathered.Wide list) k = slice_index_or list.now k (pos 0)
+gathered_at (gathered.Copied v) k = slice_index_or v.items k (pos 0)
 
 -- there is one
 abbrev pub HasGathered : Gathered → ℕ → Type 0
 HasGathered (gathered.Same z) k = Unit {0}
-HasGathered (gathered.Each v) k = k < length v.items
+HasGathered (gathered.Narrow list) k = k < length list.now
+HasGathered (gathered.Wide list) k = k < length list.now
+HasGathered (gathered.Copied v) k = k < length v.items
 
 -- for each of so many rows there is a number, and it is this value
 pub record IsGathered (n : ℕ) (values : ℕ → Val) (g : Gathered) : Type 0 where

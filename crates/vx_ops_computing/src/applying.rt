@@ -16,6 +16,7 @@ use crate::answers::{Answers, Named};
 use crate::fault::ComputeFault;
 use crate::numbers::{gather, paired};
 use crate::operands::Operand;
+use crate::texts::tested;
 use std::alloc::{AllocError, Global};
 use vx_functions::StandardFunction;
 use vx_plan_nodes::PlanFunctions;
@@ -178,6 +179,9 @@ fn applied<'a>(
 {
     if let ColType::Int = answer {
         if let Some(numbers) = pair_answers(alloc, function, operands, count)? {
+            return Ok(Operand::Numbers(numbers));
+        }
+        if let Some(numbers) = tested(alloc, function, operands, count)? {
             return Ok(Operand::Numbers(numbers));
         }
     }

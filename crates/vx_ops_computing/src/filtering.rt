@@ -1,6 +1,6 @@
 //! Selections whose conditions may be computed. The computed ones are asked of all rows, for none of them is to overflow.
 
-ghost use Rattle.std.specs.Prelude.{◌≡◌, ◌++◌, ◌∷◌, ℕ, ◌<◌, List, [], true, false, filter, length, map, Some, All, IfOk, IfErr, OnOk, slice_index_or};
+ghost use Rattle.std.specs.Prelude.{◌≡◌, ◌++◌, ◌∷◌, ℕ, ◌<◌, List, [], true, false, filter, length, map, pos, Some, All, IfOk, IfErr, OnOk, slice_index_or};
 ghost use Rattle.std.specs.List.{list_all};
 ghost use Rattle.vx_rows_values.specs.Values.{Row};
 ghost use Rattle.vx_rows_values.specs.ValueView.{cell_val};
@@ -11,22 +11,25 @@ ghost use Rattle.vx_plan_nodes.specs.Outline.{filter_of};
 ghost use Rattle.vx_plan_nodes.specs.Plan.{Filter as PlanFilter, select};
 ghost use Rattle.vx_plan_nodes.specs.Serial.{filter_fits, filters_fit, unary_rows};
 ghost use Rattle.vx_plan_nodes.specs.Under.{unary_under};
+ghost use Rattle.vx_functions.specs.Numbers.{holds};
 ghost use Rattle.vx_rows_views.specs.Chunks.{all_rows};
-ghost use Rattle.vx_rows_views.specs.Selected.{places_of};
 ghost use Rattle.vx_ops_computing.specs.Computed.{comparisons_hold, computed_hold, IsMask, IsNarrowed};
 ghost use Rattle.vx_ops_computing.specs.Fault.{Blames, ComputeBlame};
 ghost use Rattle.vx_ops_computing.specs.Given.{filter_by};
 ghost use Rattle.vx_ops_computing.specs.Operands.{operand_at, IsFor};
 ghost use Rattle.vx_ops_computing.specs.Projecting.{FilterFails};
 
+use crate::blocks::BLOCK;
 use crate::expressions::evaluated;
 use crate::fault::ComputeFault;
+use crate::masks::places_in;
 use crate::operands::Operand;
+use crate::pairs::holds;
 use std::alloc::{AllocError, Global};
-use vx_ops_kernels::kept;
+use vx_ops_kernels::{kept, kept_both};
 use vx_plan_nodes::{Filter, PlanFunctions};
 use vx_rows_values::Cell;
-use vx_rows_views::{Chunk, Rows, places_are_a_filter, push_place_if};
+use vx_rows_views::{Chunk, Rows, places_are_a_filter};
 
 // Whether a value is a number other than 0.
 fn is_yes(cell: Cell<'_>) -> bool
@@ -38,8 +41,18 @@ fn is_yes(cell: Cell<'_>) -> bool
     }
 }
 
-// Leaves those rows in a mask for which an operand is a number other than 0.
-fn leave(mask: &mut [bool], operand: &Operand<'_>)
+// Leaves those rows in a mask whose number is not 0. Each is written: so there is no branch that depends on a number.
+fn leave_numbers(mask: &mut [bool], numbers: &[i64])
+    requires { length numbers.now ≡ length mask.old }
+    ensures { IsNarrowed mask.old (λ k. holds (slice_index_or numbers.now k (pos 0))) mask.new }
+{
+    for k in 0..mask.len() {
+        mask[k] = mask[k] & holds(numbers[k]);
+    }
+}
+
+// Leaves those rows in a mask for which an operand is a number other than 0, row by row.
+fn leave_by_rows(mask: &mut [bool], operand: &Operand<'_>)
     requires { IsFor (length mask.old) operand.now }
     ensures { IsNarrowed mask.old (λ k. says_yes (Some (operand_at operand.now k))) mask.new }
 {
@@ -47,6 +60,17 @@ fn leave(mask: &mut [bool], operand: &Operand<'_>)
         if !is_yes(operand.cell(k)) {
             mask[k] = false;
         }
+    }
+}
+
+// Leaves those rows in a mask for which an operand is a number other than 0.
+fn leave(mask: &mut [bool], operand: &Operand<'_>)
+    requires { IsFor (length mask.old) operand.now }
+    ensures { IsNarrowed mask.old (λ k. says_yes (Some (operand_at operand.now k))) mask.new }
+{
+    match operand {
+        Operand::Numbers(numbers) => leave_numbers(mask, numbers.as_slice()),
+        _ => leave_by_rows(mask, operand),
     }
 }
 
@@ -108,15 +132,32 @@ fn computed_mask<F: PlanFunctions>(
     Ok(mask)
 }
 
-// The places of a mask at which it holds.
-fn places_in(alloc: Global, mask: &[bool]) -> Result<Vec<usize>, AllocError>
-    ensures { IfOk result (λ v. v.items ≡ places_of (λ b. b) mask.now) }
+// The same, block by block where there are many rows.
+fn mask_by_blocks<F: PlanFunctions>(
+    alloc: Global,
+    functions: &F,
+    filters: &[Filter],
+    chunk: &Chunk,
+) -> Result<Vec<bool>, ComputeFault>
+    requires { unary_known chunk.now.types (select (map (filter_by (F.functions functions.now)) filters.now)) ≡ true }
+    ensures mask { IfOk result (λ v. IsMask (computed_hold (map (filter_by (F.functions functions.now)) filters.now)) chunk.now.rows v.items) }
+    ensures fits { IfOk result (λ v. list_all (filters_fit (map (filter_by (F.functions functions.now)) filters.now)) chunk.now.rows ≡ true) }
+    ensures fault { IfErr result (Blames (list_all (filters_fit (map (filter_by (F.functions functions.now)) filters.now)) chunk.now.rows ≡ false)) }
 {
-    let mut places = Vec::new(alloc);
-    for k in 0..mask.len() {
-        push_place_if(&mut places, k, mask[k])?;
+    let count = chunk.len();
+    if count <= BLOCK {
+        return computed_mask(alloc, functions, filters, chunk);
     }
-    Ok(places)
+    let mut mask = Vec::with_capacity(alloc, count)?;
+    let mut from = 0;
+    while from < count {
+        let block = BLOCK.min(count - from);
+        let part = chunk.slice(alloc, from, from + block)?;
+        let found = computed_mask(alloc, functions, filters, &part)?;
+        mask.extend_from_slice(found.as_slice())?;
+        from += block;
+    }
+    Ok(mask)
 }
 
 // The rows of a chunk of which the computed conditions hold.
@@ -135,14 +176,16 @@ fn chosen_computed<F: PlanFunctions>(
     if !has_computed(filters) {
         return Ok(chunk.share(alloc)?);
     }
-    let mask = computed_mask(alloc, functions, filters, chunk)?;
-    let places = places_in(alloc, mask.as_slice())?;
+    let mask = mask_by_blocks(alloc, functions, filters, chunk)?;
+    let Some(places) = places_in(alloc, mask.as_slice())? else {
+        return Ok(chunk.share(alloc)?);
+    };
     places_are_a_filter();
     Ok(chunk.at(alloc, places.as_slice())?)
 }
 
-// The rows of a chunk of which the comparisons hold.
-fn chosen_compared(alloc: Global, filters: &[Filter], chunk: Chunk) -> Result<Chunk, AllocError>
+// The rows of a chunk of which the comparisons hold, asked one after the other.
+fn chosen_in_turn(alloc: Global, filters: &[Filter], chunk: Chunk) -> Result<Chunk, AllocError>
     ensures types { IfOk result (λ c. c.types ≡ chunk.types) }
     ensures rows { IfOk result (λ c. (given : Functions) → c.rows ≡ filter (comparisons_hold (map (filter_by given) filters.now)) chunk.rows) }
 {
@@ -154,6 +197,20 @@ fn chosen_compared(alloc: Global, filters: &[Filter], chunk: Chunk) -> Result<Ch
         }
     }
     Ok(found)
+}
+
+// The rows of a chunk of which the comparisons hold. Two alone are asked in one loop.
+fn chosen_compared(alloc: Global, filters: &[Filter], chunk: Chunk) -> Result<Chunk, AllocError>
+    ensures types { IfOk result (λ c. c.types ≡ chunk.types) }
+    ensures rows { IfOk result (λ c. (given : Functions) → c.rows ≡ filter (comparisons_hold (map (filter_by given) filters.now)) chunk.rows) }
+{
+    if let [first, second] = filters
+        && let Filter::Compared(first) = first
+        && let Filter::Compared(second) = second
+    {
+        return kept_both(alloc, first, second, chunk);
+    }
+    chosen_in_turn(alloc, filters, chunk)
 }
 
 // What a selection makes of the rows of a chunk.
@@ -193,8 +250,7 @@ fn add_filtered<F: PlanFunctions>(
     Ok(())
 }
 
-/// What a selection makes of rows. No cell is copied, and a chunk of which the conditions hold throughout is handed on without positions,
-/// where none is computed.
+/// What a selection makes of rows. No cell is copied, and a chunk of which the conditions hold throughout is handed on without positions.
 pub fn filtered<F: PlanFunctions>(
     alloc: Global,
     functions: &F,

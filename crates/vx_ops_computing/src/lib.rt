@@ -3,15 +3,18 @@
 
 mod answers;
 mod applying;
+mod blocks;
 mod columns;
 mod expressions;
 mod fault;
 mod filtering;
 mod loops;
+mod masks;
 mod numbers;
 mod operands;
 mod pairs;
 mod projecting;
+mod texts;
 
 pub use fault::ComputeFault;
 pub use filtering::filtered;

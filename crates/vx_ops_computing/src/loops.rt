@@ -56,6 +56,24 @@ impl NumberSource for Listed<'_> {
     }
 }
 
+/// The numbers of a list, of 32 bits each.
+#[derive(Clone, Copy)]
+pub struct Narrow<'a> {
+    pub numbers: &'a [i32],
+}
+
+impl NumberSource for Narrow<'_> {
+    ghost use Rattle.std.specs.Prelude.{◌<◌, length, pos, slice_index_or};
+
+    ghost number_at = { λ s k. slice_index_or s.numbers.now k (pos 0) };
+
+    ghost HasNumber = { λ s k. k < length s.numbers.now };
+
+    fn number(&self, k: usize) -> i64 {
+        i64::from(self.numbers[k])
+    }
+}
+
 // Puts what a function answers of two numbers, row by row, as far as it does not overflow: the first row for which it does.
 fn fill<F: NumberPair, L: NumberSource, R: NumberSource>(
     function: &F,

@@ -14,15 +14,15 @@ pub trait NumberPair {
         ensures { result ≡ says self.now x y };
 }
 
-// 1 for what holds, 0 for what does not.
-fn truth(holds: bool) -> i64
+/// 1 for what holds, 0 for what does not.
+pub fn truth(holds: bool) -> i64
     ensures { result ≡ truth holds }
 {
     if holds { 1 } else { 0 }
 }
 
-// Whether a number holds: it is not 0.
-fn holds(x: i64) -> bool
+/// Whether a number holds: it is not 0.
+pub fn holds(x: i64) -> bool
     ensures { result ≡ holds x }
 {
     x != 0

@@ -14,8 +14,8 @@ ghost use Rattle.vx_ops_computing.specs.Fault.{Blames, ComputeBlame};
 ghost use Rattle.vx_ops_computing.specs.Given.{expression_by, entry_by};
 ghost use Rattle.vx_ops_computing.specs.Projecting.{IsProjecting, EntryFails};
 
+use crate::blocks::evaluated_by_blocks;
 use crate::columns::column_of;
-use crate::expressions::evaluated;
 use crate::fault::ComputeFault;
 use std::alloc::{AllocError, Global};
 use vx_plan_nodes::{Entry, Expression, PlanFunctions};
@@ -36,7 +36,7 @@ fn with_column<F: PlanFunctions>(
     ensures rows { IfOk result (λ c. IsWidened (expression_by (F.functions functions.now) expression.now) chunk.now.rows wide.rows c.rows) }
     ensures fault { IfErr result (Blames (IsUnanswered (expression_by (F.functions functions.now) expression.now) chunk.now.rows)) }
 {
-    let operand = evaluated(alloc, functions, chunk, expression)?;
+    let operand = evaluated_by_blocks(alloc, functions, chunk, expression)?;
     let column = column_of(alloc, operand, chunk.len())?;
     Ok(Chunk::beside(wide, column)?)
 }

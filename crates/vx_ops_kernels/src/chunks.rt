@@ -1,6 +1,6 @@
 //! Selection and sorting of rows in chunks. Rows are picked by their places: a selection copies no cell, a sort each one once.
 
-ghost use Rattle.std.specs.Prelude.{◌≡◌, ◌<◌, ◌++◌, true, filter, length, IfOk, IfSome, IfNone, OnOk};
+ghost use Rattle.std.specs.Prelude.{◌≡◌, ◌<◌, ◌++◌, ◌&&◌, true, filter, length, IfOk, IfSome, IfNone, OnOk};
 ghost use Rattle.std.specs.List.{All};
 ghost use Rattle.vx_rows_values.specs.declared.value.ColType.TheVariants as kind;
 ghost use Rattle.vx_rows_values.specs.Types.{type_at};
@@ -82,14 +82,29 @@ impl NumberCondition {
 }
 
 impl NumberTest for NumberCondition {
-    ghost use Rattle.vx_rows_values.specs.Values.{num, val_cmp};
-    ghost use Rattle.vx_rows_values.specs.ValueView.{test_of};
-    ghost use Rattle.vx_plan_nodes.specs.Serial.{answers};
+    ghost use Rattle.vx_ops_kernels.specs.Interval.{says};
 
-    ghost says = { λ c z. answers (test_of c.test) (val_cmp (num z) (num c.constant)) };
+    ghost says = { λ c z. says c.test c.constant z };
 
     fn passes(&self, number: &i64) -> bool {
         (self.low <= *number && *number <= self.high) == self.inside
+    }
+}
+
+// Two comparisons with constants at once.
+#[derive(Clone, Copy)]
+struct BothConditions {
+    first: NumberCondition,
+    second: NumberCondition,
+}
+
+impl NumberTest for BothConditions {
+    ghost use Rattle.vx_ops_kernels.specs.Interval.{says};
+
+    ghost says = { λ c z. says c.first.test c.first.constant z && says c.second.test c.second.constant z };
+
+    fn passes(&self, number: &i64) -> bool {
+        self.first.passes(number) && self.second.passes(number)
     }
 }
 
@@ -170,6 +185,49 @@ pub fn kept(alloc: Global, condition: &Condition, chunk: Chunk) -> Result<Chunk,
     ensures rows { IfOk result (λ c. c.rows ≡ filter (holds_of condition.now) chunk.rows) }
 {
     let Some(places) = places_that_pass(alloc, condition, &chunk)? else {
+        return Ok(chunk);
+    };
+    places_are_a_filter();
+    Ok(chunk.at(alloc, places.as_slice())?)
+}
+
+// The comparisons with constants that two conditions make of one column of numbers; none where one of them makes another one.
+fn both_conditions(
+    first: &Condition,
+    second: &Condition,
+    types: &[ColType],
+) -> Option<BothConditions>
+    ensures column { IfSome result (λ _. first.now.left < length types.now) }
+    ensures same { IfSome result (λ _. second.now.left ≡ first.now.left) }
+    ensures kind { IfSome result (λ _. type_at types.now first.now.left ≡ kind.Int) }
+    ensures first_test { IfSome result (λ t. t.first.test ≡ first.now.test) }
+    ensures first_constant { IfSome result (λ t. side_of first.now.right ≡ constant (num t.first.constant)) }
+    ensures second_test { IfSome result (λ t. t.second.test ≡ second.now.test) }
+    ensures second_constant { IfSome result (λ t. side_of second.now.right ≡ constant (num t.second.constant)) }
+{
+    if first.left != second.left {
+        return None;
+    }
+    let first = number_condition(first, types)?;
+    let second = number_condition(second, types)?;
+    Some(BothConditions { first, second })
+}
+
+/// The rows of a chunk of which two conditions hold. A column of numbers that both compare with constants is gone over once.
+pub fn kept_both(
+    alloc: Global,
+    first: &Condition,
+    second: &Condition,
+    chunk: Chunk,
+) -> Result<Chunk, AllocError>
+    ensures types { IfOk result (λ c. c.types ≡ chunk.types) }
+    ensures rows { IfOk result (λ c. c.rows ≡ filter (λ r. holds_of first.now r && holds_of second.now r) chunk.rows) }
+{
+    let Some(test) = both_conditions(first, second, chunk.types()) else {
+        let found = kept(alloc, first, chunk)?;
+        return kept(alloc, second, found);
+    };
+    let Some(places) = chunk.places_where(alloc, first.left, &test)? else {
         return Ok(chunk);
     };
     places_are_a_filter();

@@ -7,6 +7,6 @@ mod pairs;
 mod projection;
 
 pub use cells::cell_or_zero;
-pub use chunks::{chosen, kept, sorted_chunks};
+pub use chunks::{chosen, kept, kept_both, sorted_chunks};
 pub use pairs::{left_columns, right_columns};
 pub use projection::{kept_columns, types_at};

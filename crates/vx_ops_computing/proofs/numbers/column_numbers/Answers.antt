@@ -1,41 +1,39 @@
-use Rattle.std.proofs.Common.{◌≡◌, ℕ, ℤ, zero, suc, ◌+◌, ◌-◌, ◌<◌, List, [], ◌∷◌, Vec, Global, length, map, get_or, take, take_all, pos, sym, ap, ◌∙◌, arith}
-use Rattle.std.specs.Prelude.{slice_range}
-use Rattle.std.specs.Vec.{with_items}
-use Rattle.std.proofs.lemmas.List.{length-map, with_items_is}
-use Rattle.vx_rows_values.specs.Values.{Row, num, value_at, pick}
-use Rattle.vx_rows.specs.View.{RowsView, row}
-use Rattle.vx_match_keys.specs.Columns.{number_key}
-use Rattle.vx_ops_computing.specs.declared.numbers.Gathered.TheVariants as gathered
+use Rattle.std.proofs.Common.{◌≡◌, ℕ, ℤ, ◌+◌, ◌<◌, List, [], length, get_or, pos, ap, ◌∙◌, arith}
+use Rattle.vx_rows_values.specs.Values.{Val, Row, num, value_at}
+use Rattle.vx_rows.specs.View.{row}
+use Rattle.vx_rows_views.specs.declared.positions.PositionsRef.{PositionsRef}
+use Rattle.vx_rows_views.specs.declared.positions.PositionsRef.TheVariants.{Range}
+use Rattle.vx_rows_views.specs.Seen.{seen_positions}
+use Rattle.vx_rows_views.specs.Selected.{AreNumbers}
+use Rattle.vx_match_keys.proofs.ColumnFacts.{range-at}
+use Rattle.vx_ops_computing.specs.declared.numbers.Gathered.{Gathered}
 use Rattle.vx_ops_computing.specs.Numbers.{IsGathered}
 use Rattle.vx_ops_computing.proofs.numbers.column_numbers.Goals as goal
 
-same-keys : (column : ℕ) (rows : List Row) (numbers : List ℤ) → map number_key numbers ≡ map (pick (column ∷ [])) rows → (k : ℕ) → k < length rows → value_at (get_or rows k []) column ≡ num (get_or numbers k (pos 0))
-same-keys column [] numbers e k l = absurd (omega arith)
-same-keys column (r ∷ rs) [] e k l = cc
-same-keys column (r ∷ rs) (z ∷ zs) e zero l = cc
-same-keys column (r ∷ rs) (z ∷ zs) e (suc k) l = let t : map number_key zs ≡ map (pick (column ∷ [])) rs = cc in same-keys column rs zs t k (omega arith)
+gathered-as : (n : ℕ) (values also : ℕ → Val) (g : Gathered) → ((k : ℕ) → k < n → values k ≡ also k) → IsGathered n also g → IsGathered n values g
+gathered-as n values also g same h = record { there = h.there; same = λ k l. same k l ∙ h.same k l }
 
-read-numbers : (n column : ℕ) (rows keys : List Row) (numbers : List ℤ) → keys ≡ map (pick (column ∷ [])) rows → length rows ≡ n → length keys ≡ n → map number_key numbers ≡ slice_range keys 0 (0 + n)
-    → (k : ℕ) → k < n → value_at (get_or rows k []) column ≡ num (get_or numbers k (pos 0))
-read-numbers n column rows keys numbers are many long read k l =
-    let whole : 0 + n - 0 ≡ n = omega arith in
-    same-keys column rows numbers (read ∙ (ap (λ m. take m keys) whole ∙ (take_all n keys (omega (arith, long)) ∙ are))) k (omega (arith, many, l))
+module _ (numbers : List ℤ) (at : PositionsRef) (first count column n : ℕ) (rows : List Row) (is : at ≡ Range first count) (many : length rows ≡ n) (are : AreNumbers numbers (seen_positions at) column rows) where
+  place : (k : ℕ) → k < n → get_or (seen_positions at) k 0 ≡ first + k
+  place k l = let long = are.long in range-at at first count k is (omega (arith, l, many, long))
 
-is-gathered : (n column : ℕ) (t : RowsView) (keys : List Row) (numbers : List ℤ) (v : Vec ℤ Global) → v.items ≡ numbers → keys ≡ map (pick (column ∷ [])) t.rows → length t.rows ≡ n → length numbers ≡ n
-    → map number_key numbers ≡ slice_range keys 0 (0 + n) → IsGathered n (λ k. value_at (row t k) column) (gathered.Each v)
-is-gathered n column t keys numbers v is are many long read =
-    let same = ap length is in
-    let keys-long : length keys ≡ n = ap length are ∙ (length-map t.rows (pick (column ∷ [])) ∙ many) in
-    record {
-      there = λ k l. omega (arith, same, long, l);
-      same = λ k l. read-numbers n column t.rows keys numbers are many keys-long read k l ∙ ap (λ (xs : List ℤ). num (get_or xs k (pos 0))) (sym is);
-    }
+  ranged-near : (k : ℕ) → k < n → first + k < length numbers
+  ranged-near k l =
+      let near : get_or (seen_positions at) k 0 < length numbers = are.near k (omega (arith, l, many)) in
+      omega (arith, place k l, near)
 
-pub returns-in_ok-resize-in-Some : goal.returns-in_ok-resize-in-Some
-returns-in_ok-resize-in-Some c =
-    let many : length c.as_mut_slice.result.now ≡ c.args.count = c.as_mut_slice.ensures.len ∙ c.in_ok-resize-in-Some.ensures.len in
-    let long : length c.read.new.numbers ≡ c.args.count = c.read.ensures.len ∙ many in
-    let read : map number_key c.read.new.numbers ≡ slice_range c.in-Some.found 0 (0 + c.args.count) = c.read.ensures.numbers ∙ ap (λ k. slice_range c.in-Some.found 0 (0 + k)) many in
-    let v = with_items c.resize.new.self c.read.new.numbers in
-    let is : v.items ≡ c.read.new.numbers = with_items_is c.resize.new.self c.read.new.numbers (c.read.ensures.len ∙ c.as_mut_slice.ensures.len) in
-    is-gathered c.args.count c.args.column c.args.chunk.now c.in-Some.found c.read.new.numbers v is c.in-Some.ensures c.requires.long long read
+  ranged-value : (k : ℕ) → k < n → value_at (get_or rows k []) column ≡ num (get_or numbers (first + k) (pos 0))
+  ranged-value k l = are.values k (omega (arith, l, many)) ∙ ap (λ (p : ℕ). num (get_or numbers p (pos 0))) (place k l)
+
+pub lying-requires : goal.lying-requires
+lying-requires c =
+    let r = c.in-Some-default-Range in
+    ranged-near r.numbers.now r.field-0-1 r.first r.field-0-1-1 c.args.column c.args.count c.args.chunk.now.rows r.field-0-1-is c.requires.long r.ensures.values
+
+pub returns-in-Some-default-Range : goal.returns-in-Some-default-Range
+returns-in-Some-default-Range c =
+    let r = c.in-Some-default-Range in
+    let rows = c.args.chunk.now.rows in
+    gathered-as c.args.count (λ k. value_at (row c.args.chunk.now k) c.args.column) (λ k. num (get_or r.numbers.now (r.first + k) (pos 0))) c.lying.result
+    (ranged-value r.numbers.now r.field-0-1 r.first r.field-0-1-1 c.args.column c.args.count rows r.field-0-1-is c.requires.long r.ensures.values)
+    c.lying.ensures

@@ -9,7 +9,8 @@ use Rattle.vx_rows_views.specs.Selected.{of_number}
 use Rattle.vx_rows_views.proofs.Maybe.{none_map}
 use Rattle.vx_rows_views.proofs.Passing.{places-same}
 use Rattle.vx_ops_kernels.specs.Holds.{holds_of}
-use Rattle.vx_ops_kernels.proofs.Numbers.{says, number-holds}
+use Rattle.vx_ops_kernels.specs.Interval.{says}
+use Rattle.vx_ops_kernels.proofs.Numbers.{number-holds}
 use Rattle.vx_ops_kernels.proofs.chunks.places_that_pass.Goals as goal
 
 -- on each row the test of the column's number says what the condition does

@@ -1,7 +1,7 @@
 use Rattle.std.proofs.Common.{◌≡◌, ℕ, ◌<◌, ◌≤◌, ◌&&◌, false, Some, length, get_or}
 use Rattle.vx_plan_nodes.specs.Expressions.{says_yes}
 use Rattle.vx_ops_computing.specs.Operands.{operand_at}
-use Rattle.vx_ops_computing.proofs.filtering.leave.Given as goal
+use Rattle.vx_ops_computing.proofs.filtering.leave_by_rows.Given as goal
 
 abbrev pub invariant-loop-k : goal.invariant-loop-k
 invariant-loop-k l = record {

@@ -2,7 +2,7 @@ use Rattle.std.proofs.Common.{◌≡◌, map, take, filter}
 use Rattle.vx_plan_nodes.specs.Functions.{Functions}
 use Rattle.vx_ops_computing.specs.Computed.{comparisons_hold}
 use Rattle.vx_ops_computing.specs.Given.{filter_by}
-use Rattle.vx_ops_computing.proofs.filtering.chosen_compared.Given as goal
+use Rattle.vx_ops_computing.proofs.filtering.chosen_in_turn.Given as goal
 
 abbrev pub invariant-loop-filter : goal.invariant-loop-filter
 invariant-loop-filter l = record {
