@@ -7,6 +7,7 @@ use crate::relations::{BPRIME, ONEK, TENK1, TENK2};
 use std::alloc::{AllocError, Global};
 use std::collections::{HashMap, HashSet};
 use vx_catalog::Database;
+use vx_rows_values::Cell;
 
 /// The rows of a query.
 #[derive(Drop)]
@@ -210,7 +211,13 @@ impl<'t> Columns<'t> {
 // Adds the row of a relation at one of its positions.
 fn add_picked(digest: &mut Digest, database: &Database, relation: usize, position: usize) {
     if relation < database.catalog().len() && position < database.rows(relation).len() {
-        digest.add_cells(database.rows(relation), position);
+        let rows = database.rows(relation);
+        for column in 0..rows.types().len() {
+            match rows.cell(position, column) {
+                Cell::Int(number) => digest.add_number(number),
+                Cell::Text(text) => digest.add_text(text),
+            }
+        }
     }
 }
 

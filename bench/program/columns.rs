@@ -25,12 +25,12 @@ pub struct Columns<'t> {
     pub string4: Vec<&'t str>,
 }
 
-/// The rows of a relation.
-pub fn table_of(database: &Database, relation: usize) -> Result<&Table, Error> {
+/// The rows of a relation, in one table.
+pub fn table_of(alloc: Global, database: &Database, relation: usize) -> Result<Table, Error> {
     if relation >= database.catalog().len() {
         bail!("the catalog has no relation {relation}");
     }
-    Ok(database.rows(relation))
+    Ok(database.rows(relation).gathered(alloc)?)
 }
 
 fn numbers_of(alloc: Global, table: &Table, column: usize) -> Result<Vec<i64>, Error> {
@@ -62,14 +62,13 @@ fn texts_of<'t>(alloc: Global, table: &'t Table, column: usize) -> Result<Vec<&'
 
 impl<'t> Columns<'t> {
     /// The columns of a database.
-    pub fn of(alloc: Global, database: &'t Database) -> Result<Columns<'t>, Error> {
-        let tenk1 = table_of(database, TENK1)?;
+    pub fn of(alloc: Global, database: &Database, tenk1: &'t Table) -> Result<Columns<'t>, Error> {
         Ok(Columns {
             alloc,
             tenk1: numbers_of(alloc, tenk1, 1)?,
-            tenk2: numbers_of(alloc, table_of(database, TENK2)?, 1)?,
-            onek: numbers_of(alloc, table_of(database, ONEK)?, 1)?,
-            bprime: numbers_of(alloc, table_of(database, BPRIME)?, 1)?,
+            tenk2: numbers_of(alloc, &table_of(alloc, database, TENK2)?, 1)?,
+            onek: numbers_of(alloc, &table_of(alloc, database, ONEK)?, 1)?,
+            bprime: numbers_of(alloc, &table_of(alloc, database, BPRIME)?, 1)?,
             unique1: numbers_of(alloc, tenk1, 0)?,
             one_percent: numbers_of(alloc, tenk1, 6)?,
             unique3: numbers_of(alloc, tenk1, 10)?,

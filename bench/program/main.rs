@@ -28,11 +28,11 @@ fn main(rt: HostRuntime) -> Result<(), Error> {
     let bench = Bench::asked(&rt, rt.alloc())?;
     bench.show_head(&rt)?;
     let database = bench.measure_loading(&rt)?;
-    let tenk1 = table_of(&database, TENK1)?;
-    bench.measure_key(&rt, tenk1, "key unique1", 0)?;
-    bench.measure_key(&rt, tenk1, "key stringu1", 13)?;
+    let tenk1 = table_of(bench.alloc, &database, TENK1)?;
+    bench.measure_key(&rt, &tenk1, "key unique1", 0)?;
+    bench.measure_key(&rt, &tenk1, "key stringu1", 13)?;
     bench.measure_writing(&rt, &database)?;
-    let columns = Columns::of(bench.alloc, &database)?;
+    let columns = Columns::of(bench.alloc, &database, &tenk1)?;
     bench.measure_queries(&rt, &database, &columns)?;
     bench.measure_checker(&rt)?;
     bench.measure_ring(&rt)?;

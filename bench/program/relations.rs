@@ -13,7 +13,6 @@ use vx_catalog_loading::load_in_threads;
 use vx_catalog_relations::Catalog;
 use vx_catalog_writing::format_in_threads;
 use vx_rows::Table;
-use vx_rows_views::Rows;
 use vx_wisconsin::{catalog, generate};
 
 /// The relations, by their numbers in the catalog.
@@ -138,14 +137,13 @@ impl Bench {
         if TENK1 >= database.catalog().len() {
             bail!("the catalog has no relation {TENK1}");
         }
-        let table = database.table(TENK1);
-        let rows = Rows::of(self.alloc, table, 0, table.len())?;
+        let rows = database.rows(TENK1);
         let names = database.catalog().get(TENK1).names();
         let start = Instant::now(rt)?;
-        let text = format_rows(self.alloc, names, &rows)?;
+        let text = format_rows(self.alloc, names, rows)?;
         let one = nanos_since(rt, start)?;
         let start = Instant::now(rt)?;
-        let same = format_in_threads(rt, self.alloc, THREADS, names, &rows)?;
+        let same = format_in_threads(rt, self.alloc, THREADS, names, rows)?;
         let four = nanos_since(rt, start)?;
         if same.as_slice() != text.as_slice() {
             bail!("threads make another text");

@@ -49,9 +49,7 @@ fn put_and_written(
     if database.put(loaded).is_err() {
         return Vec::from_slice(alloc, b"rows of another catalog");
     }
-    let count = database.rows(0).len();
-    let rows = Rows::of(alloc, database.table(0), 0, count)?;
-    written(alloc, catalog.get(0).names(), &rows, room)
+    written(alloc, catalog.get(0).names(), database.rows(0), room)
 }
 
 // What one thread answers to the text `text`, of which the reader fails after `fails_after` bytes, if that is some: the
@@ -72,20 +70,11 @@ fn by_one(
     }
 }
 
-// The rows `loaded`, shared: nothing else is left of their database.
-fn shared(alloc: Global, loaded: Loaded) -> Result<Arc<Table>, AllocError> {
-    let relation = loaded.relation();
-    let mut database = Database::empty(alloc, loaded.catalog())?;
-    database.replace(loaded);
-    Ok(Arc::try_clone(database.table(relation))?)
-}
-
 /// The rows `loaded` in two chunks, which outlive their database.
 pub fn in_two_chunks(alloc: Global, loaded: Loaded) -> Result<Rows, AllocError> {
-    let table = shared(alloc, loaded)?;
-    let count = table.len();
-    let mut rows = Rows::of(alloc, &table, 0, count / 2)?;
-    rows.append(Rows::of(alloc, &table, count / 2, count)?)?;
+    let count = loaded.rows().len();
+    let mut rows = loaded.rows().slice(alloc, 0, count / 2)?;
+    rows.append(loaded.rows().slice(alloc, count / 2, count)?)?;
     Ok(rows)
 }
 

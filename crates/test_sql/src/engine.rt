@@ -85,7 +85,7 @@ fn script_of(alloc: Global, database: &Database) -> Result<String, AllocError> {
             alloc,
             &mut script,
             catalog.get(relation),
-            database.rows(relation),
+            &database.rows(relation).gathered(alloc)?,
         )?;
     }
     script.push_str("COMMIT;\n")?;

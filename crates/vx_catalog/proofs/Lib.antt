@@ -8,3 +8,4 @@ pub mod LoadFacts
 pub mod DatabaseFacts
 pub mod CsvFacts
 pub mod Meant
+pub mod PlacedFacts

@@ -104,6 +104,14 @@ unfoldable pub first_fall : List OrderEntry → List Row → Option ℕ
 first_fall order [] = None
 first_fall order (row ∷ rows) = fall_from order 1 row rows
 
+-- the entries of an order, for columns that stand where the order names them, from a place on
+abbrev pub in_place_from : ℕ → List OrderEntry → List OrderEntry
+in_place_from place [] = []
+in_place_from place (e ∷ order) = record { column = place; falling = e.falling } ∷ in_place_from (place + 1) order
+
+abbrev pub in_place : List OrderEntry → List OrderEntry
+in_place order = in_place_from 0 order
+
 abbrev pub no_fall : List Row → Option ℕ → Result (List Row) LoadFault
 no_fall rows None = Ok rows
 no_fall rows (Some row) = Err (fault.OrderBroken row)

@@ -12,8 +12,8 @@ use std::io;
 use std::io::{ErrorKind, Read};
 use std::marker::{Brand, PhantomData};
 use vx_catalog_bytes::ByteIn;
-use vx_rows::Table;
 use vx_rows_values::limits::MAX_TEXT_BYTES;
+use vx_rows_views::Rows;
 
 /// Names a port, and what was known of it when its counting began. A type names them, since the contracts of what reads through a
 /// `LimitedReader` say nothing of it but the bytes that are left.
@@ -107,7 +107,7 @@ impl<'a, R: ByteIn, T: Origin> LimitedReader<'a, R, T> {
     }
 
     /// The result for a text that was read so. All of its bytes are read first, unless memory ran out.
-    pub fn settle(&mut self, read: Result<Table, LoadFault>) -> Result<Table, LoadFault>
+    pub fn settle(&mut self, read: Result<Rows, LoadFault>) -> Result<Rows, LoadFault>
         requires { (read ≡ Err LoadFault.NoMemory) ⊎ StaysKnown T.text (left_of T.text (R.remaining self.old.port.now) self.old.taken self.old.is_at_end) }
         ensures { Settles T.text read result }
     {

@@ -1,30 +1,26 @@
 //! Databases.
 
 ghost use Rattle.std.specs.Prelude.{◌≡◌, ◌≢◌, ◌<◌, ◌≤◌, [], map, length, IfOk, IfErr, OnOk, OnErr};
-ghost use Rattle.std.specs.Arc.{arc_value};
 ghost use Rattle.vx_catalog_relations.specs.Relation.{Meets};
 ghost use Rattle.vx_catalog_relations.specs.Catalog.{relation_at};
 ghost use Rattle.vx_catalog.specs.Database.{rows_at, with_rows, IsDatabase, MeetsAll};
 ghost use Rattle.vx_rows_values.specs.Limits.{max_rows};
 
 use crate::loader::Loaded;
-use crate::shared_table::SharedTable;
 use std::alloc::{AllocError, Global};
 use std::marker::Model;
-use std::sync::Arc;
 use vx_catalog_relations::Catalog;
-use vx_rows::Table;
 use vx_rows_values::KeySeed;
+use vx_rows_views::Rows;
 
 // No rows for each relation of a catalog.
-fn empty_tables(alloc: Global, catalog: &Catalog) -> Result<Vec<SharedTable>, AllocError>
+fn empty_tables(alloc: Global, catalog: &Catalog) -> Result<Vec<Rows>, AllocError>
     ensures database { IfOk result (λ v. IsDatabase catalog.now v.items) }
     ensures empty { IfOk result (λ v. map (λ t. t.rows) v.items ≡ map (λ _. []) catalog.now) }
 {
     let mut tables = Vec::new(alloc);
     for relation in 0..catalog.len() {
-        let rows = Table::new(alloc, catalog.get(relation).types())?;
-        tables.push(SharedTable::new(alloc, rows)?)?;
+        tables.push(Rows::new(alloc, catalog.get(relation).types())?)?;
     }
     Ok(tables)
 }
@@ -32,7 +28,7 @@ fn empty_tables(alloc: Global, catalog: &Catalog) -> Result<Vec<SharedTable>, Al
 /// Rows for each relation of a catalog, 100,000,000 at most for each, which meet all that it declares. They are shared: runs read them in place.
 pub struct Database {
     catalog: Catalog,
-    tables: Vec<SharedTable>,
+    tables: Vec<Rows>,
     seed: KeySeed,
 }
 
@@ -94,24 +90,15 @@ impl Database {
         &self.catalog
     }
 
-    /// The rows of a relation.
-    pub fn rows(&self, relation: usize) -> &Table
+    /// The rows of a relation, in the pieces in which they were read.
+    pub fn rows(&self, relation: usize) -> &Rows
         requires { relation < length self.now.catalog }
         ensures types { result.now.types ≡ (relation_at self.now.catalog relation).types }
         ensures rows { result.now.rows ≡ rows_at self.now relation }
         ensures meets { Meets (relation_at self.now.catalog relation) result.now.rows }
         ensures few { length result.now.rows ≤ max_rows }
     {
-        self.tables[relation].rows()
-    }
-
-    /// The rows of a relation, for whoever is to share them.
-    pub fn table(&self, relation: usize) -> &Arc<Table>
-        requires { relation < length self.now.catalog }
-        ensures types { (arc_value result.now).types ≡ (relation_at self.now.catalog relation).types }
-        ensures rows { (arc_value result.now).rows ≡ rows_at self.now relation }
-    {
-        self.tables[relation].shared()
+        &self.tables[relation]
     }
 
     /// Replaces the rows of one relation by those that were loaded for this catalog.
@@ -120,7 +107,7 @@ impl Database {
         ensures { self.new ≡ with_rows self.old loaded.relation loaded.rows }
     {
         let relation = loaded.relation();
-        self.tables[relation] = loaded.into_table();
+        self.tables[relation] = loaded.into_rows();
     }
 
     /// Replaces the rows of one relation, after a test of their catalog. Rows of another catalog come back.

@@ -8,7 +8,6 @@ mod folder;
 mod loader;
 mod number;
 mod record;
-mod shared_table;
 mod writing;
 
 pub use counted::{Lent, LimitedReader, Origin};
@@ -17,7 +16,6 @@ pub use fault::{LoadFault, WriteFault};
 pub use folder::path_in;
 pub use loader::{Loaded, Loader, read_text, test_rows, texts_are_loaded_exactly};
 pub use record::{is_header, next_record, read_rows};
-pub use shared_table::SharedTable;
 pub use vx_catalog_relations::{
     Catalog, CatalogFault, Relation, catalogs_are_read_exactly, find_name,
 };

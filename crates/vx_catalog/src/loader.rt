@@ -1,9 +1,9 @@
 //! A relation's rows from its text.
 
-ghost use Rattle.std.specs.Prelude.{◌≡◌, ◌≢◌, ◌⊎◌, ◌<◌, ◌≤◌, ◌-◌, length, true, false, Err, IfOk, IfSome, IsErrOf, IfErr};
+ghost use Rattle.std.specs.Prelude.{◌≡◌, ◌≢◌, ◌⊎◌, ◌<◌, ◌≤◌, ◌-◌, length, map, true, false, Err, IfOk, IfSome, IsErrOf, IfErr};
 ghost use Rattle.csv.specs.Reading.{source_of};
 ghost use Rattle.std.specs.Ordering.{is_lt};
-ghost use Rattle.std.specs.List.{AllByRecursion};
+ghost use Rattle.std.specs.List.{AllByRecursion, range_with_len};
 ghost use Rattle.vx_rows_values.specs.Types.{Fits};
 ghost use Rattle.vx_rows.specs.View.{row, AreColumns};
 ghost use Rattle.vx_rows_values.specs.Order.{compare_on, order_columns};
@@ -13,13 +13,15 @@ ghost use Rattle.vx_catalog.specs.Database.{IsLoaded};
 ghost use Rattle.vx_catalog.specs.Meaning.{LoadLaw};
 ghost use Rattle.vx_catalog.specs.Counting.{StaysKnown};
 ghost use Rattle.vx_catalog.specs.Records.{IsPlain, rest_of};
-ghost use Rattle.vx_catalog.specs.Loading.{Gives, under_header, tested, keys_kept, order_kept, first_fall, load_of};
+ghost use Rattle.vx_rows_values.specs.Types.{type_at};
+ghost use Rattle.vx_rows_values.specs.Values.{pick};
+ghost use Rattle.vx_rows_values.specs.Keys.{first_clash};
+ghost use Rattle.vx_catalog.specs.Loading.{in_place, Gives, under_header, tested, keys_kept, order_kept, first_fall, load_of};
 ghost use Rattle.vx_rows_values.specs.Limits.{max_rows};
 
 use crate::counted::{Lent, LimitedReader, Origin};
 use crate::fault::LoadFault;
 use crate::record::{is_header, next_record, read_rows};
-use crate::shared_table::SharedTable;
 use csv::{ByteRecord, Reader, ReaderBuilder};
 use std::alloc::{AllocError, Global};
 use std::io::Read;
@@ -28,9 +30,10 @@ use vx_catalog_bytes::ByteIn;
 use vx_catalog_relations::{Catalog, Relation};
 use vx_rows::{Table, compare_on};
 use vx_rows_values::OrderEntry;
+use vx_rows_views::Rows;
 
-/// The rows under a text's header. It also fails with NoMemory if the source underneath failed.
-pub fn read_text<S: Read>(
+// The rows under a text's header.
+fn read_table<S: Read>(
     alloc: Global,
     relation: &Relation,
     reader: &mut Reader<S>,
@@ -53,6 +56,26 @@ pub fn read_text<S: Read>(
     read_rows(alloc, relation.types(), reader)
 }
 
+/// The rows under a text's header, in one piece. It also fails with NoMemory if the source underneath failed.
+pub fn read_text<S: Read>(
+    alloc: Global,
+    relation: &Relation,
+    reader: &mut Reader<S>,
+) -> Result<Rows, LoadFault>
+    requires { IsPlain reader.old }
+    ensures types { IfOk result (λ r. r.types ≡ relation.now.types) }
+    ensures fit { IfOk result (λ r. AllByRecursion (Fits r.types) r.rows) }
+    ensures rows { IfSome (rest_of S.remaining reader.old) (λ records. Gives (λ r. r.rows) result (under_header relation.now.names relation.now.types records)) }
+    ensures few { IfOk result (λ r. length r.rows ≤ max_rows) }
+    ensures known { (result ≡ Err LoadFault.NoMemory) ⊎ StaysKnown (source_of S.remaining reader.old) (source_of S.remaining reader.new) }
+    ensures own { IfErr result (λ e. e ≢ LoadFault.ReadFailed) }
+{
+    match read_table(alloc, relation, reader) {
+        Ok(table) => Ok(Rows::of_table(alloc, table)?),
+        Err(fault) => Err(fault),
+    }
+}
+
 // The first row that is smaller than the one before it.
 #[tactic(auto, unfolding(crate::specs::Loading::first_fall))]
 fn first_fall(rows: &Table, order: &[OrderEntry]) -> Option<usize>
@@ -67,25 +90,82 @@ fn first_fall(rows: &Table, order: &[OrderEntry]) -> Option<usize>
     None
 }
 
+// Some columns of rows, in one table: so a loop goes to any two rows at once.
+fn columns_of(alloc: Global, rows: &Rows, columns: &[usize]) -> Result<Table, AllocError>
+    requires { AreColumns (length rows.now.types) columns.now }
+    ensures types { IfOk result (λ t. t.types ≡ map (type_at rows.now.types) columns.now) }
+    ensures rows { IfOk result (λ t. t.rows ≡ map (pick columns.now) rows.now.rows) }
+{
+    rows.project(alloc, columns)?.gathered(alloc)
+}
+
+// The places of so many columns.
+fn places_of(alloc: Global, count: usize) -> Result<Vec<usize>, AllocError>
+    ensures { IfOk result (λ v. v.items ≡ range_with_len 0 count) }
+{
+    let mut places = Vec::new(alloc);
+    for place in 0..count {
+        places.push(place)?;
+    }
+    Ok(places)
+}
+
+// The columns of an order.
+fn order_columns(alloc: Global, order: &[OrderEntry]) -> Result<Vec<usize>, AllocError>
+    ensures { IfOk result (λ v. v.items ≡ order_columns order.now) }
+{
+    order.iter().map(|entry| entry.column).collect(alloc)
+}
+
+// An order of the columns that another one names, each at the place at which it is named.
+fn in_place(alloc: Global, order: &[OrderEntry]) -> Result<Vec<OrderEntry>, AllocError>
+    ensures { IfOk result (λ v. v.items ≡ in_place order.now) }
+{
+    let mut found = Vec::new(alloc);
+    for (column, entry) in order.iter().enumerate() {
+        found.push(OrderEntry {
+            column,
+            falling: entry.falling,
+        })?;
+    }
+    Ok(found)
+}
+
 // Tests that no row is smaller than the one before it.
-fn test_order(rows: &Table, order: &[OrderEntry]) -> Result<(), LoadFault>
+fn test_order(alloc: Global, rows: &Rows, order: &[OrderEntry]) -> Result<(), LoadFault>
     requires { AreColumns (length rows.now.types) (order_columns order.now) }
     ensures { Gives (λ _. rows.now.rows) result (order_kept order.now rows.now.rows) }
 {
-    match first_fall(rows, order) {
+    let columns = order_columns(alloc, order)?;
+    let table = columns_of(alloc, rows, columns.as_slice())?;
+    match first_fall(&table, in_place(alloc, order)?.as_slice()) {
         Some(row) => Err(LoadFault::OrderBroken { row }),
         None => Ok(()),
     }
 }
 
+// The first two rows that agree on these columns.
+fn first_clash(
+    alloc: Global,
+    rows: &Rows,
+    columns: &[usize],
+) -> Result<Option<(usize, usize)>, AllocError>
+    requires { AreColumns (length rows.now.types) columns.now }
+    ensures { IfOk result (λ o. o ≡ first_clash columns.now rows.now.rows) }
+{
+    let table = columns_of(alloc, rows, columns)?;
+    let places = places_of(alloc, columns.len())?;
+    table.first_key_clash(alloc, places.as_slice())
+}
+
 // Tests the keys of a relation in declared order.
-fn test_keys(alloc: Global, rows: &Table, relation: &Relation) -> Result<(), LoadFault>
+fn test_keys(alloc: Global, rows: &Rows, relation: &Relation) -> Result<(), LoadFault>
     requires types { length rows.now.types ≡ length relation.now.names }
     requires relation { IsRelation relation.now }
     ensures { Gives (λ _. rows.now.rows) result (keys_kept 0 relation.now.keys rows.now.rows) }
 {
     for key in 0..relation.key_count() {
-        let clash = rows.first_key_clash(alloc, relation.key(key))?;
+        let clash = first_clash(alloc, rows, relation.key(key))?;
         match clash {
             Some((first, second)) => return Err(LoadFault::KeyBroken { key, first, second }),
             None => {}
@@ -95,7 +175,7 @@ fn test_keys(alloc: Global, rows: &Table, relation: &Relation) -> Result<(), Loa
 }
 
 /// The rows of a relation, if they meet its keys and then its order.
-pub fn test_rows(alloc: Global, relation: &Relation, rows: Table) -> Result<Table, LoadFault>
+pub fn test_rows(alloc: Global, relation: &Relation, rows: Rows) -> Result<Rows, LoadFault>
     requires relation { IsRelation relation.now }
     requires types { rows.types ≡ relation.now.types }
     requires fit { AllByRecursion (Fits rows.types) rows.rows }
@@ -104,7 +184,7 @@ pub fn test_rows(alloc: Global, relation: &Relation, rows: Table) -> Result<Tabl
     ensures meets { IfOk result (λ r. Meets relation.now r.rows) }
 {
     test_keys(alloc, &rows, relation)?;
-    test_order(&rows, relation.order())?;
+    test_order(alloc, &rows, relation.order())?;
     Ok(rows)
 }
 
@@ -115,7 +195,7 @@ fn load_text<'p, R: ByteIn, T: Origin>(
     alloc: Global,
     relation: &Relation,
     port: &'p mut R,
-    loaded: &mut Result<Table, LoadFault>,
+    loaded: &mut Result<Rows, LoadFault>,
 ) -> Lent<'p, R>
     requires text { R.remaining port.now ≡ T.text }
     requires whole { T.is_reliable ≡ true → (R.is_reliable port.now ≡ true) × (R.has_failed port.now ≡ false) }
@@ -148,7 +228,7 @@ fn load_text<'p, R: ByteIn, T: Origin>(
 pub struct Loaded {
     catalog: Catalog,
     relation: usize,
-    table: SharedTable,
+    rows: Rows,
 }
 
 impl Model for Loaded {
@@ -159,19 +239,14 @@ impl Model for Loaded {
 
     ghost Value = { LoadedRows };
 
-    ghost view = { λ l. record { catalog = l.catalog; relation = l.relation; rows = l.table.rows } };
+    ghost view = { λ l. record { catalog = l.catalog; relation = l.relation; rows = l.rows.rows } };
 
-    ghost invariant = { λ l. IsLoaded l.catalog l.relation l.table };
+    ghost invariant = { λ l. IsLoaded l.catalog l.relation l.rows };
 }
 
 impl Loaded {
     /// Rows of a relation of a catalog, which meet it. Whoever read them has tested that, as `test_rows` does.
-    pub fn new(
-        alloc: Global,
-        catalog: &Catalog,
-        relation: usize,
-        rows: Table,
-    ) -> Result<Loaded, AllocError>
+    pub fn new(catalog: &Catalog, relation: usize, rows: Rows) -> Result<Loaded, AllocError>
         requires there { relation < length catalog.now }
         requires types { rows.types ≡ (relation_at catalog.now relation).types }
         requires meets { Meets (relation_at catalog.now relation) rows.rows }
@@ -183,7 +258,7 @@ impl Loaded {
         Ok(Loaded {
             catalog: catalog.share()?,
             relation,
-            table: SharedTable::new(alloc, rows)?,
+            rows,
         })
     }
 
@@ -203,21 +278,21 @@ impl Loaded {
     }
 
     /// The rows of the relation.
-    pub fn rows(&self) -> &Table
+    pub fn rows(&self) -> &Rows
         ensures types { result.now.types ≡ (relation_at self.now.catalog self.now.relation).types }
         ensures rows { result.now.rows ≡ self.now.rows }
         ensures meets { Meets (relation_at self.now.catalog self.now.relation) result.now.rows }
         ensures few { length result.now.rows ≤ max_rows }
     {
-        self.table.rows()
+        &self.rows
     }
 
     /// The rows alone.
-    pub(crate) fn into_table(self) -> SharedTable
+    pub(crate) fn into_rows(self) -> Rows
         ensures loaded { IsLoaded self.catalog self.relation result }
         ensures rows { result.rows ≡ self.rows }
     {
-        self.table
+        self.rows
     }
 }
 
@@ -256,7 +331,7 @@ impl Loader {
         if lent.port.failed() {
             return Err(LoadFault::ReadFailed);
         }
-        Ok(Loaded::new(alloc, catalog, relation, read?)?)
+        Ok(Loaded::new(catalog, relation, read?)?)
     }
 }
 

@@ -6,7 +6,7 @@ use Rattle.vx_rows.specs.View.{RowsView}
 use Rattle.vx_rows.specs.Parts.{rows_of_all, HaveTypes}
 use Rattle.vx_catalog.specs.declared.fault.LoadFault.{LoadFault}
 use Rattle.vx_catalog.specs.declared.fault.LoadFault.TheVariants as fault
-use Rattle.vx_catalog.specs.Loading.{Gives, records_of, rows_onto}
+use Rattle.vx_catalog.specs.Loading.{Fails, Gives, records_of, rows_onto}
 use Rattle.vx_catalog_split.specs.Split.{is_unquoted}
 use Rattle.vx_rows_values.specs.Limits.{max_rows}
 
@@ -39,6 +39,14 @@ may_cut_before (c ∷ rest) = c == 10
 -- the rows of the records of a text, behind those at the front
 abbrev pub rows_of_text : List ColType → List Row → List ℕ → Result (List Row) LoadFault
 rows_of_text types front text = rows_onto types front (records_of text)
+
+-- lines were read into rows, but for what is left of them: whatever follows where the text may be cut, its rows are those now, and those of what is left and follows
+abbrev pub AreLinesRead : List ColType → List Row → List ℕ → List Row → List ℕ → Type 0
+AreLinesRead types front lines rows left = (rest : List ℕ) → may_cut_before rest ≡ true → rows_of_text types front (lines ++ rest) ≡ rows_of_text types rows (left ++ rest)
+
+-- why lines behind the rows at the front are refused
+abbrev pub LinesFail : List ColType → List Row → List ℕ → LoadFault → Type 0
+LinesFail types front lines e = (rest : List ℕ) → may_cut_before rest ≡ true → Fails e (rows_of_text types front (lines ++ rest))
 
 -- where the pieces of a text begin, and `end`, where the last of them ends: the text may be cut at each of these places but the first, which is its start
 pub record AreCuts (text cuts : List ℕ) (end : ℕ) : Type 0 where

@@ -14,17 +14,17 @@ use std::thread::Threads;
 use vx_catalog::{Lent, LimitedReader, LoadFault, Loaded, Loader, Origin, test_rows};
 use vx_catalog_bytes::ByteIn;
 use vx_catalog_relations::{Catalog, Relation};
-use vx_rows::Table;
 use vx_rows_values::limits::MAX_THREADS;
+use vx_rows_views::Rows;
 
 // How many bytes each thread gets in a round.
-const BLOCK: usize = 4 << 20;
+const BLOCK: usize = 2 << 20;
 
 // A text of fewer bytes is read by one thread, since starting threads costs more than they save.
-const LEAST: usize = 256 << 10;
+const LEAST: usize = 4 << 20;
 
 // Tests rows that a table has. That they fit its types, the table says itself.
-fn test_table(alloc: Global, relation: &Relation, rows: Table) -> Result<Table, LoadFault>
+fn test_read(alloc: Global, relation: &Relation, rows: Rows) -> Result<Rows, LoadFault>
     requires relation { IsRelation relation.now }
     requires types { rows.types ≡ relation.now.types }
     ensures same { IfOk result (λ r. r ≡ rows) }
@@ -44,7 +44,7 @@ fn load_text<'p, P: Threads + Sync, R: ByteIn, T: Origin>(
     relation: &Relation,
     shares: ReadShares,
     port: &'p mut R,
-    loaded: &mut Result<Table, LoadFault>,
+    loaded: &mut Result<Rows, LoadFault>,
 ) -> Lent<'p, R>
     requires threads { 0 < shares.threads }
     requires text { R.remaining port.now ≡ T.text }
@@ -62,7 +62,7 @@ fn load_text<'p, P: Threads + Sync, R: ByteIn, T: Origin>(
     let counted = LimitedReader::<R, T>::new(port);
     let Finished { read, mut source } = read_in_threads(rt, alloc, relation, shares, counted);
     let tested = match source.settle(read) {
-        Ok(rows) => test_table(alloc, relation, rows),
+        Ok(rows) => test_read(alloc, relation, rows),
         Err(fault) => Err(fault),
     };
     *loaded = tested;
@@ -99,15 +99,15 @@ pub fn load_in_shares<P: Threads + Sync, R: ByteIn>(
     if lent.port.failed() {
         return Err(LoadFault::ReadFailed);
     }
-    Ok(Loaded::new(alloc, catalog, relation, read?)?)
+    Ok(Loaded::new(catalog, relation, read?)?)
 }
 
 /// Reads the rows of a relation of a catalog from all bytes of `reader`, in up to `threads` threads. It returns what
 /// `Loader::load` returns, which one thread calls.
 ///
-/// The text is read by rounds over one buffer of some megabytes, in which the longest line has room. In a round each thread reads a
-/// part of its lines, and their rows are put behind those so far, each column by a thread of its own. From the first part with a
-/// quote on one thread reads the rest, since a line feed within quotes ends no row.
+/// A text of less than 4 MB is read by one thread. A longer one is read by rounds of some megabytes, in which the longest line has
+/// room. In a round each thread reads a part of its lines into a table of their rows, while one reads the bytes of the next round. From
+/// the first part with a quote on one thread reads the rest, since a line feed within quotes ends no row.
 pub fn load_in_threads<P: Threads + Sync, R: ByteIn>(
     rt: &P,
     alloc: Global,

@@ -1,12 +1,12 @@
 //! The rows of the pieces of a text, each read by a thread of its own, behind the rows so far.
 
 ghost use Rattle.std.specs.Prelude.{◌≡◌, ℕ, ◌+◌, ◌-◌, ◌<◌, ◌≤◌, ◌++◌, [], drop, length, true, List, Result, Option, IfErr, IfOk, OnOk, slice_index, slice_index_or, vec_len};
-ghost use Rattle.vx_rows.specs.Parts.{rows_of_all};
+ghost use Rattle.vx_rows.specs.Parts.{rows_of_all, HaveTypes};
 ghost use Rattle.vx_rows_values.specs.Values.{Row};
 ghost use Rattle.vx_rows_values.specs.declared.value.ColType.{ColType as Kind};
 ghost use Rattle.vx_catalog_split.specs.Split.{is_unquoted};
 ghost use Rattle.vx_catalog.specs.Loading.{Fails, Gives};
-ghost use Rattle.vx_catalog_loading.specs.Pieces.{may_cut_before, rows_of_text, fault_behind, piece_at, AreCuts, IsPieceRead, ArePieces, Joined};
+ghost use Rattle.vx_catalog_loading.specs.Pieces.{rows_of_text, fault_behind, piece_at, AreCuts, AreLinesRead, LinesFail, IsPieceRead, ArePieces, Joined};
 ghost use Rattle.vx_rows_values.specs.Limits.{max_rows};
 
 use crate::cuts::cuts_of;
@@ -18,6 +18,7 @@ use vx_catalog::{LoadFault, read_rows};
 use vx_rows::Table;
 use vx_rows_values::ColType;
 use vx_rows_values::limits::MAX_ROWS;
+use vx_rows_views::Rows;
 
 /// Whether bytes have no quote.
 pub fn is_unquoted(bytes: &[u8]) -> bool
@@ -122,6 +123,18 @@ fn tables_of(
     Ok(tables)
 }
 
+// Adds the rows of tables, of which each stays a piece of its own.
+fn append_tables(alloc: Global, rows: &mut Rows, tables: Vec<Table>) -> Result<(), AllocError>
+    requires { HaveTypes rows.old.types tables.items }
+    ensures types { rows.new.types ≡ rows.old.types }
+    ensures rows { OnOk result (rows.new.rows ≡ rows.old.rows ++ rows_of_all tables.items) }
+{
+    for table in tables {
+        rows.append(Rows::of_table(alloc, table)?)?;
+    }
+    Ok(())
+}
+
 /// Adds the rows of `text` to `rows`, up to the first piece that has a quote, and returns how many bytes were read. The text is
 /// cut into `threads` pieces, and a thread of its own reads each.
 pub fn read_round<P: Threads + Sync>(
@@ -129,22 +142,20 @@ pub fn read_round<P: Threads + Sync>(
     alloc: Global,
     threads: usize,
     text: &[u8],
-    rows: &mut Table,
+    rows: &mut Rows,
 ) -> Result<usize, LoadFault>
     requires threads { 0 < threads }
     requires few { length rows.old.rows ≤ max_rows }
     ensures types { rows.new.types ≡ rows.old.types }
     ensures few { OnOk result (length rows.new.rows ≤ max_rows) }
     ensures within { IfOk result (λ n. n ≤ length text.now) }
-
-    // Whatever follows the text, if it may be cut there: all rows are those so far and those of what is left.
-    ensures rows { IfOk result (λ n. (rest : List ℕ) → may_cut_before rest ≡ true
-        → rows_of_text rows.old.types rows.old.rows (text.now ++ rest) ≡ rows_of_text rows.old.types rows.new.rows (drop n text.now ++ rest)) }
-    ensures err { IfErr result (λ e. (rest : List ℕ) → may_cut_before rest ≡ true → Fails e (rows_of_text rows.old.types rows.old.rows (text.now ++ rest))) }
+    ensures rows { IfOk result (λ n. AreLinesRead rows.old.types rows.old.rows text.now rows.new.rows (drop n text.now)) }
+    ensures err { IfErr result (LinesFail rows.old.types rows.old.rows text.now) }
 {
     let cuts = cuts_of(alloc, text, threads)?;
     let parts = read_pieces(rt, alloc, rows.types(), text, cuts.as_slice())?;
     let tables = tables_of(alloc, rows.len(), parts)?;
-    rows.append_all(rt, tables.as_slice())?;
-    Ok(cuts[tables.len()])
+    let read = tables.len();
+    append_tables(alloc, rows, tables)?;
+    Ok(cuts[read])
 }

@@ -22,6 +22,7 @@ use vx_catalog::{LoadFault, read_rows, read_text};
 use vx_catalog_relations::Relation;
 use vx_rows::Table;
 use vx_rows_values::limits::MAX_ROWS;
+use vx_rows_views::Rows;
 
 // Takes the first line of a text out of a buffer, and returns its rows. None, if threads may not read what follows it, since it
 // does not end here, or has a quote or no record: then nothing is taken.
@@ -57,7 +58,7 @@ fn read_front<P: Threads + Sync, S: Read>(
     shares: ReadShares,
     source: &mut S,
     buffer: &mut Vec<u8>,
-) -> Result<Option<Table>, LoadFault>
+) -> Result<Option<Rows>, LoadFault>
     requires { 0 < shares.threads }
     ensures types { IfOk result (λ front. IfSome front (λ t. t.types ≡ relation.now.types)) }
     ensures few { IfOk result (λ front. IfSome front (λ t. length t.rows ≤ max_rows)) }
@@ -69,16 +70,17 @@ fn read_front<P: Threads + Sync, S: Read>(
     if fill(source, buffer, shares.least)? {
         return Ok(None);
     }
-    let Some(mut rows) = take_first_line(alloc, relation, buffer)? else {
+    let Some(first) = take_first_line(alloc, relation, buffer)? else {
         return Ok(None);
     };
+    let mut rows = Rows::of_table(alloc, first)?;
     read_rounds(rt, alloc, shares, source, buffer, &mut rows)?;
     Ok(Some(rows))
 }
 
 // Rows behind others, if there are not too many.
 #[tactic(auto, unfolding(crate::specs::Pieces::behind))]
-fn join(front: Table, rest: Table) -> Result<Table, LoadFault>
+fn join(alloc: Global, front: Rows, rest: Table) -> Result<Rows, LoadFault>
     requires types { rest.types ≡ front.types }
     requires few { length front.rows ≤ max_rows }
     requires rest { length rest.rows ≤ max_rows }
@@ -86,23 +88,16 @@ fn join(front: Table, rest: Table) -> Result<Table, LoadFault>
     ensures few { IfOk result (λ r. length r.rows ≤ max_rows) }
     ensures rows { Gives (λ r. r.rows) result (behind front.rows (Ok rest.rows)) }
 {
-    if front.len() == 0 {
-        return Ok(rest);
-    }
     if rest.len() > MAX_ROWS - front.len() {
         return Err(LoadFault::TooLarge);
     }
     let mut all = front;
-    all.append_range(&rest, 0, rest.len())?;
+    all.append(Rows::of_table(alloc, rest)?)?;
     Ok(all)
 }
 
 // The rows of the records that a reader has left, behind others.
-fn read_rest<S: Read>(
-    alloc: Global,
-    front: Table,
-    reader: &mut Reader<S>,
-) -> Result<Table, LoadFault>
+fn read_rest<S: Read>(alloc: Global, front: Rows, reader: &mut Reader<S>) -> Result<Rows, LoadFault>
     requires plain { IsPlain reader.old }
     requires few { length front.rows ≤ max_rows }
     ensures types { IfOk result (λ r. r.types ≡ front.types) }
@@ -112,7 +107,7 @@ fn read_rest<S: Read>(
     ensures own { IfErr result (λ e. e ≢ LoadFault.ReadFailed) }
 {
     match read_rows(alloc, front.types(), reader) {
-        Ok(rest) => join(front, rest),
+        Ok(rest) => join(alloc, front, rest),
         Err(fault) => Err(fault_of(front.len(), fault)),
     }
 }
@@ -120,7 +115,7 @@ fn read_rest<S: Read>(
 /// What was read of a source, and the source.
 #[derive(Drop)]
 pub struct Finished<S> {
-    pub read: Result<Table, LoadFault>,
+    pub read: Result<Rows, LoadFault>,
     pub source: S,
 }
 
@@ -128,7 +123,7 @@ pub struct Finished<S> {
 fn finish<S: Read + Drop>(
     alloc: Global,
     relation: &Relation,
-    front: Option<Table>,
+    front: Option<Rows>,
     held: &[u8],
     source: S,
 ) -> Finished<S>

@@ -181,10 +181,11 @@ impl<'j, F: Copy> Job<'j, F> {
         ensures rows { IfOk result (λ r. r.rows ≡ morsel_of self.now.morsel (rows_at self.now.database.now relation) number) }
         ensures types { IfOk result (λ r. r.types ≡ (relations self.now.plan.now relation).types) }
     {
-        let count = self.database.rows(relation).len();
+        let rows = self.database.rows(relation);
+        let count = rows.len();
         let from = (number as usize).saturating_mul(self.morsel).min(count);
         let to = from + self.morsel.min(count - from);
-        Rows::of(self.alloc, self.database.table(relation), from, to)
+        rows.slice(self.alloc, from, to)
     }
 }
 

@@ -34,8 +34,8 @@ fn eval_node<F: PlanFunctions>(
 {
     match node {
         TypedNode::Scan(_, scan) => {
-            let table = database.table(scan.relation);
-            Ok(Rows::of(alloc, table, 0, table.len())?)
+            let rows = database.rows(scan.relation);
+            Ok(rows.slice(alloc, 0, rows.len())?)
         }
         TypedNode::Unary(head, unary, input) => {
             let rows = eval_node(alloc, functions, database, input)?;

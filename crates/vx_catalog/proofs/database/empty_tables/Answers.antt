@@ -13,8 +13,8 @@ loop-relation-preserved c =
     rw c.in_ok-push.ensures.items (record {
       many = long ∙ omega (arith, many);
       types = pushed (λ (i : ℕ) (t : RowsView). t.types ≡ (relation_at c.args.catalog.now i).types) c.loop-relation.tables.items c.in_ok-new.field-0 c.loop-relation.relation many c.loop-relation.invariant.types
-          (ap (λ (t : RowsView). t.types) c.in_ok-new.ensures ∙ (c.in_ok-rows.ensures.types ∙ (c.types.ensures ∙ ap (λ (r : Relation). r.types) c.get.ensures.value)));
-      empty = pushed (λ (i : ℕ) (t : RowsView). t.rows ≡ []) c.loop-relation.tables.items c.in_ok-new.field-0 c.loop-relation.relation many c.loop-relation.invariant.empty (ap (λ (t : RowsView). t.rows) c.in_ok-new.ensures ∙ c.in_ok-rows.ensures.rows);
+          (c.in_ok-new.ensures.types ∙ (c.types.ensures ∙ ap (λ (r : Relation). r.types) c.get.ensures.value));
+      empty = pushed (λ (i : ℕ) (t : RowsView). t.rows ≡ []) c.loop-relation.tables.items c.in_ok-new.field-0 c.loop-relation.relation many c.loop-relation.invariant.empty c.in_ok-new.ensures.rows;
     })
 
 pub returns-clause-database : goal.returns-clause-database

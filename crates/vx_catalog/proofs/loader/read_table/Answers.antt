@@ -3,7 +3,7 @@ use Rattle.csv.specs.Records.{fields_of}
 use Rattle.vx_catalog.specs.Records.{rest_of}
 use Rattle.vx_catalog.specs.Loading.{is_header}
 use Rattle.vx_catalog.proofs.LoadFacts.{under_reported}
-use Rattle.vx_catalog.proofs.loader.read_text.Goals as goal
+use Rattle.vx_catalog.proofs.loader.read_table.Goals as goal
 
 pub returns-clause-rows : goal.returns-clause-rows
 returns-clause-rows g c =
