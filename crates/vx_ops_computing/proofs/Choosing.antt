@@ -79,7 +79,7 @@ hold-one : (f : Filter) (row : Row) → (computed_holds f row && comparison_hold
 hold-one (comparing c) row = refl
 hold-one (computing e) row = and-true (says_yes (answer e row))
 
-and-mixed : (a b c d : Bool) → ((a && b) && (c && d)) ≡ ((a && c) && (b && d))
+pub and-mixed : (a b c d : Bool) → ((a && b) && (c && d)) ≡ ((a && c) && (b && d))
 and-mixed true true c d = refl
 and-mixed true false true d = refl
 and-mixed true false false d = refl

@@ -11,6 +11,7 @@ pub mod ColumnsOf
 pub mod Widening
 pub mod Entries
 pub mod Choosing
+pub mod IntervalFacts
 pub mod ChunkFacts
 pub mod BlockFacts
 pub mod TestFacts

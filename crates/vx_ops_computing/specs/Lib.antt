@@ -10,3 +10,4 @@ pub mod Blocks
 pub mod Tested
 pub mod Projecting
 pub mod Computed
+pub mod Intervals

@@ -22,6 +22,7 @@ ghost use Rattle.vx_ops_computing.specs.Projecting.{FilterFails};
 use crate::blocks::BLOCK;
 use crate::expressions::evaluated;
 use crate::fault::ComputeFault;
+use crate::intervals::{interval_of, within};
 use crate::masks::places_in;
 use crate::operands::Operand;
 use crate::pairs::holds;
@@ -199,11 +200,14 @@ fn chosen_in_turn(alloc: Global, filters: &[Filter], chunk: Chunk) -> Result<Chu
     Ok(found)
 }
 
-// The rows of a chunk of which the comparisons hold. Two alone are asked in one loop.
+// The rows of a chunk of which the comparisons hold. Those of one column that make an interval are asked as one, and two others in one loop.
 fn chosen_compared(alloc: Global, filters: &[Filter], chunk: Chunk) -> Result<Chunk, AllocError>
     ensures types { IfOk result (λ c. c.types ≡ chunk.types) }
     ensures rows { IfOk result (λ c. (given : Functions) → c.rows ≡ filter (comparisons_hold (map (filter_by given) filters.now)) chunk.rows) }
 {
+    if let Some(interval) = interval_of(filters, chunk.types()) {
+        return within(alloc, &interval, chunk);
+    }
     if let [first, second] = filters
         && let Filter::Compared(first) = first
         && let Filter::Compared(second) = second

@@ -8,6 +8,7 @@ mod columns;
 mod expressions;
 mod fault;
 mod filtering;
+mod intervals;
 mod loops;
 mod masks;
 mod numbers;
