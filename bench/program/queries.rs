@@ -18,6 +18,7 @@ use vx_exec_parallel::{Threading, run_threads};
 use vx_exec_runs::RunOutcome;
 use vx_exec_setup::{RunCounts, Setup};
 use vx_exec_threads::Free;
+use vx_exec_watch::Unwatched;
 use vx_plan::{erase, resolve};
 use vx_plan_json::Plan;
 use vx_plan_nodes::{StandardFunctions, TypedPlan};
@@ -194,6 +195,7 @@ impl<'t> Query<'t> {
             &StandardFunctions,
             &ByteRouter,
             u64::MAX,
+            &Unwatched,
             &mut unread,
         )? {
             RunOutcome::Done(rows) => {
@@ -211,8 +213,8 @@ impl<'t> Query<'t> {
         workers: u32,
     ) -> Result<Outcome, Error> {
         let setup = self.setup(alloc, workers)?;
-        let (router, gate) = (ByteRouter, Free);
-        let threading = Threading::new(&router, &gate);
+        let (router, gate, watch) = (ByteRouter, Free, Unwatched);
+        let threading = Threading::new(&router, &gate, &watch);
         let mut unread = RunCounts::unread(alloc);
         let start = Instant::now(rt)?;
         match run_threads(

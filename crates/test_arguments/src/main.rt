@@ -33,6 +33,13 @@ fn described(alloc: Global, request: &Request<'_>) -> Result<String, AllocError>
         None | Some("none") => {}
         Some(format) => return format!(in alloc; "{asked:?}, statistics: {format}"),
     }
+    if let Some(path) = request.output {
+        return format!(in alloc; "{asked:?}, rows to {path}");
+    }
+    match request.layout {
+        None | Some("csv") => {}
+        Some(layout) => return format!(in alloc; "{asked:?}, rows as {layout}"),
+    }
     match request.threads {
         None | Some(0) => format!(in alloc; "{asked:?}"),
         Some(threads) => format!(in alloc; "{asked:?}, {threads} threads"),

@@ -1,4 +1,4 @@
-//! Whether catalogs are read, rows loaded, kept and written, as files of cases say: in one thread and in several, with
+//! Whether catalogs are read and found, rows loaded, kept and written, as files of cases say: in one thread and in several, with
 //! readers and writers that fail, and with memory that is refused.
 //!
 //! The words of the command line name files of cases. A line of a file is a case (`Case`), a note, which begins with `#`,
@@ -9,6 +9,8 @@
 mod case;
 mod catalogs;
 mod expect;
+mod found;
+mod layouts;
 mod loading;
 mod ports;
 mod rows;
@@ -37,10 +39,14 @@ fn compare<R: Threads + Sync>(
     match case.call {
         "catalog" => catalogs::compare_text(alloc, text, wanted),
         "fronts" => catalogs::compare_fronts(alloc, text, wanted),
+        "found" => found::compare_found(rt, alloc, text, wanted),
         "load" => loading::compare_ways(rt, alloc, setting, text, None, wanted),
         "fail" => loading::compare_failing(rt, alloc, setting, text, wanted),
         "full" => writing::compare_rooms(alloc, setting, text, wanted),
         "bare" => writing::compare_no_columns(rt, alloc, setting, text, wanted),
+        "json" => layouts::compare_json(alloc, setting, text, wanted),
+        "table" => layouts::compare_table(alloc, setting, None, text, wanted),
+        "screen" => layouts::compare_screen(alloc, setting, case, text, wanted),
         "second" => writing::compare_second(rt, alloc, setting, text, wanted),
         "read" => ports::compare_reads(alloc, text, wanted),
         "write" => ports::compare_writes(alloc, text, wanted),

@@ -14,8 +14,8 @@ use vx_catalog_bytes::{MemoryIn, MemoryOut};
 use vx_catalog_relations::Catalog;
 use vx_rows_views::Rows;
 
-// The rows of relation 0 of the catalog `catalog` that the text `text` has.
-fn rows_of(alloc: Global, catalog: &Catalog, text: &[u8]) -> Result<Rows, Wrong>
+/// The rows of relation 0 of the catalog `catalog` that the text `text` has.
+pub fn rows_of(alloc: Global, catalog: &Catalog, text: &[u8]) -> Result<Rows, Wrong>
     requires { 0 < length catalog.now }
 {
     match Loader::load(alloc, catalog, 0, &mut MemoryIn::new(text, None)) {

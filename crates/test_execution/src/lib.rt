@@ -33,6 +33,8 @@ mod runs;
 #[cfg(test)]
 mod schedules;
 #[cfg(test)]
+mod told;
+#[cfg(test)]
 mod ways;
 #[cfg(test)]
 mod worked;

@@ -11,6 +11,7 @@ use vx_exec_parallel::{Threading, run_threads};
 use vx_exec_runs::RunOutcome;
 use vx_exec_setup::{EvalFault, RunCounts, RunFault, Setup};
 use vx_exec_threads::Gate;
+use vx_exec_watch::Unwatched;
 use vx_plan::erase;
 use vx_plan_nodes::{PlanFunctions, Router};
 use vx_rows_views::Rows;
@@ -69,7 +70,7 @@ pub fn by_rounds<F: PlanFunctions + Copy, R: Router>(
     outcome(
         alloc,
         run_rounds(
-            alloc, plan, database, setup, functions, router, limit, counts,
+            alloc, plan, database, setup, functions, router, limit, &Unwatched, counts,
         ),
     )
 }
@@ -121,7 +122,7 @@ pub fn by_threads<
     case: &Case,
     setup: &Setup,
     functions: &F,
-    threading: &Threading<'_, R, G>,
+    threading: &Threading<'_, R, G, Unwatched>,
     counts: &mut RunCounts,
 ) -> Result<String, AllocError> {
     let (plan, database) = (&case.plan, &case.database);

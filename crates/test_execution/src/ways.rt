@@ -32,6 +32,7 @@ use std::thread::Threads;
 use vx_exec_parallel::Threading;
 use vx_exec_setup::{RunCounts, RunFault, Setup};
 use vx_exec_threads::Free;
+use vx_exec_watch::Unwatched;
 use vx_plan_nodes::{PlanFunctions, Router, StandardFunctions};
 use vx_rows_values::limits::MAX_WORKERS;
 
@@ -135,8 +136,8 @@ fn by_free_threads<
     given: &Given<'_, F, R>,
     counts: &mut RunCounts,
 ) -> Result<String, Fail> {
-    let gate = Free;
-    let threading = Threading::new(given.router, &gate);
+    let (gate, watch) = (Free, Unwatched);
+    let threading = Threading::new(given.router, &gate, &watch);
     let functions = given.functions;
     Ok(by_threads(rt, alloc, case, setup, functions, &threading, counts)?)
 }
@@ -154,7 +155,7 @@ fn by_watched_threads<
     given: &Given<'_, F, R>,
     way: &Way<'_>,
 ) -> Result<String, Fail> {
-    let gate = Watch::of(way.word, way.rest);
+    let (gate, watch) = (Watch::of(way.word, way.rest), Unwatched);
     let most = match way.word {
         "within" => way.rest.parse::<u32>()?,
         _ => MAX_WORKERS,
@@ -162,6 +163,7 @@ fn by_watched_threads<
     let threading = Threading {
         router: given.router,
         gate: &gate,
+        watch: &watch,
         most,
     };
     let mut unread = RunCounts::unread(alloc);

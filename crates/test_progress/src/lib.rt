@@ -1,5 +1,5 @@
-//! What no clause says of the line that says how much of a table has been read: its texts worked by hand, and when it is
-//! written, by a clock that the tests set.
+//! What no clause says of the lines that say how much of a table has been read and how far a run has come: their texts worked by hand,
+//! and when they are written, by a clock that the tests set.
 //!
 //! The tests stand in a crate of their own, since a crate with tests is proved twice.
 #![tactic(auto)]
@@ -8,5 +8,7 @@
 mod lines;
 #[cfg(test)]
 mod reads;
+#[cfg(test)]
+mod runs;
 #[cfg(test)]
 mod script;

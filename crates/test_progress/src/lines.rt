@@ -1,7 +1,7 @@
 //! The texts of lines and names, worked by hand.
 
 use std::test::Fail;
-use volcano_progress::{is_quiet, relation_at, shown_name, shown_text};
+use volcano_progress::{is_quiet, relation_at, shown_name, shown_run_text, shown_text};
 
 // The size of a file, the bytes and the lines of it read so far, and the line for them without what moves the cursor.
 const LINES: [(Option<u64>, u64, u64, &str); 9] = [
@@ -45,6 +45,25 @@ const LINES: [(Option<u64>, u64, u64, &str); 9] = [
 fn lines_say_amounts(rt: HostRuntime) -> Result<(), Fail> {
     for (size, bytes, lines, line) in LINES {
         let text = shown_text(rt.alloc(), b"tenk1", size, bytes, lines)?;
+        let wanted = format!(in rt.alloc(); "\r{line}\x1b[K")?;
+        assert_eq!(rt; text.as_slice(), wanted.as_bytes());
+    }
+    Ok(())
+}
+
+// Lines with the rows that the root of a run has given, the seconds that it goes on, and the line for them without what moves the cursor.
+const RUN_LINES: &str = "1133965 12 run: 1,133,965 rows, 12 s
+0 1 run: 0 rows, 1 s
+999 3600 run: 999 rows, 3,600 s
+18446744073709551615 0 run: 18,446,744,073,709,551,615 rows, 0 s";
+
+#[test]
+fn lines_say_how_far_runs_have_come(rt: HostRuntime) -> Result<(), Fail> {
+    for case in RUN_LINES.lines() {
+        let (rows, rest) = case.split_once(' ').ok_or("no seconds")?;
+        let (seconds, line) = rest.split_once(' ').ok_or("no line")?;
+        let (rows, seconds) = (rows.parse::<u64>()?, seconds.parse::<u64>()?);
+        let text = shown_run_text(rt.alloc(), b"run", rows, seconds)?;
         let wanted = format!(in rt.alloc(); "\r{line}\x1b[K")?;
         assert_eq!(rt; text.as_slice(), wanted.as_bytes());
     }

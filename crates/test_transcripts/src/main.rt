@@ -18,6 +18,7 @@ mod calls;
 mod command;
 mod cut;
 mod output;
+mod place;
 mod ports;
 mod trial;
 mod way;

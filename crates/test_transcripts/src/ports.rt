@@ -2,16 +2,18 @@
 
 use crate::cut::CutDisk;
 use crate::output::TestOutput;
-use anyhow::Error;
+use crate::place::TestPlace;
+use anyhow::{Context, Error};
 use std::alloc::Global;
 use std::fs::{File, Files};
 use std::sync::Wait;
 use std::thread::Threads;
-use volcano_answer::{Pipe, Services, answer};
+use volcano_answer::{Pipe, Services, answer, answer_into, output_path};
 use volcano_locations::{Reasons, Recorded, SystemFiles};
 use volcano_stats::NoClock;
 use vx_catalog_bytes::{ByteOut, Disk, MemoryIn, MemoryOut, Real, Store};
 use vx_exec_parallel::Engine;
+use vx_exec_watch::Unwatched;
 use vx_rows_values::KeySeed;
 
 // More bytes than a command of these files writes on its output, or on its errors.
@@ -78,7 +80,9 @@ fn status_of<
     out: &mut O,
     err: &mut E,
 ) -> u8 {
-    let services = Services::new(rt, &Engine, &NoClock, rt.alloc(), KeySeed::fixed());
+    let watch = Unwatched;
+    let engine = Engine::new(&watch);
+    let services = Services::new(rt, &engine, &NoClock, rt.alloc(), KeySeed::fixed());
     answer(&services, arguments, files, input, out, err)
 }
 
@@ -117,6 +121,29 @@ pub fn run<R: Threads + Wait + Sync + Files<File = File> + AllocGlobal>(
     let mut input = Recorded::new(rt.alloc(), MemoryIn::new(ports.input, fails_after));
     let status = status_of(rt, arguments, &files, &mut input, &mut out, &mut err);
     Written { out, err, status }
+}
+
+/// The status of `arguments`, which put their rows into a file, over a place with one file, and what goes to the errors.
+pub fn run_into<R: Threads + Wait + Sync + Files<File = File> + AllocGlobal>(
+    rt: &R,
+    arguments: &[&str],
+    place: &mut TestPlace,
+) -> Result<(MemoryOut, u8), Error> {
+    let mut err = MemoryOut::new(rt.alloc(), 10, AMPLE);
+    let files = SystemFiles {
+        rt,
+        files: Disk::new(rt),
+    };
+    let mut input = Recorded::new(rt.alloc(), MemoryIn::new(&[], None));
+    let watch = Unwatched;
+    let engine = Engine::new(&watch);
+    let services = Services::new(rt, &engine, &NoClock, rt.alloc(), KeySeed::fixed());
+    let path = output_path(rt.alloc(), arguments)?.context("no file is named")?;
+    let path = path.as_str();
+    let status = answer_into(
+        &services, arguments, &files, &mut input, place, path, &mut err,
+    );
+    Ok((err, status))
 }
 
 /// The bytes of an output and of the errors, and the status, as one text, in which `\n` stands for the end of a line.

@@ -1,7 +1,8 @@
 //! Trials: a command is tried in a way, and each time it has to come to what is wanted.
 
 use crate::command::Command;
-use crate::ports::{Ports, run, shown, text_of};
+use crate::place::TestPlace;
+use crate::ports::{Ports, run, run_into, shown, text_of};
 use crate::way::{Way, way_named};
 use anyhow::{Context, Error};
 use std::alloc::Global;
@@ -15,6 +16,9 @@ const FULL: (&[u8], u8) = (b"volcano: V4 WriteFailed\n", 4);
 
 // What is reported of a pipe that nobody reads any more, and the status then.
 const CLOSED: (&[u8], u8) = (b"", 4);
+
+// The file at a place before a command puts another there.
+const OLD_FILE: &[u8] = b"old rows\n";
 
 /// A command that is tried. Each of its ways is a method, which returns how often the command was run.
 #[derive(Clone, Copy)]
@@ -127,6 +131,35 @@ impl<R: Threads + Wait + Sync + Files<File = File> + Print + AllocGlobal> Trial<
         Ok(runs)
     }
 
+    // The rows go to a place with another file, which still stands where a step fails.
+    fn at_place(&self, place: TestPlace, wanted: &str) -> Result<(), Error> {
+        let mut place = place;
+        let (err, status) = run_into(self.rt, self.arguments, &mut place)?;
+        let found = shown(self.rt.alloc(), place.bytes(), err.bytes(), status)?;
+        self.compare(found.as_str(), wanted)
+    }
+
+    // Each step of a place fails, and then none.
+    fn places(&self) -> Result<u64, Error> {
+        let alloc = self.rt.alloc();
+        let (out, _, _) = parts_of(alloc, self.wanted)?;
+        let length = out.len();
+        let failed = shown(alloc, OLD_FILE, FULL.0, FULL.1)?;
+        for room in 0..length {
+            let old = Vec::from_slice(alloc, OLD_FILE)?;
+            self.at_place(TestPlace::new(alloc, old, room), failed.as_str())?;
+        }
+        let mut place = TestPlace::new(alloc, Vec::from_slice(alloc, OLD_FILE)?, length);
+        place.begins = false;
+        self.at_place(place, failed.as_str())?;
+        let mut place = TestPlace::new(alloc, Vec::from_slice(alloc, OLD_FILE)?, length);
+        place.finishes = false;
+        self.at_place(place, failed.as_str())?;
+        let old = Vec::from_slice(alloc, OLD_FILE)?;
+        self.at_place(TestPlace::new(alloc, old, length), self.wanted)?;
+        Ok((length as u64).saturating_add(3))
+    }
+
     // The output takes so many bytes. How many it has then stands for them.
     fn bytes(&self, room: usize) -> Result<u64, Error> {
         let alloc = self.rt.alloc();
@@ -149,6 +182,7 @@ impl<R: Threads + Wait + Sync + Files<File = File> + Print + AllocGlobal> Trial<
             Way::Reads(path) => self.reads(path),
             Way::Rooms => self.rooms(false, FULL),
             Way::Pipes => self.rooms(true, CLOSED),
+            Way::Places => self.places(),
             Way::ErrorRooms => self.error_rooms(),
             Way::Bytes(room) => self.bytes(room),
         }

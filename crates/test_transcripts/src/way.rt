@@ -15,6 +15,9 @@ pub enum Way<'a> {
     Rooms,
     /// The output is a pipe that takes each number of bytes, and then nobody reads it any more.
     Pipes,
+    /// The rows go to a place with another file. Each step there fails: the new file is not begun, takes each number of bytes, or is not put
+    /// there.
+    Places,
     /// The errors take each number of bytes.
     ErrorRooms,
     /// The output takes so many bytes, of which the number alone is compared.
@@ -31,6 +34,7 @@ pub fn way_named(text: &str) -> Option<Way<'_>> {
         "each front" => Some(Way::Fronts),
         "each room" => Some(Way::Rooms),
         "each pipe" => Some(Way::Pipes),
+        "each place" => Some(Way::Places),
         "each room for errors" => Some(Way::ErrorRooms),
         _ => match text.split_once(' ')? {
             (number, "times") => Some(Way::Times(number.parse::<u32>().ok()?)),

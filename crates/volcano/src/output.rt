@@ -48,6 +48,13 @@ impl<W> Output<W> {
             closed: false,
         }
     }
+
+    /// The writer of std.
+    pub fn into_inner(self) -> W
+        ensures { result ≡ self.inner }
+    {
+        self.inner
+    }
 }
 
 impl<W: Write> ByteOut for Output<W> {

@@ -7,7 +7,7 @@ use Rattle.clap.specs.declared.error.Error.{Error}
 use Rattle.clap.specs.declared.error.kind.ErrorKind.{ErrorKind}
 use Rattle.clap.specs.declared.error.kind.ErrorKind.TheVariants as kind
 use Rattle.vx_plan_nodes.specs.Names.{TypedPlanView}
-use Rattle.volcano_arguments.specs.Asked.{Ask, Paths, draw, faults_of}
+use Rattle.volcano_arguments.specs.Asked.{Ask, Paths, draw, find_catalog, faults_of}
 use Rattle.volcano_refusals.specs.declared.refusal.Refusal.{Refusal}
 use Rattle.volcano_answer.specs.declared.command_line.ArgumentAnswer.{ArgumentAnswer}
 use Rattle.volcano_answer.specs.declared.command_line.ArgumentAnswer.TheVariants as answer
@@ -26,8 +26,9 @@ use Rattle.volcano_answer.specs.Files.{known_at, AreRead, IsFilesPlan}
 use Rattle.volcano_answer.specs.Annotated.{asking_if, AnnotationRefuses}
 use Rattle.volcano_answer.specs.Forms.{FormRefuses}
 use Rattle.volcano_answer.specs.Statements.{StatementFails}
-use Rattle.volcano_answer.specs.CommandLine.{FileCommand, FormIsRefused, for_form, StatementIsRefused, for_statement, AnnotationIsRefused, for_annotation, TaskRefuses, for_plan_of, with_program_name, AsksFor, for_help, for_what_is_asked, for_kind, for_no_task, for_other_stats, for_asked_drawing, drawing_memory, arguments_memory, for_ask, ask_memory, IsNoTask, for_stopped, ArgumentsRefuse, AsksForStopped}
+use Rattle.volcano_answer.specs.CommandLine.{FileCommand, FormIsRefused, for_form, StatementIsRefused, for_statement, AnnotationIsRefused, for_annotation, TaskRefuses, for_plan_of, with_program_name, layout_asked, AsksFor, for_help, for_what_is_asked, for_kind, for_no_task, for_other_stats, for_asked_drawing, for_asked_catalog, drawing_memory, arguments_memory, for_ask, ask_memory, IsNoTask, for_stopped, ArgumentsRefuse, AsksForStopped}
 use Rattle.vx_exec_runs.specs.Promise.{Counting}
+use Rattle.volcano_answer.specs.FindingView.{IsCatalogFault}
 use Rattle.volcano_answer.specs.Usage.{IsWrong}
 use Rattle.volcano_answer.specs.CommandLineView.{IsAskAnswer, IsArgumentAnswer, IsHelp, IsClapFault, IsUsageFault, IsNoDrawing, IsAskFault, IsArgumentFault}
 
@@ -64,13 +65,13 @@ usage_fault_asked files reliable input failed ask before argument after (fault.R
 usage_fault_asked files reliable input failed ask before argument after (fault.Failing lines) none wrong h = absurd h
 
 -- the answer to what arguments ask for answers the arguments
-pub arguments_answer : (Counted : Counting) (files : List ℕ → Stored) (input : Option (List ℕ)) (arguments : List (List ℕ)) (ask : Ask) (r : Result ArgumentAnswer ArgumentFault)
-    → AsksFor arguments ask → IfOk r (λ a. IsAskAnswer Counted files input ask a) → IfOk r (λ a. IsArgumentAnswer Counted files input arguments a)
-arguments_answer Counted files input arguments ask (Ok (answer.Text text)) asked h = for_what_is_asked ask asked h
-arguments_answer Counted files input arguments ask (Ok (answer.Relation rows)) asked h = let P : Ask → Type 0 = λ a. AsksFor arguments a in subst P h asked
-arguments_answer Counted files input arguments ask (Ok (answer.Counted k)) asked h = (for_what_is_asked ask asked h.0, record { ask = ask; asked = asked; reported = h.1 })
-arguments_answer Counted files input arguments ask (Ok (answer.Runs l)) asked h = (ask, asked, h)
-arguments_answer Counted files input arguments ask (Err e) asked h = tt
+pub arguments_answer : (Counted : Counting) (columns : Option ℕ) (files : List ℕ → Stored) (input : Option (List ℕ)) (arguments : List (List ℕ)) (ask : Ask) (r : Result ArgumentAnswer ArgumentFault)
+    → AsksFor arguments ask → IfOk r (λ a. IsAskAnswer Counted (layout_asked columns arguments) files input ask a) → IfOk r (λ a. IsArgumentAnswer Counted columns files input arguments a)
+arguments_answer Counted columns files input arguments ask (Ok (answer.Text text)) asked h = for_what_is_asked ask asked h
+arguments_answer Counted columns files input arguments ask (Ok (answer.Relation rows)) asked h = let P : Ask → Type 0 = λ a. AsksFor arguments a in (subst P h.0 asked, h.1)
+arguments_answer Counted columns files input arguments ask (Ok (answer.Counted k)) asked h = (for_what_is_asked ask asked h.0, record { ask = ask; asked = asked; reported = h.1 })
+arguments_answer Counted columns files input arguments ask (Ok (answer.Runs l)) asked h = (ask, asked, h.0, h.1)
+arguments_answer Counted columns files input arguments ask (Err e) asked h = tt
 
 -- and so does its refusal
 pub arguments_refused : {T : Type 0} (files : List ℕ → Stored) (reliable : List ℕ → Bool) (input : Option (List ℕ)) (failed : Bool) (arguments : List (List ℕ)) (ask : Ask) (r : Result T ArgumentFault)
@@ -96,18 +97,18 @@ drawing_fault files reliable input failed paths stats p counts d (fault.Refused 
 drawing_fault files reliable input failed paths stats p counts d (fault.Failing lines) planned bytes is h = absurd h
 
 -- what clap answers is help or the version
-pub clap_answer : (Counted : Counting) (files : List ℕ → Stored) (input : Option (List ℕ)) (arguments : List (List ℕ)) (error : Error) (r : Result ArgumentAnswer ArgumentFault)
-    → HasKind (faults_of (with_program_name arguments)) error → IfOk r (IsHelp (kind_of error)) → IfOk r (λ a. IsArgumentAnswer Counted files input arguments a)
-clap_answer Counted files input arguments error (Ok (answer.Text text)) (inl memory) (inl help) = let no : kind.OutOfMemory ≡ kind.DisplayHelp = sym memory ∙ help in cc
-clap_answer Counted files input arguments error (Ok (answer.Text text)) (inl memory) (inr version) = let no : kind.OutOfMemory ≡ kind.DisplayVersion = sym memory ∙ version in cc
-clap_answer Counted files input arguments error (Ok (answer.Text text)) (inr among) (inl help) =
+pub clap_answer : (Counted : Counting) (columns : Option ℕ) (files : List ℕ → Stored) (input : Option (List ℕ)) (arguments : List (List ℕ)) (error : Error) (r : Result ArgumentAnswer ArgumentFault)
+    → HasKind (faults_of (with_program_name arguments)) error → IfOk r (IsHelp (kind_of error)) → IfOk r (λ a. IsArgumentAnswer Counted columns files input arguments a)
+clap_answer Counted columns files input arguments error (Ok (answer.Text text)) (inl memory) (inl help) = let no : kind.OutOfMemory ≡ kind.DisplayHelp = sym memory ∙ help in cc
+clap_answer Counted columns files input arguments error (Ok (answer.Text text)) (inl memory) (inr version) = let no : kind.OutOfMemory ≡ kind.DisplayVersion = sym memory ∙ version in cc
+clap_answer Counted columns files input arguments error (Ok (answer.Text text)) (inr among) (inl help) =
     let P : ErrorKind → Type 0 = λ k. IsAmong k (faults_of (with_program_name arguments)) in for_help (inl (subst P help among))
-clap_answer Counted files input arguments error (Ok (answer.Text text)) (inr among) (inr version) =
+clap_answer Counted columns files input arguments error (Ok (answer.Text text)) (inr among) (inr version) =
     let P : ErrorKind → Type 0 = λ k. IsAmong k (faults_of (with_program_name arguments)) in for_help (inr (subst P version among))
-clap_answer Counted files input arguments error (Ok (answer.Relation rows)) has h = absurd h
-clap_answer Counted files input arguments error (Ok (answer.Counted k)) has h = absurd h
-clap_answer Counted files input arguments error (Ok (answer.Runs l)) has h = absurd h
-clap_answer Counted files input arguments error (Err e) has h = tt
+clap_answer Counted columns files input arguments error (Ok (answer.Relation rows)) has h = absurd h
+clap_answer Counted columns files input arguments error (Ok (answer.Counted k)) has h = absurd h
+clap_answer Counted columns files input arguments error (Ok (answer.Runs l)) has h = absurd h
+clap_answer Counted columns files input arguments error (Err e) has h = tt
 
 -- what clap refuses is refused as its kind says
 pub clap_refused : {T : Type 0} (files : List ℕ → Stored) (reliable : List ℕ → Bool) (input : Option (List ℕ)) (failed : Bool) (arguments : List (List ℕ)) (error : Error) (r : Result T ArgumentFault)
@@ -119,6 +120,14 @@ clap_refused files reliable input failed arguments error (Err (fault.Refused e))
 clap_refused files reliable input failed arguments error (Err (fault.Failing lines)) has h = absurd h
 
 -- runs that stop at a plan are refused for that
-pub stopped_refuses : (files : List ℕ → Stored) (reliable : List ℕ → Bool) (input : Option (List ℕ)) (failed : Bool) (arguments : List (List ℕ)) (text : List ℕ) (e : Refusal) → AsksForStopped files input arguments text e
+pub stopped_refuses : (columns : Option ℕ) (files : List ℕ → Stored) (reliable : List ℕ → Bool) (input : Option (List ℕ)) (failed : Bool) (arguments : List (List ℕ)) (text : List ℕ) (e : Refusal) → AsksForStopped columns files input arguments text e
     → ArgumentsRefuse files reliable input failed arguments e
-stopped_refuses files reliable input failed arguments text e h = for_ask h.0 h.1 (for_stopped text h.2)
+stopped_refuses columns files reliable input failed arguments text e h = for_ask h.0 h.1 (for_stopped (layout_asked columns arguments) text h.2)
+
+-- why no catalog is found in the files that are asked for
+pub catalog_fault_asked : (files : List ℕ → Stored) (reliable : List ℕ → Bool) (input : Option (List ℕ)) (failed : Bool) (ask : Ask) (paths : List (List ℕ)) (quiet : Bool) (f : ArgumentFault)
+    → ask ≡ find_catalog paths quiet → IsCatalogFault files reliable paths f → IsAskFault files reliable input failed ask f
+catalog_fault_asked files reliable input failed ask paths quiet (fault.Usage text) is h =
+    rw is (inl (h.0, h.1), (codes "volcano: catalog ", h.0, (refl, h.1), h.2))
+catalog_fault_asked files reliable input failed ask paths quiet (fault.Refused e) is h = for_asked_catalog paths quiet is h
+catalog_fault_asked files reliable input failed ask paths quiet (fault.Failing lines) is h = absurd h

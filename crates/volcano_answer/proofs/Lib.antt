@@ -1,5 +1,6 @@
 pub mod PlanFacts
 pub mod Refusing
+pub mod ReplacingFacts
 pub mod SerialFacts
 pub mod Outputs
 pub mod FileFacts
@@ -14,3 +15,4 @@ pub mod StatsTextFacts
 pub mod LoadedFacts
 pub mod PrintingFacts
 pub mod SpellingFacts
+pub mod FindingFacts

@@ -14,6 +14,7 @@ use Rattle.volcano_answer.specs.Plans.{title}
 use Rattle.volcano_answer.specs.PlansView.{named_is}
 use Rattle.volcano_answer.specs.Printing.{AreWritten, IsEndedBy, StopsWith}
 use Rattle.volcano_answer.specs.Stats.{IsRunMore}
+use Rattle.volcano_answer.specs.declared.layouts.Layout.{Layout}
 use Rattle.volcano_answer.specs.declared.plans.AcceptedPlan.{AcceptedPlan}
 use Rattle.volcano_answer.specs.declared.printing.PrintFault.{PrintFault}
 use Rattle.volcano_answer.specs.declared.printing.PrintFault.TheVariants as fault
@@ -36,12 +37,12 @@ pub wrote_all : {T F : Type 0} (r : Result T F) (X : Type 0) (old new : Bool) �
 wrote_all (Ok x) X old new fails whole h = h
 wrote_all (Err x) X old new fails whole h = let failed = or_true old in cc
 
-module _ (Counted : Counting) (f : Option StatsForm) (db : Database) (s : Setting) (ns : List AcceptedPlan) where
+module _ (Counted : Counting) (layout : Layout) (f : Option StatsForm) (db : Database) (s : Setting) (ns : List AcceptedPlan) where
   -- the answers of the first plans, and one more
-  pub written_grow : (i : ℕ) (d n : AcceptedPlan) (before mid after : Option (List ℕ)) (stats own grown : List ℕ) → i < length ns → n ≡ get_or ns i d → AreWritten Counted f db s (take i ns) before mid stats
-      → IsRunMore Counted f db s n [] stats own grown → Appends mid after own → AreWritten Counted f db s (take (i + 1) ns) before after grown
+  pub written_grow : (i : ℕ) (d n : AcceptedPlan) (before mid after : Option (List ℕ)) (stats own grown : List ℕ) → i < length ns → n ≡ get_or ns i d → AreWritten Counted layout f db s (take i ns) before mid stats
+      → IsRunMore Counted layout f db s n [] stats own grown → Appends mid after own → AreWritten Counted layout f db s (take (i + 1) ns) before after grown
   written_grow i d n before mid after stats own grown there at w more wrote =
-      let behind : IsRunMore Counted f db s n w.text stats (w.text ++ own) grown = record {
+      let behind : IsRunMore Counted layout f db s n w.text stats (w.text ++ own) grown = record {
         own = more.own;
         counts = more.counts;
         time = more.time;
@@ -52,20 +53,20 @@ module _ (Counted : Counting) (f : Option StatsForm) (db : Database) (s : Settin
       } in
       record {
         text = w.text ++ own;
-        runs = counted_grow Counted f db s ns i d n w.text stats (w.text ++ own) grown there at w.runs behind;
+        runs = counted_grow Counted layout f db s ns i d n w.text stats (w.text ++ own) grown there at w.runs behind;
         wrote = appends_more before mid after w.text own w.wrote wrote;
       }
 
   -- the plan at which it stops, or the write that failed
   pub stops_with : (i : ℕ) (d n : AcceptedPlan) (before mid after : Option (List ℕ)) (stats : List ℕ) (had between has : Bool) (kept : Type 0) (e : PrintFault) → i < length ns → n ≡ get_or ns i d
-      → AreWritten Counted f db s (take i ns) before mid stats → between ≡ had → (kept → (after ≡ mid) × (has ≡ between)) → IsEndedBy (λ e. RunRefuses (resolved_of (typed_plan n.plan)) db s e) kept has e
-      → StopsWith db s (map named_is ns) before after had has e
+      → AreWritten Counted layout f db s (take i ns) before mid stats → between ≡ had → (kept → (after ≡ mid) × (has ≡ between)) → IsEndedBy (λ e. RunRefuses (resolved_of (typed_plan n.plan)) db s e) kept has e
+      → StopsWith layout db s (map named_is ns) before after had has e
   stops_with i d n before mid after stats had between has kept (fault.Refused e) there at w whole same ended =
       let P : AcceptedPlan → Type 0 = λ a. RunRefuses (named_is a).plan db s e in
       let Q : Option (List ℕ) → Type 0 = λ o. Appends before o w.text in (
         record {
           text = w.text;
-          stops = stops_here (λ p own. IsRunOver p db s own) (λ p e. RunRefuses p db s e) named_is ns i d w.text e there (counted_answers Counted f db s (take i ns) w.text stats w.runs) (subst P at ended.0);
+          stops = stops_here (λ p own. IsRunOver layout p db s own) (λ p e. RunRefuses p db s e) named_is ns i d w.text e there (counted_answers Counted layout f db s (take i ns) w.text stats w.runs) (subst P at ended.0);
           wrote = subst Q (sym (same ended.1).0) w.wrote;
         },
         (same ended.1).1 ∙ whole,

@@ -28,6 +28,7 @@ use Rattle.vx_catalog_bytes.specs.Stored.{Stored}
 use Rattle.vx_plan_nodes.specs.ByteRouter.{byte_route}
 use Rattle.volcano_refusals.specs.declared.refusal.Refusal.{Refusal}
 use Rattle.volcano_tables.specs.Filled.{scans}
+use Rattle.volcano_answer.specs.declared.layouts.Layout.{Layout}
 use Rattle.volcano_answer.specs.Commands.{Holding, IsRunOver, RunRefuses, for_rounds, for_threads, run_memory, for_fault}
 use Rattle.volcano_answer.specs.Planning.{exactly}
 use Rattle.volcano_answer.specs.Files.{input_after}
@@ -126,8 +127,8 @@ module _ (p : TypedPlanView) (holds : Holding) (all db : Database) (s : Setting)
     delivers = delivers_in (rows_at all) (rows_at db) p.total (plan_in p.root) t.rows same_rows h.delivers;
   }
 
-  pub answer_in : (text : List ℕ) → IsRunOver p all s text → IsRunIn all holds s p text
-  answer_in text h = (db, has, (h.0, h.1, set_in h.1 h.2, run_in h.1.worker_groups h.0 h.3, h.4))
+  pub answer_in : (layout : Layout) (text : List ℕ) → IsRunOver layout p all s text → IsRunIn layout all holds s p text
+  answer_in layout text h = (db, has, (h.0, h.1, set_in h.1 h.2, run_in h.1.worker_groups h.0 h.3, h.4))
 
   fails_in : (e : RunFault) → all.catalog ≡ p.names.catalog → fails.RunFails p all s.setup e → fails.RunFails p db s.setup e
   fails_in e over (fails.for_catalog is other) = absurd (other over)
@@ -171,11 +172,11 @@ have_shares relations whole holds all loaded files input (n ∷ ns) h covers =
     )
 
 -- answers over the database are answers over the shares
-pub answers_in : (holds : Holding) (all : Database) (s : Setting) (ns : List NamedPlan) (text : List ℕ) → HaveShares holds all ns → AreAnswers (λ p own. IsRunOver p all s own) ns text
-    → AreAnswers (IsRunIn all holds s) ns text
-answers_in holds all s [] text shares h = h
-answers_in holds all s (n ∷ ns) text shares h =
-    (h.0, h.1, answer_in n.plan holds all (share_of n.plan all) s shares.1 h.0 h.2, answers_in holds all s ns h.1 shares.2 h.3, h.4)
+pub answers_in : (layout : Layout) (holds : Holding) (all : Database) (s : Setting) (ns : List NamedPlan) (text : List ℕ) → HaveShares holds all ns → AreAnswers (λ p own. IsRunOver layout p all s own) ns text
+    → AreAnswers (IsRunIn layout all holds s) ns text
+answers_in layout holds all s [] text shares h = h
+answers_in layout holds all s (n ∷ ns) text shares h =
+    (h.0, h.1, answer_in n.plan holds all (share_of n.plan all) s shares.1 layout h.0 h.2, answers_in layout holds all s ns h.1 shares.2 h.3, h.4)
 
 before_shares : (holds : Holding) (all : Database) (before after : List NamedPlan) → HaveShares holds all (before ++ after) → HaveShares holds all before
 before_shares holds all [] after h = tt
@@ -186,9 +187,9 @@ after_shares holds all [] after h = h
 after_shares holds all (n ∷ before) after h = after_shares holds all before after h.2
 
 -- and so for the answers before the plan at which it stops
-pub stops_in : (holds : Holding) (all : Database) (s : Setting) (ns : List NamedPlan) (text : List ℕ) (e : Refusal) → HaveShares holds all ns
-    → StopsAt (λ p own. IsRunOver p all s own) (λ p e. RunRefuses p all s e) ns text e → StopsAt (IsRunIn all holds s) (RunRefusesIn all holds s) ns text e
-stops_in holds all s ns text e shares h =
+pub stops_in : (layout : Layout) (holds : Holding) (all : Database) (s : Setting) (ns : List NamedPlan) (text : List ℕ) (e : Refusal) → HaveShares holds all ns
+    → StopsAt (λ p own. IsRunOver layout p all s own) (λ p e. RunRefuses p all s e) ns text e → StopsAt (IsRunIn layout all holds s) (RunRefusesIn all holds s) ns text e
+stops_in layout holds all s ns text e shares h =
     let P : List NamedPlan → Type 0 = λ ns. HaveShares holds all ns in
     let parts : HaveShares holds all (h.before ++ h.stopped ∷ h.rest) = subst P h.split shares in
     let own = after_shares holds all h.before (h.stopped ∷ h.rest) parts in
@@ -197,6 +198,6 @@ stops_in holds all s ns text e shares h =
       stopped = h.stopped;
       rest = h.rest;
       split = h.split;
-      answered = answers_in holds all s h.before text (before_shares holds all h.before (h.stopped ∷ h.rest) parts) h.answered;
+      answered = answers_in layout holds all s h.before text (before_shares holds all h.before (h.stopped ∷ h.rest) parts) h.answered;
       refused = refusal_in h.stopped.plan holds all (share_of h.stopped.plan all) s own.1 e own.0 h.refused;
     }

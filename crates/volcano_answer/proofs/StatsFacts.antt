@@ -25,6 +25,7 @@ use Rattle.volcano_answer.specs.Files.{IsFilesPlan, IsFilesRefusal}
 use Rattle.volcano_answer.specs.Plans.{AreAnswers, title}
 use Rattle.volcano_answer.specs.PlansView.{named_is}
 use Rattle.volcano_answer.specs.Stats.{if_asked, IsCountedRun, IsCountedPlan, AreTaskStats, IsRunMore, AreCountedRuns}
+use Rattle.volcano_answer.specs.declared.layouts.Layout.{Layout}
 use Rattle.volcano_answer.specs.declared.plans.AcceptedPlan.{AcceptedPlan}
 use Rattle.volcano_answer.specs.declared.stats.RunReport.{RunReport}
 
@@ -45,27 +46,27 @@ planning_refused_or files reliable input failed t e h = elim h [
   | inr k ↦ for_planning k
 ]
 
-module _ (Counted : Counting) where
+module _ (Counted : Counting) (layout : Layout) where
   -- a counted run is a run
-  pub is_run_over : (f : Option StatsForm) (n : AcceptedPlan) (db : Database) (s : Setting) (text : List ℕ) (ws : List _) → IsCountedRun Counted f (typed_plan n.plan) db s text ws → IsRunOver (named_is n).plan db s text
+  pub is_run_over : (f : Option StatsForm) (n : AcceptedPlan) (db : Database) (s : Setting) (text : List ℕ) (ws : List _) → IsCountedRun Counted layout f (typed_plan n.plan) db s text ws → IsRunOver layout (named_is n).plan db s text
   is_run_over f n db s text ws h = (h.rows, h.sizes, h.set, h.run, h.is)
 
   -- a run of a plan over tables answers it, whatever is reported of it
-  pub is_run : (f : Option StatsForm) (p : TypedPlan) (holds : Holding) (s : Setting) (before : List WorkPhase) (text stats : List ℕ) → IsCountedPlan Counted f p holds s before text stats
-      → IsRun (resolved_of p) holds s text
+  pub is_run : (f : Option StatsForm) (p : TypedPlan) (holds : Holding) (s : Setting) (before : List WorkPhase) (text stats : List ℕ) → IsCountedPlan Counted layout f p holds s before text stats
+      → IsRun layout (resolved_of p) holds s text
   is_run f p holds s before text stats h = (h.db, h.loaded, (h.run.rows, h.run.sizes, h.run.set, h.run.run, h.run.is))
 
   -- what is reported of a task answers it
   pub stats_answer : (files : List ℕ → Stored) (input : Option (List ℕ)) (f : Option StatsForm) (paths : Paths) (folder : List ℕ) (s : Setting) (text opening : List ℕ)
-      → AreTaskStats Counted files input f (record { command = command.Run; paths = paths; folder = folder; setting = s }) text opening
-      → AnswersTask files input (record { command = command.Run; paths = paths; folder = folder; setting = s }) text
+      → AreTaskStats Counted layout files input f (record { command = command.Run; paths = paths; folder = folder; setting = s }) text opening
+      → AnswersTask layout files input (record { command = command.Run; paths = paths; folder = folder; setting = s }) text
   stats_answer files input f paths folder s text opening h =
       let run = h.counted.run in
       (resolved_of h.plan, h.planned, (h.shown, (h.counted.db, h.counted.loaded, (run.rows, run.sizes, run.set, run.run, run.is))))
 
   -- the texts of counted runs are answers
-  pub counted_answers : (f : Option StatsForm) (db : Database) (s : Setting) (ns : List AcceptedPlan) (text stats : List ℕ) → AreCountedRuns Counted f db s ns text stats
-      → AreAnswers (λ p own. IsRunOver p db s own) (map named_is ns) text
+  pub counted_answers : (f : Option StatsForm) (db : Database) (s : Setting) (ns : List AcceptedPlan) (text stats : List ℕ) → AreCountedRuns Counted layout f db s ns text stats
+      → AreAnswers (λ p own. IsRunOver layout p db s own) (map named_is ns) text
   counted_answers f db s [] text stats h = h.0
   counted_answers f db s (n ∷ ns) text stats h =
       let first = h.4 in
@@ -73,8 +74,8 @@ module _ (Counted : Counting) where
       (first.own, h.2, is_run_over f n db s first.own first.counts first.run, counted_answers f db s ns h.2 h.3 h.5, is)
 
   -- one counted run more
-  counted_more : (f : Option StatsForm) (db : Database) (s : Setting) (ns : List AcceptedPlan) (n : AcceptedPlan) (text stats own reported : List ℕ) → AreCountedRuns Counted f db s ns text stats
-      → IsRunMore Counted f db s n [] [] own reported → AreCountedRuns Counted f db s (ns ++ n ∷ []) (text ++ own) (stats ++ reported)
+  counted_more : (f : Option StatsForm) (db : Database) (s : Setting) (ns : List AcceptedPlan) (n : AcceptedPlan) (text stats own reported : List ℕ) → AreCountedRuns Counted layout f db s ns text stats
+      → IsRunMore Counted layout f db s n [] [] own reported → AreCountedRuns Counted layout f db s (ns ++ n ∷ []) (text ++ own) (stats ++ reported)
   counted_more f db s [] n text stats own reported h more =
       (own, reported, [], [], more, (refl, refl), ap (λ t. t ++ own) h.0 ∙ sym (append-nil own), ap (λ t. t ++ reported) h.1 ∙ sym (append-nil reported))
   counted_more f db s (m ∷ ms) n text stats own reported h more =
@@ -82,11 +83,11 @@ module _ (Counted : Counting) where
 
   -- the first plans, and one more
   pub counted_grow : (f : Option StatsForm) (db : Database) (s : Setting) (ns : List AcceptedPlan) (i : ℕ) (d n : AcceptedPlan) (text stats grown reported : List ℕ) → i < length ns → n ≡ get_or ns i d
-      → AreCountedRuns Counted f db s (take i ns) text stats → IsRunMore Counted f db s n text stats grown reported → AreCountedRuns Counted f db s (take (i + 1) ns) grown reported
+      → AreCountedRuns Counted layout f db s (take i ns) text stats → IsRunMore Counted layout f db s n text stats grown reported → AreCountedRuns Counted layout f db s (take (i + 1) ns) grown reported
   counted_grow f db s ns i d n text stats grown reported there at h more =
       let own = title (string_bytes n.path) ++ more.own in
       let tale = if_asked f (λ form. title (string_bytes n.path) ++ plan_text form (typed_plan n.plan) more.counts more.time) in
-      let alone : IsRunMore Counted f db s n [] [] own tale = record {
+      let alone : IsRunMore Counted layout f db s n [] [] own tale = record {
         own = more.own;
         counts = more.counts;
         time = more.time;
@@ -97,14 +98,14 @@ module _ (Counted : Counting) where
       } in
       let all = counted_more f db s (take i ns) n text stats own tale h alone in
       let taken : take (i + 1) ns ≡ take i ns ++ n ∷ [] = take_more ns i d there ∙ ap (λ x. take i ns ++ x ∷ []) (sym at) in
-      subst (λ ms. AreCountedRuns Counted f db s ms grown reported) (sym taken)
-      (subst (λ t. AreCountedRuns Counted f db s (take i ns ++ n ∷ []) t reported) (sym more.text_is) (subst (λ t. AreCountedRuns Counted f db s (take i ns ++ n ∷ []) (text ++ own) t) (sym more.stats_are) all))
+      subst (λ ms. AreCountedRuns Counted layout f db s ms grown reported) (sym taken)
+      (subst (λ t. AreCountedRuns Counted layout f db s (take i ns ++ n ∷ []) t reported) (sym more.text_is) (subst (λ t. AreCountedRuns Counted layout f db s (take i ns ++ n ∷ []) (text ++ own) t) (sym more.stats_are) all))
 
   -- what is reported of a run of this plan is reported of the task
   pub task_stats : (files : List ℕ → Stored) (input : Option (List ℕ)) (f : Option StatsForm) (t : FileCommand) (p : TypedPlan) (r : Result RunReport Refusal) → IsFilesPlan files input t.paths (resolved_of p)
       → IfOk r (λ k. IsShown (resolved_of p))
-      → IfOk r (λ k. IsCountedPlan Counted f p (holds_at files t.folder) t.setting (work_phase.Read ∷ work_phase.Plan ∷ work_phase.Check ∷ []) k.text.items (string_bytes k.stats))
-      → IfOk r (λ k. AreTaskStats Counted files input f t k.text.items (string_bytes k.stats))
+      → IfOk r (λ k. IsCountedPlan Counted layout f p (holds_at files t.folder) t.setting (work_phase.Read ∷ work_phase.Plan ∷ work_phase.Check ∷ []) k.text.items (string_bytes k.stats))
+      → IfOk r (λ k. AreTaskStats Counted layout files input f t k.text.items (string_bytes k.stats))
   task_stats files input f t p (Ok k) planned shown reported = record { plan = p; planned = planned; shown = shown; counted = reported }
   task_stats files input f t p (Err e) planned shown reported = tt
 

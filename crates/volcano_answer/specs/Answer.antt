@@ -9,6 +9,7 @@ use Rattle.volcano_refusals.specs.declared.refusal.Refusal.{Refusal}
 use Rattle.volcano_refusals.specs.declared.refusal.Refusal.TheVariants as refusal
 use Rattle.volcano_refusals.specs.Status.{status_of}
 use Rattle.volcano_tables.specs.Texts.{holds_in, lacks_in}
+use Rattle.volcano_answer.specs.declared.layouts.Layout.{Layout}
 use Rattle.volcano_answer.specs.Commands.{IsResultOf, CommandRefuses}
 use Rattle.volcano_answer.specs.Files.{IsUnread}
 use Rattle.volcano_answer.specs.Planning.{exactly, IsPlanned, IsPlanRefusal}
@@ -22,8 +23,8 @@ abbrev pub IsBundlePlanRefusal : Bundle → Refusal → Type 0
 IsBundlePlanRefusal b e = IsPlanRefusal (exactly (catalog_of b.catalog)) (exactly (document_in b.plan)) e
 
 -- the text answers this bundle: it is what its command asks for of its plan over its texts
-abbrev pub IsOutput : Bundle → List ℕ → Type 0
-IsOutput b text = (p : TypedPlanView) × IsBundlePlan b p × IsResultOf b.command p (holds_in b.tables) b.setting text
+abbrev pub IsOutput : Layout → Bundle → List ℕ → Type 0
+IsOutput layout b text = (p : TypedPlanView) × IsBundlePlan b p × IsResultOf layout b.command p (holds_in b.tables) b.setting text
 
 -- the first reason why this bundle has no answer: its plan, or what the command makes of that; out of memory may come anywhere
 pub data Refuses (b : Bundle) (e : Refusal) : Type 0 where
@@ -32,8 +33,8 @@ pub data Refuses (b : Bundle) (e : Refusal) : Type 0 where
   for_plan_of : (p : TypedPlanView) → IsBundlePlan b p → CommandRefuses b.command p (holds_in b.tables) (lacks_in b.tables) b.setting e → Refuses b e
 
 -- the text answers these bytes: they are a bundle's, and it answers that
-abbrev pub IsAnswer : List ℕ → List ℕ → Type 0
-IsAnswer bytes text = (b : Bundle) × (bundle_of_text bytes ≡ Some b) × IsOutput b text
+abbrev pub IsAnswer : Layout → List ℕ → List ℕ → Type 0
+IsAnswer layout bytes text = (b : Bundle) × (bundle_of_text bytes ≡ Some b) × IsOutput layout b text
 
 -- these bytes are a bundle that asks for a run
 abbrev pub AsksForRun : List ℕ → Type 0

@@ -1,10 +1,10 @@
 -- What answers arguments, over files and standard input, and why arguments may have no answer. `files`, `reliable`, `input` and `failed` are as in `Files`.
-use Rattle.std.specs.Prelude.{◌≡◌, ◌≢◌, ℕ, ◌+◌, ◌<◌, ◌≤◌, ◌⊎◌, ◌++◌, List, [], ◌∷◌, length, slice_index_or, take, Bool, true, false, Option, Some, None, Ok, IfSome, bytes_eq, codes, if◌then◌else◌, ◌||◌, ◌&&◌}
+use Rattle.std.specs.Prelude.{◌≡◌, ◌≢◌, ℕ, ◌+◌, ◌<◌, ◌≤◌, ◌⊎◌, ◌++◌, List, [], ◌∷◌, length, slice_index_or, take, Bool, true, false, Option, Some, None, option_and_then, Ok, IfSome, bytes_eq, codes, if◌then◌else◌, ◌||◌, ◌&&◌}
 use Rattle.clap.specs.Words.{IsAmong}
 use Rattle.clap.specs.declared.error.kind.ErrorKind.{ErrorKind}
 use Rattle.clap.specs.declared.error.kind.ErrorKind.TheVariants as kind
 use Rattle.vx_plan_nodes.specs.Names.{TypedPlanView}
-use Rattle.volcano_arguments.specs.Asked.{Ask, Paths, ManyPaths, Given, bundle, check, check_all, explain, draw, annotate, sql, why, serial, run, run_plans, generate, asked_by, stats_by, unknown_errors_by, faults_of}
+use Rattle.volcano_arguments.specs.Asked.{Ask, Paths, ManyPaths, Given, bundle, check, check_all, explain, draw, annotate, sql, find_catalog, why, serial, run, run_plans, generate, asked_by, stats_by, layout_by, output_by, unknown_errors_by, faults_of}
 use Rattle.volcano_arguments.specs.declared.asked.ErrorForm.{ErrorForm}
 use Rattle.volcano_arguments.specs.declared.asked.ErrorForm.TheVariants as error_form
 use Rattle.volcano_bundle.specs.declared.command.Command.{Command}
@@ -13,7 +13,6 @@ use Rattle.vx_exec_setup.specs.declared.setting.Mode.TheVariants as mode
 use Rattle.vx_exec_setup.specs.Setup.{default_packet_rows, default_morsel_rows, default_slack}
 use Rattle.vx_exec_setup.specs.Setting.{Setting}
 use Rattle.vx_catalog_bytes.specs.Stored.{Stored, IfBytes}
-use Rattle.vx_catalog.specs.Csv.{csv_text}
 use Rattle.volcano_refusals.specs.declared.refusal.Refusal.{Refusal}
 use Rattle.volcano_refusals.specs.declared.refusal.Refusal.TheVariants as refusal
 use Rattle.volcano_refusals.specs.Status.{status_of}
@@ -28,7 +27,10 @@ use Rattle.volcano_drawing.specs.Drawing.{IsDrawn}
 use Rattle.volcano_drawing.specs.Fault.{HasNoTotals}
 use Rattle.volcano_stats.specs.Words.{op_words}
 use Rattle.volcano_answer.specs.Files.{known_at, AreRead, AreNotRead, IsReadRefusal, IsFilesPlan, IsFilesRefusal}
+use Rattle.volcano_answer.specs.Finding.{IsWrongPath, AnswersCatalog, CatalogIsRefused}
 use Rattle.volcano_answer.specs.Forms.{form_named, IsInForm, FormRefuses}
+use Rattle.volcano_answer.specs.declared.layouts.Layout.{Layout}
+use Rattle.volcano_answer.specs.Layouts.{names_layout, rows_text, layout_of_word, unless_output, is_empty}
 use Rattle.volcano_answer.specs.Statements.{dialect_named, IsStatement, StatementFails}
 use Rattle.vx_check_sql.specs.declared.dialect.Dialect.{Dialect}
 use Rattle.volcano_answer.specs.Annotated.{asking_if, IsAnnotated, AnnotationRefuses}
@@ -61,13 +63,14 @@ IsTask (explain paths format) t = (bytes_eq format (codes "text") ≡ true) × (
 IsTask (draw paths stats) t = ⊥
 IsTask (annotate paths derive) t = ⊥
 IsTask (sql paths dialect) t = ⊥
+IsTask (find_catalog paths quiet) t = ⊥
 IsTask (why code) t = ⊥
 IsTask (serial paths folder) t = t ≡ record { command = command.Serial; paths = paths; folder = folder; setting = default_setting }
 IsTask (run paths folder given) t = (s : Setting) × IsSetting given s × (t ≡ record { command = command.Run; paths = paths; folder = folder; setting = s })
 IsTask (run_plans paths folder given) t = ⊥
 IsTask (generate rows) t = ⊥
 
--- arguments ask for a run and set none up, for a format or a dialect that there is not, or for a code that is none and names none
+-- arguments ask for a run and set none up, for a format or a dialect that there is not, for a catalog from a file that is no table, or for a code that is none and names none
 abbrev pub IsNoTask : Ask → Type 0
 IsNoTask bundle = ⊥
 IsNoTask (check paths) = ⊥
@@ -76,6 +79,7 @@ IsNoTask (explain paths format) = (bytes_eq format (codes "text") ≡ false) × 
 IsNoTask (draw paths stats) = ⊥
 IsNoTask (annotate paths derive) = ⊥
 IsNoTask (sql paths dialect) = dialect_named dialect ≡ None
+IsNoTask (find_catalog paths quiet) = (path : List ℕ) × IsWrongPath paths path
 IsNoTask (why code) = code_of code ≡ None
 IsNoTask (serial paths folder) = ⊥
 IsNoTask (run paths folder given) = IsNoSetting given
@@ -83,8 +87,8 @@ IsNoTask (run_plans paths folder given) = IsNoSetting given
 IsNoTask (generate rows) = ⊥
 
 -- the text answers a task: it is what its command asks for of its plan over the files of its folder
-abbrev pub AnswersTask : (List ℕ → Stored) → Option (List ℕ) → FileCommand → List ℕ → Type 0
-AnswersTask files input t text = (p : TypedPlanView) × IsFilesPlan files input t.paths p × IsResultOf t.command p (holds_at files t.folder) t.setting text
+abbrev pub AnswersTask : Layout → (List ℕ → Stored) → Option (List ℕ) → FileCommand → List ℕ → Type 0
+AnswersTask layout files input t text = (p : TypedPlanView) × IsFilesPlan files input t.paths p × IsResultOf layout t.command p (holds_at files t.folder) t.setting text
 
 -- the first reason why a task has no answer: its plan, or what the command makes of that; out of memory may come anywhere
 pub data TaskRefuses (files : List ℕ → Stored) (reliable : List ℕ → Bool) (input : Option (List ℕ)) (failed : Bool) (t : FileCommand) (e : Refusal) : Type 0 where
@@ -183,24 +187,25 @@ spelled command (w ∷ ws) = spelled_out command w (slice_index_or ws 0 []) ∷ 
 abbrev pub with_program_name : List (List ℕ) → List (List ℕ)
 with_program_name arguments = codes "volcano" ∷ spelled (command_in arguments) arguments
 
--- the text answers what arguments ask for: the bundle on standard input, a task, a check of all nodes, a plan in a form, as a picture with statistics, as SQL or with other claims, runs of several plans, what a code means, or a relation, which has 10,000,000 rows at most
-pub data AnswersAsk (files : List ℕ → Stored) (input : Option (List ℕ)) (ask : Ask) (text : List ℕ) : Type 0 where
-  for_bundle : ask ≡ bundle → IfSome input (λ bytes. IsAnswer bytes text) → AnswersAsk files input ask text
-  for_task : (t : FileCommand) → IsTask ask t → AnswersTask files input t text → AnswersAsk files input ask text
-  for_plan_form : (f : PlanForm) (paths : Paths) (format : List ℕ) → ask ≡ explain paths format → form_named format ≡ Some f → AnswersForm files input f paths text → AnswersAsk files input ask text
-  for_drawing : (paths : Paths) (stats : List ℕ) → ask ≡ draw paths stats → AnswersDrawing files input paths stats text → AnswersAsk files input ask text
-  for_sql : (d : Dialect) (paths : Paths) (name : List ℕ) → ask ≡ sql paths name → dialect_named name ≡ Some d → AnswersStatement files input d paths text → AnswersAsk files input ask text
-  for_all_nodes : (paths : Paths) → ask ≡ check_all paths → AnswersAll files input paths text → AnswersAsk files input ask text
-  for_claims : (paths : Paths) (derive : Bool) → ask ≡ annotate paths derive → AnswersAnnotation files input paths derive text → AnswersAsk files input ask text
-  for_code : (code : List ℕ) → ask ≡ why code → IsEntry code text → AnswersAsk files input ask text
-  for_runs : (paths : ManyPaths) (folder : List ℕ) (given : Given) (s : Setting) → ask ≡ run_plans paths folder given → IsSetting given s → AnswersPlans files input paths folder s text
-      → AnswersAsk files input ask text
-  for_relation : (rows : ℕ) → ask ≡ generate rows → rows ≤ max_generated_rows → text ≡ csv_text column_names (wisconsin rows) → AnswersAsk files input ask text
+-- the text answers what arguments ask for: the bundle on standard input, a task, a check of all nodes, a plan in a form, as a picture with statistics, as SQL or with other claims, the catalog that is found in files, runs of several plans, what a code means, or a relation, which has 10,000,000 rows at most
+pub data AnswersAsk (layout : Layout) (files : List ℕ → Stored) (input : Option (List ℕ)) (ask : Ask) (text : List ℕ) : Type 0 where
+  for_bundle : ask ≡ bundle → IfSome input (λ bytes. IsAnswer layout bytes text) → AnswersAsk layout files input ask text
+  for_task : (t : FileCommand) → IsTask ask t → AnswersTask layout files input t text → AnswersAsk layout files input ask text
+  for_plan_form : (f : PlanForm) (paths : Paths) (format : List ℕ) → ask ≡ explain paths format → form_named format ≡ Some f → AnswersForm files input f paths text → AnswersAsk layout files input ask text
+  for_drawing : (paths : Paths) (stats : List ℕ) → ask ≡ draw paths stats → AnswersDrawing files input paths stats text → AnswersAsk layout files input ask text
+  for_sql : (d : Dialect) (paths : Paths) (name : List ℕ) → ask ≡ sql paths name → dialect_named name ≡ Some d → AnswersStatement files input d paths text → AnswersAsk layout files input ask text
+  for_all_nodes : (paths : Paths) → ask ≡ check_all paths → AnswersAll files input paths text → AnswersAsk layout files input ask text
+  for_claims : (paths : Paths) (derive : Bool) → ask ≡ annotate paths derive → AnswersAnnotation files input paths derive text → AnswersAsk layout files input ask text
+  for_found_catalog : (paths : List (List ℕ)) (quiet : Bool) → ask ≡ find_catalog paths quiet → AnswersCatalog files paths text → AnswersAsk layout files input ask text
+  for_code : (code : List ℕ) → ask ≡ why code → IsEntry code text → AnswersAsk layout files input ask text
+  for_runs : (paths : ManyPaths) (folder : List ℕ) (given : Given) (s : Setting) → ask ≡ run_plans paths folder given → IsSetting given s → AnswersPlans layout files input paths folder s text
+      → AnswersAsk layout files input ask text
+  for_relation : (rows : ℕ) → ask ≡ generate rows → rows ≤ max_generated_rows → text ≡ rows_text layout column_names (wisconsin rows) → AnswersAsk layout files input ask text
 
 -- arguments ask for runs of several plans, of which one gives no text for this reason; the text is that of the runs before it
-abbrev pub AskStops : (List ℕ → Stored) → Option (List ℕ) → Ask → List ℕ → Refusal → Type 0
-AskStops files input ask text e =
-    (paths : ManyPaths) × (folder : List ℕ) × (given : Given) × (s : Setting) × (ask ≡ run_plans paths folder given) × IsSetting given s × PlansStop files input paths folder s text e
+abbrev pub AskStops : Layout → (List ℕ → Stored) → Option (List ℕ) → Ask → List ℕ → Refusal → Type 0
+AskStops layout files input ask text e =
+    (paths : ManyPaths) × (folder : List ℕ) × (given : Given) × (s : Setting) × (ask ≡ run_plans paths folder given) × IsSetting given s × PlansStop layout files input paths folder s text e
 
 -- what arguments ask for is refused with this refusal
 pub data AskRefuses (files : List ℕ → Stored) (reliable : List ℕ → Bool) (input : Option (List ℕ)) (failed : Bool) (ask : Ask) (e : Refusal) : Type 0 where
@@ -212,9 +217,10 @@ pub data AskRefuses (files : List ℕ → Stored) (reliable : List ℕ → Bool)
   for_asked_sql : (d : Dialect) (paths : Paths) (name : List ℕ) → ask ≡ sql paths name → dialect_named name ≡ Some d → StatementIsRefused files reliable input failed paths e → AskRefuses files reliable input failed ask e
   for_asked_all : (paths : Paths) → ask ≡ check_all paths → IsFilesRefusal files reliable input failed paths e → AskRefuses files reliable input failed ask e
   for_asked_claims : (paths : Paths) (derive : Bool) → ask ≡ annotate paths derive → AnnotationIsRefused files reliable input failed paths derive e → AskRefuses files reliable input failed ask e
+  for_asked_catalog : (paths : List (List ℕ)) (quiet : Bool) → ask ≡ find_catalog paths quiet → CatalogIsRefused files reliable paths e → AskRefuses files reliable input failed ask e
   for_asked_runs : (paths : ManyPaths) (folder : List ℕ) (given : Given) (s : Setting) → ask ≡ run_plans paths folder given → IsSetting given s
       → PlansRefuse files reliable input failed paths folder e → AskRefuses files reliable input failed ask e
-  for_stopped : (text : List ℕ) → AskStops files input ask text e → AskRefuses files reliable input failed ask e
+  for_stopped : (layout : Layout) (text : List ℕ) → AskStops layout files input ask text e → AskRefuses files reliable input failed ask e
   for_asked_relation : (rows : ℕ) → ask ≡ generate rows → max_generated_rows < rows → e ≡ refusal.TooLarge → AskRefuses files reliable input failed ask e
 
 -- where a refusal was found is written behind it
@@ -223,6 +229,15 @@ wants_place None = false
 wants_place (Some error_form.Short) = false
 wants_place (Some error_form.Long) = true
 wants_place (Some error_form.Json) = true
+
+-- the layout that arguments ask rows to be in, on a screen of so many columns if that is known
+abbrev pub layout_asked : Option ℕ → List (List ℕ) → Layout
+layout_asked columns arguments = layout_of_word columns (layout_by (with_program_name arguments))
+
+-- the file that arguments ask rows to be put into, where they ask for something and clap refuses nothing of them; - is standard output
+abbrev pub output_asked : List (List ℕ) → Option (List ℕ)
+output_asked arguments =
+    if is_empty (faults_of (with_program_name arguments)) then option_and_then (λ ask. unless_output (output_by (with_program_name arguments))) (asked_by (with_program_name arguments)) else None
 
 -- arguments ask for help or for the version
 abbrev pub AskForHelp : List (List ℕ) → Type 0
@@ -234,20 +249,21 @@ pub record AsksFor (arguments : List (List ℕ)) (ask : Ask) : Type 0 where
   pub asked : asked_by (with_program_name arguments) ≡ Some ask
 
 -- the text answers arguments
-pub data AnswersArguments (files : List ℕ → Stored) (input : Option (List ℕ)) (arguments : List (List ℕ)) (text : List ℕ) : Type 0 where
-  for_help : AskForHelp arguments → AnswersArguments files input arguments text
-  for_what_is_asked : (ask : Ask) → AsksFor arguments ask → AnswersAsk files input ask text → AnswersArguments files input arguments text
+pub data AnswersArguments (columns : Option ℕ) (files : List ℕ → Stored) (input : Option (List ℕ)) (arguments : List (List ℕ)) (text : List ℕ) : Type 0 where
+  for_help : AskForHelp arguments → AnswersArguments columns files input arguments text
+  for_what_is_asked : (ask : Ask) → AsksFor arguments ask → AnswersAsk (layout_asked columns arguments) files input ask text → AnswersArguments columns files input arguments text
 
 -- a kind of fault of wrong arguments: neither an answer nor out of memory
 abbrev pub IsUsageKind : ErrorKind → Type 0
 IsUsageKind k = (k ≢ kind.DisplayHelp) × (k ≢ kind.DisplayVersion) × (k ≢ kind.OutOfMemory)
 
--- wrong arguments: those that clap refuses, those that ask for nothing, those that ask for what there is not, also of statistics and of refusals, and those whose file of statistics has none of their plan
+-- wrong arguments: those that clap refuses, those that ask for nothing, those that ask for what there is not, also of statistics, of rows and of refusals, and those whose file of statistics has none of their plan
 pub data IsUsageError (files : List ℕ → Stored) (input : Option (List ℕ)) (arguments : List (List ℕ)) : Type 0 where
   for_kind : (k : ErrorKind) → IsAmong k (faults_of (with_program_name arguments)) → IsUsageKind k → IsUsageError files input arguments
   for_nothing : faults_of (with_program_name arguments) ≡ [] → asked_by (with_program_name arguments) ≡ None → IsUsageError files input arguments
   for_no_task : (ask : Ask) → AsksFor arguments ask → IsNoTask ask → IsUsageError files input arguments
   for_no_stats : (word : List ℕ) → faults_of (with_program_name arguments) ≡ [] → stats_by (with_program_name arguments) ≡ Some word → stats_named word ≡ None → IsUsageError files input arguments
+  for_no_layout : (word : List ℕ) → faults_of (with_program_name arguments) ≡ [] → layout_by (with_program_name arguments) ≡ Some word → names_layout word ≡ false → IsUsageError files input arguments
   for_unknown_errors : (word : List ℕ) → faults_of (with_program_name arguments) ≡ [] → unknown_errors_by (with_program_name arguments) ≡ Some word → IsUsageError files input arguments
   for_other_stats : (ask : Ask) → AsksFor arguments ask → LacksStats files input ask → IsUsageError files input arguments
 
@@ -261,8 +277,8 @@ abbrev pub AsksForFailing : (List ℕ → Stored) → Option (List ℕ) → List
 AsksForFailing files input arguments lines = (paths : Paths) × AsksFor arguments (check_all paths) × FailsAtAll files input paths lines
 
 -- arguments ask for runs of several plans that stop at one of them, for this reason and with this text of the runs before it
-abbrev pub AsksForStopped : (List ℕ → Stored) → Option (List ℕ) → List (List ℕ) → List ℕ → Refusal → Type 0
-AsksForStopped files input arguments text e = (ask : Ask) × AsksFor arguments ask × AskStops files input ask text e
+abbrev pub AsksForStopped : Option ℕ → (List ℕ → Stored) → Option (List ℕ) → List (List ℕ) → List ℕ → Refusal → Type 0
+AsksForStopped columns files input arguments text e = (ask : Ask) × AsksFor arguments ask × AskStops (layout_asked columns arguments) files input ask text e
 
 -- arguments are refused by a refusal of this status
 abbrev pub AreRefusedBy : ℕ → (List ℕ → Stored) → (List ℕ → Bool) → Option (List ℕ) → Bool → List (List ℕ) → Type 0

@@ -20,7 +20,9 @@ use Rattle.volcano_answer.specs.Usage.{Tells, Names, NamesWrong}
 use Rattle.vx_exec_runs.specs.Promise.{Counting}
 use Rattle.volcano_answer.specs.Loaded.{AreAskedPlans}
 use Rattle.volcano_answer.specs.Stats.{AreAskStats, AreArgumentStats}
-use Rattle.volcano_answer.specs.CommandLine.{FileCommand, IsTask, IsNoTask, LacksStats, IsEntry, AnswersAsk, FailsAtAll, AsksFor, AsksForFailing, AnswersArguments, IsUsageKind, AskRefuses, IsUsageError, ArgumentsRefuse}
+use Rattle.volcano_answer.specs.declared.layouts.Layout.{Layout}
+use Rattle.volcano_answer.specs.declared.layouts.Layout.TheVariants as layouts
+use Rattle.volcano_answer.specs.CommandLine.{FileCommand, IsTask, IsNoTask, LacksStats, IsEntry, layout_asked, AnswersAsk, FailsAtAll, AsksFor, AsksForFailing, AnswersArguments, IsUsageKind, AskRefuses, IsUsageError, ArgumentsRefuse}
 
 abbrev pub task_is : held.FileCommand → FileCommand
 task_is t = record { command = t.command; paths = paths_are t.sources; folder = t.folder.now; setting = t.setting }
@@ -36,19 +38,19 @@ IsJob ask (asked_job.Statement d sources) = (name : List ℕ) × (ask ≡ sql (p
 IsJob ask (asked_job.Entry text) = (code : List ℕ) × (ask ≡ why code) × IsEntry code text.now
 IsJob ask (asked_job.Relation rows) = ask ≡ generate rows
 
--- what answers what arguments ask for: a finished text, the number of rows of the relation that they ask for, or the plans that they ask to be run
-abbrev pub IsAskAnswer : Counting → (List ℕ → Stored) → Option (List ℕ) → Ask → ArgumentAnswer → Type 0
-IsAskAnswer Counted files input ask (answer.Text text) = AnswersAsk files input ask text.items
-IsAskAnswer Counted files input ask (answer.Relation rows) = ask ≡ generate rows
-IsAskAnswer Counted files input ask (answer.Counted k) = AnswersAsk files input ask k.text.items × AreAskStats Counted files input k.form ask k.text.items (string_bytes k.opening)
-IsAskAnswer Counted files input ask (answer.Runs l) = AreAskedPlans files input ask l
+-- what answers what arguments ask for: a finished text, the number of rows of the relation that they ask for as CSV, or the plans that they ask to be run
+abbrev pub IsAskAnswer : Counting → Layout → (List ℕ → Stored) → Option (List ℕ) → Ask → ArgumentAnswer → Type 0
+IsAskAnswer Counted layout files input ask (answer.Text text) = AnswersAsk layout files input ask text.items
+IsAskAnswer Counted layout files input ask (answer.Relation rows) = (ask ≡ generate rows) × (layout ≡ layouts.Csv)
+IsAskAnswer Counted layout files input ask (answer.Counted k) = AnswersAsk layout files input ask k.text.items × AreAskStats Counted layout files input k.form ask k.text.items (string_bytes k.opening)
+IsAskAnswer Counted layout files input ask (answer.Runs l) = AreAskedPlans files input ask l × (l.layout ≡ layout)
 
 -- what answers arguments
-abbrev pub IsArgumentAnswer : Counting → (List ℕ → Stored) → Option (List ℕ) → List (List ℕ) → ArgumentAnswer → Type 0
-IsArgumentAnswer Counted files input arguments (answer.Text text) = AnswersArguments files input arguments text.items
-IsArgumentAnswer Counted files input arguments (answer.Relation rows) = AsksFor arguments (generate rows)
-IsArgumentAnswer Counted files input arguments (answer.Counted k) = AnswersArguments files input arguments k.text.items × AreArgumentStats Counted files input k.form arguments k.text.items (string_bytes k.opening)
-IsArgumentAnswer Counted files input arguments (answer.Runs l) = (ask : Ask) × AsksFor arguments ask × AreAskedPlans files input ask l
+abbrev pub IsArgumentAnswer : Counting → Option ℕ → (List ℕ → Stored) → Option (List ℕ) → List (List ℕ) → ArgumentAnswer → Type 0
+IsArgumentAnswer Counted columns files input arguments (answer.Text text) = AnswersArguments columns files input arguments text.items
+IsArgumentAnswer Counted columns files input arguments (answer.Relation rows) = AsksFor arguments (generate rows) × (layout_asked columns arguments ≡ layouts.Csv)
+IsArgumentAnswer Counted columns files input arguments (answer.Counted k) = AnswersArguments columns files input arguments k.text.items × AreArgumentStats Counted columns files input k.form arguments k.text.items (string_bytes k.opening)
+IsArgumentAnswer Counted columns files input arguments (answer.Runs l) = (ask : Ask) × AsksFor arguments ask × AreAskedPlans files input ask l × (l.layout ≡ layout_asked columns arguments)
 
 -- an answer by clap of this kind: the text of help or of the version
 abbrev pub IsHelp : ErrorKind → ArgumentAnswer → Type 0

@@ -4,7 +4,6 @@ use Rattle.vx_rows_values.specs.Values.{Row}
 use Rattle.vx_rows.specs.View.{RowsView}
 use Rattle.vx_catalog_relations.specs.Relation.{Relation}
 use Rattle.vx_catalog_relations.specs.Catalog.{relation_at}
-use Rattle.vx_catalog.specs.Csv.{csv_text}
 use Rattle.vx_catalog.specs.Database.{Database}
 use Rattle.vx_plan_json.specs.declared.fault.PlanFault.TheVariants.{NoMemory}
 use Rattle.vx_plan_nodes.specs.Erased.{erased_from}
@@ -28,6 +27,8 @@ use Rattle.volcano_bundle.specs.declared.command.Command.TheVariants as command
 use Rattle.volcano_refusals.specs.declared.refusal.Refusal.{Refusal}
 use Rattle.volcano_refusals.specs.declared.refusal.Refusal.TheVariants as refusal
 use Rattle.vx_plan_nodes.specs.ByteRouter.{byte_route}
+use Rattle.volcano_answer.specs.declared.layouts.Layout.{Layout}
+use Rattle.volcano_answer.specs.Layouts.{rows_text}
 use Rattle.volcano_tables.specs.Filled.{IsFilled, IsFirstMissing}
 use Rattle.vx_exec_setup.specs.Setting.{Setting}
 
@@ -43,10 +44,10 @@ Lacking = Relation → Refusal → Type 0
 abbrev pub refusal_in : TypedPlanView → Option (ℕ × Rule)
 refusal_in p = refusal_by p.derives (relation_at p.names.catalog) p.total (plan_in p.root)
 
--- the text is that of the rows of a run of this plan over this database, set up like this, under the names of the plan's output
-abbrev pub IsRunOver : TypedPlanView → Database → Setting → List ℕ → Type 0
-IsRunOver p db setting text =
-    (rows : RowsView) × (s : Sizes) × IsSetUp p db setting.setup s × IsRunOf byte_route p db s.worker_groups rows × (text ≡ csv_text (columns p.root).names rows.rows)
+-- the text is that of the rows of a run of this plan over this database, set up like this, in a layout and under the names of the plan's output
+abbrev pub IsRunOver : Layout → TypedPlanView → Database → Setting → List ℕ → Type 0
+IsRunOver layout p db setting text =
+    (rows : RowsView) × (s : Sizes) × IsSetUp p db setting.setup s × IsRunOf byte_route p db s.worker_groups rows × (text ≡ rows_text layout (columns p.root).names rows.rows)
 
 -- why a run of this plan over this database gives no text: it was set up rightly, and by rounds it may need more of them than a run makes, or its threads were
 -- not started; memory ran out; or it failed
@@ -62,8 +63,8 @@ pub record IsDatabaseFor (p : TypedPlanView) (holds : Holding) (db : Database) :
   pub filled : IsFilled (plan_in p.root) holds db
 
 -- the text answers a run of this plan over the tables
-abbrev pub IsRun : TypedPlanView → Holding → Setting → List ℕ → Type 0
-IsRun p holds setting text = (db : Database) × IsDatabaseFor p holds db × IsRunOver p db setting text
+abbrev pub IsRun : Layout → TypedPlanView → Holding → Setting → List ℕ → Type 0
+IsRun layout p holds setting text = (db : Database) × IsDatabaseFor p holds db × IsRunOver layout p db setting text
 
 -- why this plan gives no text: the tables, then the run
 pub data PlanRefuses (p : TypedPlanView) (holds : Holding) (lacks : Lacking) (setting : Setting) (e : Refusal) : Type 0 where
@@ -75,9 +76,9 @@ abbrev pub erased : TypedPlanView → TypedPlanView
 erased p = record { names = p.names; total = false; derives = false; root = erased_from 0 p.root }
 
 -- the text answers a serial evaluation of this plan over the tables: it is that of the serial rows of the plan without its exchanges, under the names of the plan's output
-abbrev pub IsSerial : TypedPlanView → Holding → List ℕ → Type 0
-IsSerial p holds text =
-    (db : Database) × (rows : RowsView) × IsDatabaseFor p holds db × IsSerialOf (erased p) db rows × (text ≡ csv_text (columns p.root).names rows.rows)
+abbrev pub IsSerial : Layout → TypedPlanView → Holding → List ℕ → Type 0
+IsSerial layout p holds text =
+    (db : Database) × (rows : RowsView) × IsDatabaseFor p holds db × IsSerialOf (erased p) db rows × (text ≡ rows_text layout (columns p.root).names rows.rows)
 
 -- why this plan has no serial text: the tables, then the first function of the plan without its exchanges, in which nodes are numbered anew, that the program does
 -- not have, then the first overflow there; out of memory may come anywhere
@@ -98,11 +99,11 @@ IsNotShown p e =
     ⊎ ((p.derives ≡ true) × (e ≡ refusal.Plan NoMemory))
 
 -- the text is what a command asks for of a plan over tables; a serial evaluation asks nothing of the claims, the other commands ask the checker first
-abbrev pub IsResultOf : Command → TypedPlanView → Holding → Setting → List ℕ → Type 0
-IsResultOf command.Run p holds setting text = IsShown p × IsRun p holds setting text
-IsResultOf command.Serial p holds setting text = IsSerial p holds text
-IsResultOf command.Check p holds setting text = IsShown p × (text ≡ accepted_text p.total)
-IsResultOf command.Explain p holds setting text = IsShown p × (text ≡ explain_text p.names p.total p.derives p.root)
+abbrev pub IsResultOf : Layout → Command → TypedPlanView → Holding → Setting → List ℕ → Type 0
+IsResultOf layout command.Run p holds setting text = IsShown p × IsRun layout p holds setting text
+IsResultOf layout command.Serial p holds setting text = IsSerial layout p holds text
+IsResultOf layout command.Check p holds setting text = IsShown p × (text ≡ accepted_text p.total)
+IsResultOf layout command.Explain p holds setting text = IsShown p × (text ≡ explain_text p.names p.total p.derives p.root)
 
 -- a command that asks the checker
 abbrev pub is_checked : Command → Bool

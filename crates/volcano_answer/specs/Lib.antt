@@ -5,6 +5,8 @@ pub mod Arguments
 pub mod StatsNames
 pub mod Files
 pub mod Forms
+pub mod Layouts
+pub mod Replacing
 pub mod Statements
 pub mod Annotated
 pub mod Verdict
@@ -22,3 +24,5 @@ pub mod Loaded
 pub mod Printing
 pub mod StatsView
 pub mod Reports
+pub mod Finding
+pub mod FindingView

@@ -18,6 +18,7 @@ use Rattle.volcano_refusals.specs.declared.refusal.Refusal.{Refusal}
 use Rattle.volcano_refusals.specs.declared.refusal.Refusal.TheVariants as refusal
 use Rattle.volcano_tables.specs.Filled.{scans, IsFilledBy, IsFirstMissingOf}
 use Rattle.volcano_tables.specs.Folder.{holds_at, LacksAt}
+use Rattle.volcano_answer.specs.declared.layouts.Layout.{Layout}
 use Rattle.volcano_answer.specs.Commands.{Holding, IsShown, IsNotShown, IsDatabaseFor, IsRunOver, RunRefuses}
 use Rattle.volcano_answer.specs.Files.{known_at, input_after, IsReadRefusal}
 use Rattle.volcano_answer.specs.Planning.{Reading, exactly, read_from, IsPlanned, IsPlanRefusal}
@@ -83,8 +84,8 @@ pub record IsShareFor (p : TypedPlanView) (holds : Holding) (all db : Database) 
   pub same : (i : ℕ) → scans (plan_in p.root) i ≡ true → rows_at db i ≡ rows_at all i
 
 -- the text answers a run of this plan over its share: as a run of it alone over the tables
-abbrev pub IsRunIn : Database → Holding → Setting → TypedPlanView → List ℕ → Type 0
-IsRunIn all holds setting p text = (db : Database) × IsShareFor p holds all db × IsRunOver p db setting text
+abbrev pub IsRunIn : Layout → Database → Holding → Setting → TypedPlanView → List ℕ → Type 0
+IsRunIn layout all holds setting p text = (db : Database) × IsShareFor p holds all db × IsRunOver layout p db setting text
 
 -- why a run of this plan over its share gives no text
 abbrev pub RunRefusesIn : Database → Holding → Setting → TypedPlanView → Refusal → Type 0
@@ -109,16 +110,16 @@ pub record StopsAt (Answers : TypedPlanView → List ℕ → Type 0) (Refuses : 
   pub refused : Refuses stopped.plan e
 
 -- the text is that of runs of all plans of these paths, over one database
-abbrev pub AnswersPlans : (List ℕ → Stored) → Option (List ℕ) → ManyPaths → List ℕ → Setting → List ℕ → Type 0
-AnswersPlans files input paths folder setting text =
+abbrev pub AnswersPlans : Layout → (List ℕ → Stored) → Option (List ℕ) → ManyPaths → List ℕ → Setting → List ℕ → Type 0
+AnswersPlans layout files input paths folder setting text =
     (relations : List Relation) × (ns : List NamedPlan) × (all : Database) × ArePlansAt files input paths relations ns × IsLoadedFor relations ns (holds_at files folder) all
-    × AreAnswers (IsRunIn all (holds_at files folder) setting) ns text
+    × AreAnswers (IsRunIn layout all (holds_at files folder) setting) ns text
 
 -- the run of one of the plans gives no text, and the text is that of the runs before it
-abbrev pub PlansStop : (List ℕ → Stored) → Option (List ℕ) → ManyPaths → List ℕ → Setting → List ℕ → Refusal → Type 0
-PlansStop files input paths folder setting text e =
+abbrev pub PlansStop : Layout → (List ℕ → Stored) → Option (List ℕ) → ManyPaths → List ℕ → Setting → List ℕ → Refusal → Type 0
+PlansStop layout files input paths folder setting text e =
     (relations : List Relation) × (ns : List NamedPlan) × (all : Database) × ArePlansAt files input paths relations ns × IsLoadedFor relations ns (holds_at files folder) all
-    × StopsAt (IsRunIn all (holds_at files folder) setting) (RunRefusesIn all (holds_at files folder) setting) ns text e
+    × StopsAt (IsRunIn layout all (holds_at files folder) setting) (RunRefusesIn all (holds_at files folder) setting) ns text e
 
 -- the first reason why no plan of these paths runs: the catalog, the plans in order, the tables; out of memory may come anywhere
 pub data PlansRefuse (files : List ℕ → Stored) (reliable : List ℕ → Bool) (input : Option (List ℕ)) (failed : Bool) (paths : ManyPaths) (folder : List ℕ) (e : Refusal) : Type 0 where

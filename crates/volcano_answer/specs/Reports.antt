@@ -1,6 +1,6 @@
 -- In which form more is said of a refusal, below its line.
-use Rattle.std.specs.Prelude.{Bool, true, false, Option, Some, None}
-use Rattle.volcano_arguments.specs.Asked.{Ask, bundle, check, check_all, explain, draw, annotate, sql, why, serial, run, run_plans, generate}
+use Rattle.std.specs.Prelude.{Bool, true, false, not, Option, Some, None}
+use Rattle.volcano_arguments.specs.Asked.{Ask, bundle, check, check_all, explain, draw, annotate, sql, find_catalog, why, serial, run, run_plans, generate}
 use Rattle.volcano_arguments.specs.declared.asked.ErrorForm.{ErrorForm}
 use Rattle.volcano_arguments.specs.declared.asked.ErrorForm.TheVariants as error_form
 
@@ -16,7 +16,7 @@ is_silent error_form.Short = true
 is_silent error_form.Long = false
 is_silent error_form.Json = false
 
--- what is asked for is a plan with the claims that follow
+-- what is asked for is a plan with the claims that follow, or a catalog that is found in files: beside these something may be said
 abbrev pub annotates_ask : Ask → Bool
 annotates_ask bundle = false
 annotates_ask (check paths) = false
@@ -25,6 +25,7 @@ annotates_ask (explain paths format) = false
 annotates_ask (draw paths stats) = false
 annotates_ask (annotate paths derive) = true
 annotates_ask (sql paths dialect) = false
+annotates_ask (find_catalog paths quiet) = not quiet
 annotates_ask (why code) = false
 annotates_ask (serial paths folder) = false
 annotates_ask (run paths folder given) = false

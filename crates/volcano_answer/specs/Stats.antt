@@ -1,11 +1,10 @@
 -- Statistics of runs: which arguments ask for them, and what standard error gets behind the rows. `files` and `input` are as in `Files`.
-use Rattle.std.specs.Prelude.{◌≡◌, ℕ, ◌++◌, List, [], ◌∷◌, map, Bool, true, false, Option, Some, None, IfSome, option_and_then, Ok, length, codes, string_bytes}
-use Rattle.volcano_arguments.specs.Asked.{Ask, ManyPaths, Given, bundle, run, run_plans, stats_by}
+use Rattle.std.specs.Prelude.{◌≡◌, ℕ, ◌++◌, List, [], ◌∷◌, map, Bool, true, false, not, Option, Some, None, IfSome, option_and_then, Ok, length, codes, string_bytes}
+use Rattle.volcano_arguments.specs.Asked.{Ask, ManyPaths, Given, bundle, find_catalog, run, run_plans, stats_by}
 use Rattle.volcano_bundle.specs.Bundle.{Bundle, bundle_of_text}
 use Rattle.volcano_bundle.specs.declared.command.Command.TheVariants as command
 use Rattle.vx_exec_setup.specs.Setting.{Setting}
 use Rattle.vx_catalog_bytes.specs.Stored.{Stored}
-use Rattle.vx_catalog.specs.Csv.{csv_text}
 use Rattle.vx_catalog.specs.Database.{Database}
 use Rattle.vx_check_rules.specs.CheckedView.{typed_plan}
 use Rattle.vx_plan_nodes.specs.ByteRouter.{byte_route}
@@ -32,11 +31,13 @@ use Rattle.volcano_tables.specs.Folder.{holds_at}
 use Rattle.volcano_tables.specs.Texts.{holds_in}
 use Rattle.volcano_answer.specs.Answer.{IsBundlePlan, AsksForRun}
 use Rattle.volcano_answer.specs.Arguments.{IsSetting}
-use Rattle.volcano_answer.specs.CommandLine.{FileCommand, IsTask, with_program_name, AsksFor}
+use Rattle.volcano_answer.specs.CommandLine.{FileCommand, IsTask, with_program_name, layout_asked, AsksFor}
 use Rattle.volcano_answer.specs.Commands.{Holding, IsShown, IsDatabaseFor}
 use Rattle.volcano_answer.specs.Files.{IsFilesPlan}
 use Rattle.volcano_answer.specs.Plans.{ArePlansAt, IsLoadedFor, any_scans, title}
 use Rattle.volcano_answer.specs.PlansView.{named_is}
+use Rattle.volcano_answer.specs.declared.layouts.Layout.{Layout}
+use Rattle.volcano_answer.specs.Layouts.{rows_text}
 use Rattle.volcano_answer.specs.StatsNames.{stats_named}
 use Rattle.volcano_answer.specs.declared.plans.AcceptedPlan.{AcceptedPlan}
 
@@ -55,6 +56,11 @@ may_run (run paths folder given) = true
 may_run (run_plans paths folder given) = true
 may_run _ = false
 
+-- what is asked for is no run, and no catalog that is found in files
+abbrev pub is_plain : Ask → Bool
+is_plain (find_catalog paths quiet) = false
+is_plain ask = not (may_run ask)
+
 -- what is asked for is a run, or several
 abbrev pub AsksForRuns : Option (List ℕ) → Ask → Type 0
 AsksForRuns input bundle = (bytes : List ℕ) × (input ≡ Some bytes) × AsksForRun bytes
@@ -72,14 +78,14 @@ if_asked None text = []
 if_asked (Some f) text = text f
 
 -- `Counted` says what the engine promises of the counts of its runs' workers. Where no form `f` of statistics is asked for, nothing is said of counts, and there are no statistics
-module _ (Counted : Counting) where
+module _ (Counted : Counting) (layout : Layout) where
   -- the text is that of the rows of a run of this plan over this database, as in `IsRunOver`, and the workers of that run counted this
   pub record IsCountedRun (f : Option StatsForm) (p : TypedPlan) (db : Database) (setting : Setting) (text : List ℕ) (ws : List WorkerCounts) : Type 0 where
     pub rows : RowsView
     pub sizes : Sizes
     pub set : IsSetUp (resolved_of p) db setting.setup sizes
     pub run : IsRunOf byte_route (resolved_of p) db sizes.worker_groups rows
-    pub is : text ≡ csv_text (columns (resolved_of p).root).names rows.rows
+    pub is : text ≡ rows_text layout (columns (resolved_of p).root).names rows.rows
     pub counted : IfSome f (λ _. Counted setting.mode p db sizes (Ok (run_outcome.Done rows)) ws)
 
   -- statistics, up to the time of the write, of a counted run of this plan over the tables, with this text; these phases came before, and each relation that the plan scans was loaded
@@ -152,11 +158,13 @@ module _ (Counted : Counting) where
     for_several : (paths : ManyPaths) (folder : List ℕ) (given : Given) (s : Setting) → ask ≡ run_plans paths folder given → IsSetting given s → ArePlansStats files input (Some f) paths folder s text opening
         → AreAskStats files input f ask text opening
 
-  -- the same of what arguments ask for
+-- the same of what arguments ask for, with rows in the layout that they ask for, on a screen of so many columns if that is known
+module _ (Counted : Counting) (columns : Option ℕ) where
+  -- statistics, up to the time of the write
   pub record AreArgumentStats (files : List ℕ → Stored) (input : Option (List ℕ)) (f : StatsForm) (arguments : List (List ℕ)) (text opening : List ℕ) : Type 0 where
     pub ask : Ask
     pub asked : AsksFor arguments ask
-    pub reported : AreAskStats files input f ask text opening
+    pub reported : AreAskStats Counted (layout_asked columns arguments) files input f ask text opening
 
   -- and all of the statistics, with the time of the write
   pub record AreStatsOf (files : List ℕ → Stored) (input : Option (List ℕ)) (f : StatsForm) (arguments : List (List ℕ)) (text stats : List ℕ) : Type 0 where

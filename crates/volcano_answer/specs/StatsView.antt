@@ -1,11 +1,12 @@
 -- Answers with statistics, as they are held.
-use Rattle.std.specs.Prelude.{◌≡◌, ℕ, List, Option, Some, None, codes}
+use Rattle.std.specs.Prelude.{◌≡◌, ℕ, List, Option, Some, None, false, codes}
 use Rattle.volcano_stats.specs.declared.text.StatsForm.{StatsForm}
 use Rattle.volcano_answer.specs.declared.command_line.ArgumentAnswer.{ArgumentAnswer}
 use Rattle.volcano_answer.specs.declared.command_line.ArgumentAnswer.TheVariants as answer
 use Rattle.volcano_answer.specs.declared.command_line.ArgumentFault.{ArgumentFault}
 use Rattle.volcano_answer.specs.declared.command_line.ArgumentFault.TheVariants as fault
 use Rattle.volcano_refusals.specs.declared.refusal.Refusal.TheVariants as refusal
+use Rattle.volcano_answer.specs.Layouts.{names_layout}
 use Rattle.volcano_answer.specs.StatsNames.{stats_named}
 use Rattle.volcano_answer.specs.Usage.{Names}
 use Rattle.volcano_answer.specs.declared.stats.RunReport.{RunReport}
@@ -41,6 +42,12 @@ abbrev pub IsStatsFault : Option (List ℕ) → ArgumentFault → Type 0
 IsStatsFault word (fault.Usage text) = (w : List ℕ) × (word ≡ Some w) × (stats_named w ≡ None) × Names (codes "volcano: --stats ") w text.items
 IsStatsFault word (fault.Refused e) = e ≡ refusal.NoMemory
 IsStatsFault word (fault.Failing lines) = ⊥
+
+-- a word that is no layout of rows is a wrong argument, which the message names, or memory ran out
+abbrev pub IsLayoutFault : Option (List ℕ) → ArgumentFault → Type 0
+IsLayoutFault word (fault.Usage text) = (w : List ℕ) × (word ≡ Some w) × (names_layout w ≡ false) × Names (codes "volcano: --format ") w text.items
+IsLayoutFault word (fault.Refused e) = e ≡ refusal.NoMemory
+IsLayoutFault word (fault.Failing lines) = ⊥
 
 -- a word that is no form of refusals is a wrong argument, which the message names, or memory ran out
 abbrev pub IsErrorsFault : Option (List ℕ) → ArgumentFault → Type 0

@@ -1,8 +1,9 @@
 -- What is said of wrong arguments: which one is wrong, as it is shown on a line.
 use Rattle.std.specs.Prelude.{◌≡◌, ℕ, ◌++◌, List, codes}
-use Rattle.volcano_arguments.specs.Asked.{Ask, bundle, check, check_all, explain, draw, annotate, sql, why, serial, run, run_plans, generate}
+use Rattle.volcano_arguments.specs.Asked.{Ask, bundle, check, check_all, explain, draw, annotate, sql, find_catalog, why, serial, run, run_plans, generate}
 use Rattle.volcano_diagnostics.specs.Shown.{IsShown}
 use Rattle.volcano_answer.specs.Arguments.{IsWrongPart}
+use Rattle.volcano_answer.specs.Finding.{IsWrongPath}
 
 -- the message is these words, an argument as it is shown, and these words behind it
 abbrev pub Tells : (before argument after message : List ℕ) → Type 0
@@ -21,6 +22,7 @@ IsWrong (explain paths format) before argument = (before ≡ codes "volcano: --f
 IsWrong (draw paths stats) before argument = (before ≡ codes "volcano: --stats ") × (argument ≡ stats)
 IsWrong (annotate paths derive) before argument = ⊥
 IsWrong (sql paths dialect) before argument = (before ≡ codes "volcano: --dialect ") × (argument ≡ dialect)
+IsWrong (find_catalog paths quiet) before argument = (before ≡ codes "volcano: catalog ") × IsWrongPath paths argument
 IsWrong (why code) before argument = (before ≡ codes "volcano: why ") × (argument ≡ code)
 IsWrong (serial paths folder) before argument = ⊥
 IsWrong (run paths folder given) before argument = IsWrongPart given before argument

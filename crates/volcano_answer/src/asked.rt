@@ -11,6 +11,7 @@ ghost use Rattle.volcano_answer.specs.StatsView.{answer_with, made_with, IsCount
 use crate::arguments::setting_in;
 use crate::command::CommandAnswer;
 use crate::command_line::{ArgumentAnswer, ArgumentFault, answer_plain, usage_fault};
+use crate::finding::answer_catalog;
 use crate::program::outcome_of;
 use crate::runs::load_plans;
 use crate::services::Services;
@@ -59,7 +60,7 @@ pub fn answer_asked<T: Threads + Wait + Sync, R: Runs, C: Clock, F: Store, I: By
     form: Option<StatsForm>,
     asked: &Asked<'_>,
 ) -> Result<ArgumentAnswer, ArgumentFault>
-    ensures answer { IfOk result (λ a. IsAskAnswer (R.counted services.now.engine.now) (F.holds files.now) (I.remaining input.old) (asked_is asked.now) a) }
+    ensures answer { IfOk result (λ a. IsAskAnswer (R.counted services.now.engine.now) services.now.layout (F.holds files.now) (I.remaining input.old) (asked_is asked.now) a) }
     ensures no_stats { form ≡ None → IfOk result IsUncounted }
     ensures stats { (f : StatsForm) → form ≡ Some f → AsksForRuns (I.remaining input.old) (asked_is asked.now) → IfOk result (IsCountedAs f) }
     ensures refused { IfErr result (IsAskFault (F.holds files.now) (F.is_reliable files.now) (I.remaining input.old) (I.has_failed input.new) (asked_is asked.now)) }
@@ -85,6 +86,10 @@ pub fn answer_asked<T: Threads + Wait + Sync, R: Runs, C: Clock, F: Store, I: By
             };
             let loaded = load_plans(services, files, input, form, sources, *folder, setting)?;
             Ok(ArgumentAnswer::Runs(loaded))
+        }
+        Asked::Catalog(paths, _quiet) => {
+            let text = answer_catalog(services, files, paths.as_slice())?;
+            Ok(ArgumentAnswer::Text(text))
         }
         _ => answer_plain(services, files, input, asked),
     }

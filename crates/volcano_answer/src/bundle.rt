@@ -41,8 +41,8 @@ fn answer_bundle<T: Threads + Wait + Sync, R: Runs, C: Clock>(
     form: Option<StatsForm>,
     timer: &mut Timer,
 ) -> Result<CommandAnswer, Refusal>
-    ensures text { IfOk result (λ a. IsOutput (bundle_form bundle.now) (text_in a)) }
-    ensures run { IfOk result (IfRun (λ k. IsBundleRun (R.counted services.now.engine.now) form (bundle_form bundle.now) (phases_of (times_in timer.old)) k.text.items (string_bytes k.stats))) }
+    ensures text { IfOk result (λ a. IsOutput services.now.layout (bundle_form bundle.now) (text_in a)) }
+    ensures run { IfOk result (IfRun (λ k. IsBundleRun (R.counted services.now.engine.now) services.now.layout form (bundle_form bundle.now) (phases_of (times_in timer.old)) k.text.items (string_bytes k.stats))) }
     ensures runs { (bundle_form bundle.now).command ≡ command.Run → IfOk result IsRunReport }
     ensures refused { IfErr result (λ e. Refuses (bundle_form bundle.now) e) }
 {
@@ -59,8 +59,8 @@ pub fn answer_bytes<T: Threads + Wait + Sync, R: Runs, C: Clock>(
     bytes: &[u8],
     form: Option<StatsForm>,
 ) -> Result<CommandAnswer, Refusal>
-    ensures text { IfOk result (λ a. IsAnswer bytes.now (text_in a)) }
-    ensures run { IfOk result (IfRun (λ k. AreBundleStats (R.counted services.now.engine.now) form bytes.now k.text.items (string_bytes k.stats))) }
+    ensures text { IfOk result (λ a. IsAnswer services.now.layout bytes.now (text_in a)) }
+    ensures run { IfOk result (IfRun (λ k. AreBundleStats (R.counted services.now.engine.now) services.now.layout form bytes.now k.text.items (string_bytes k.stats))) }
     ensures runs { AsksForRun bytes.now → IfOk result IsRunReport }
     ensures refused { IfErr result (λ e. IsRefused bytes.now e) }
 {

@@ -73,8 +73,8 @@ pub fn execute<T: Threads + Wait + Sync, R: Runs, C: Clock, B: Tables>(
     form: Option<StatsForm>,
     timer: &mut Timer,
 ) -> Result<CommandAnswer, Refusal>
-    ensures text { IfOk result (λ a. IsResultOf command (resolved_of plan) (B.holds tables.now) setting.now (text_in a)) }
-    ensures run { IfOk result (IfRun (λ k. (command ≡ Command.Run) × IsShown (resolved_of plan) × IsCountedPlan (R.counted services.now.engine.now) form plan (B.holds tables.now) setting.now (phases_of (times_in timer.old) ++ (work_phase.Check ∷ [])) k.text.items (string_bytes k.stats))) }
+    ensures text { IfOk result (λ a. IsResultOf services.now.layout command (resolved_of plan) (B.holds tables.now) setting.now (text_in a)) }
+    ensures run { IfOk result (IfRun (λ k. (command ≡ Command.Run) × IsShown (resolved_of plan) × IsCountedPlan (R.counted services.now.engine.now) services.now.layout form plan (B.holds tables.now) setting.now (phases_of (times_in timer.old) ++ (work_phase.Check ∷ [])) k.text.items (string_bytes k.stats))) }
     ensures runs { command ≡ Command.Run → IfOk result IsRunReport }
     ensures refused { IfErr result (λ e. CommandRefuses command (resolved_of plan) (B.holds tables.now) (B.lacks tables.now) setting.now e) }
 {

@@ -1,13 +1,15 @@
 //! What arguments ask for, answered from files and standard input.
 
-ghost use Rattle.std.specs.Prelude.{◌≡◌, ◌⊎◌, [], slice_index_or, true, false, map, option_map, Some, None, MatchResult, IfOk, IfErr};
+ghost use Rattle.std.specs.Prelude.{ℕ, ◌≡◌, ◌⊎◌, List, [], slice_index_or, Bool, true, false, map, Option, option_map, Some, None, MatchResult, IfOk, IfErr};
 ghost use Rattle.clap.specs.Values.{kind_of};
-ghost use Rattle.volcano_arguments.specs.Asked.{asked_is, paths_are, check_all, explain, draw, sql, why, Ask};
+ghost use Rattle.volcano_arguments.specs.Asked.{asked_is, paths_are, check_all, explain, draw, sql, why, generate, Ask};
 ghost use Rattle.volcano_stats.specs.declared.text.StatsForm.{StatsForm};
+ghost use Rattle.vx_catalog_bytes.specs.Stored.{Stored};
 ghost use Rattle.volcano_answer.specs.CommandLine.{default_setting, IsTask, AnswersTask, TaskRefuses, AnswersForm, FormIsRefused, AnswersStatement, StatementIsRefused, AnswersAnnotation, AnnotationIsRefused, spelled_out, with_program_name, AsksFor};
-ghost use Rattle.volcano_answer.specs.Stats.{stats_of_word, stats_asked, may_run, AsksForRuns};
+ghost use Rattle.volcano_answer.specs.Stats.{stats_of_word, stats_asked, is_plain, AsksForRuns};
 ghost use Rattle.volcano_answer.specs.StatsNames.{stats_named};
-ghost use Rattle.volcano_answer.specs.StatsView.{IsCountedAs, IsUncounted, IsStatsFault, IsErrorsFault};
+ghost use Rattle.volcano_answer.specs.Layouts.{names_layout, layout_of_word};
+ghost use Rattle.volcano_answer.specs.StatsView.{IsCountedAs, IsUncounted, IsStatsFault, IsLayoutFault, IsErrorsFault};
 ghost use Rattle.volcano_answer.specs.UsageView.{IsUnmet};
 ghost use Rattle.volcano_answer.specs.CommandLineView.{task_is, IsJob, IsAskAnswer, IsArgumentAnswer, IsHelp, HasUsageText, IsUsageFault, IsClapFault, IsAskFault, IsArgumentFault};
 
@@ -18,7 +20,9 @@ use crate::drawing_faults::no_drawing;
 use crate::failing::{Findings, verdict_on};
 use crate::files::{all_from_files, bytes_at, document_from_files, plan_from_files};
 use crate::forms::{PlanForm, form_named, plan_in_form};
+use crate::layouts::{Layout, layout_named};
 use crate::loading::loading_threads;
+use crate::relation::relation_text;
 use crate::runs::LoadedPlans;
 use crate::services::Services;
 use crate::statement::{dialect_named, statement};
@@ -69,7 +73,7 @@ enum AskedJob<'a> {
     Statement(Dialect, Sources<'a>),
     /// What a code means.
     Entry(&'static str),
-    /// The text of the relation with so many rows.
+    /// The relation with so many rows.
     Relation(u64),
 }
 
@@ -78,7 +82,7 @@ enum AskedJob<'a> {
 pub enum ArgumentAnswer {
     /// A finished text.
     Text(Vec<u8>),
-    /// The text of the relation with so many rows, which is still to be made.
+    /// The text of the relation with so many rows as CSV, which is still to be made.
     Relation(u64),
     /// A finished text, and statistics that follow it.
     Counted(CountedText),
@@ -200,9 +204,9 @@ fn why_job<'a>(code: &'a str) -> Result<AskedJob<'a>, WrongPart<'a>>
     }
 }
 
-// The job that is asked for, which is no run, or the format, the dialect or the code that there is not.
+// The job that is asked for, which is no run and no catalog, or the format, the dialect or the code that there is not.
 fn job_in<'a>(alloc: Global, asked: &Asked<'a>) -> Result<AskedJob<'a>, WrongPart<'a>>
-    requires { may_run (asked_is asked.now) ≡ false }
+    requires { is_plain (asked_is asked.now) ≡ true }
     ensures { MatchResult result (IsJob (asked_is asked.now)) (IsUnmet (asked_is asked.now)) }
 {
     match asked {
@@ -220,7 +224,9 @@ fn job_in<'a>(alloc: Global, asked: &Asked<'a>) -> Result<AskedJob<'a>, WrongPar
             let task = plain_task(alloc, Command::Serial, *sources, *folder);
             Ok(AskedJob::Command(task))
         }
-        Asked::Bundle | Asked::Run(_, _, _) | Asked::RunPlans(_, _, _) => unreachable!(),
+        Asked::Bundle | Asked::Run(_, _, _) | Asked::RunPlans(_, _, _) | Asked::Catalog(_, _) => {
+            unreachable!()
+        }
         Asked::Generate(rows) => Ok(AskedJob::Relation(*rows)),
     }
 }
@@ -232,7 +238,7 @@ fn answer_task<T: Threads + Wait + Sync, R: Runs, C: Clock, F: Store, I: ByteIn>
     input: &mut I,
     task: &FileCommand<'_>,
 ) -> Result<Vec<u8>, Refusal>
-    ensures text { IfOk result (λ text. AnswersTask (F.holds files.now) (I.remaining input.old) (task_is task.now) text.items) }
+    ensures text { IfOk result (λ text. AnswersTask services.now.layout (F.holds files.now) (I.remaining input.old) (task_is task.now) text.items) }
     ensures refused { IfErr result (λ e. TaskRefuses (F.holds files.now) (F.is_reliable files.now) (I.remaining input.old) (I.has_failed input.new) (task_is task.now) e) }
 {
     let plan = plan_from_files(services.alloc, files, input, task.sources)?;
@@ -284,7 +290,7 @@ fn answer_drawing<T: Threads + Wait + Sync, R: Runs, C: Clock, F: Store, I: Byte
     sources: Sources<'_>,
     stats: &str,
 ) -> Result<ArgumentAnswer, ArgumentFault>
-    ensures answer { IfOk result (λ a. IsAskAnswer (R.counted services.now.engine.now) (F.holds files.now) (I.remaining input.old) (draw (paths_are sources.entry) stats.now) a) }
+    ensures answer { IfOk result (λ a. IsAskAnswer (R.counted services.now.engine.now) services.now.layout (F.holds files.now) (I.remaining input.old) (draw (paths_are sources.entry) stats.now) a) }
     ensures no_stats { IfOk result IsUncounted }
     ensures refused { IfErr result (IsAskFault (F.holds files.now) (F.is_reliable files.now) (I.remaining input.old) (I.has_failed input.new) (draw (paths_are sources.entry) stats.now)) }
 {
@@ -323,7 +329,7 @@ fn answer_verdict<T: Threads + Wait + Sync, R: Runs, C: Clock, F: Store, I: Byte
     input: &mut I,
     sources: Sources<'_>,
 ) -> Result<ArgumentAnswer, ArgumentFault>
-    ensures answer { IfOk result (λ a. IsAskAnswer (R.counted services.now.engine.now) (F.holds files.now) (I.remaining input.old) (check_all (paths_are sources.entry)) a) }
+    ensures answer { IfOk result (λ a. IsAskAnswer (R.counted services.now.engine.now) services.now.layout (F.holds files.now) (I.remaining input.old) (check_all (paths_are sources.entry)) a) }
     ensures no_stats { IfOk result IsUncounted }
     ensures refused { IfErr result (IsAskFault (F.holds files.now) (F.is_reliable files.now) (I.remaining input.old) (I.has_failed input.new) (check_all (paths_are sources.entry))) }
 {
@@ -333,6 +339,22 @@ fn answer_verdict<T: Threads + Wait + Sync, R: Runs, C: Clock, F: Store, I: Byte
         Findings::Accepted(text) => Ok(ArgumentAnswer::Text(text)),
         Findings::Failing(lines) => Err(ArgumentFault::Failing(lines)),
     }
+}
+
+// The relation with `rows` rows. As CSV its text is made as it is written.
+fn answer_relation<T: Threads + Wait + Sync, R: Runs, C: Clock>(
+    services: &Services<'_, T, R, C>,
+    rows: u64,
+) -> Result<ArgumentAnswer, ArgumentFault>
+    ensures answer { (files : List ℕ → Stored) (input : Option (List ℕ)) → IfOk result (IsAskAnswer (R.counted services.now.engine.now) services.now.layout files input (generate rows)) }
+    ensures no_stats { IfOk result IsUncounted }
+    ensures refused { (files : List ℕ → Stored) (reliable : List ℕ → Bool) (input : Option (List ℕ)) (failed : Bool) → IfErr result (IsAskFault files reliable input failed (generate rows)) }
+{
+    if let Layout::Csv = services.layout {
+        return Ok(ArgumentAnswer::Relation(rows));
+    }
+    let text = relation_text(services, rows)?;
+    Ok(ArgumentAnswer::Text(text))
 }
 
 // The fault of wrong arguments, with this text.
@@ -355,15 +377,15 @@ pub fn usage_fault(alloc: Global, wrong: WrongPart<'_>) -> ArgumentFault
     }
 }
 
-/// What answers what arguments ask for that is no run.
+/// What answers what arguments ask for that is no run and no catalog.
 pub fn answer_plain<T: Threads + Wait + Sync, R: Runs, C: Clock, F: Store, I: ByteIn>(
     services: &Services<'_, T, R, C>,
     files: &F,
     input: &mut I,
     asked: &Asked<'_>,
 ) -> Result<ArgumentAnswer, ArgumentFault>
-    requires plain { may_run (asked_is asked.now) ≡ false }
-    ensures answer { IfOk result (λ a. IsAskAnswer (R.counted services.now.engine.now) (F.holds files.now) (I.remaining input.old) (asked_is asked.now) a) }
+    requires plain { is_plain (asked_is asked.now) ≡ true }
+    ensures answer { IfOk result (λ a. IsAskAnswer (R.counted services.now.engine.now) services.now.layout (F.holds files.now) (I.remaining input.old) (asked_is asked.now) a) }
     ensures no_stats { IfOk result IsUncounted }
     ensures refused { IfErr result (IsAskFault (F.holds files.now) (F.is_reliable files.now) (I.remaining input.old) (I.has_failed input.new) (asked_is asked.now)) }
 {
@@ -393,7 +415,7 @@ pub fn answer_plain<T: Threads + Wait + Sync, R: Runs, C: Clock, F: Store, I: By
             let text = Vec::from_slice(alloc, text.as_bytes())?;
             Ok(ArgumentAnswer::Text(text))
         }
-        Ok(AskedJob::Relation(rows)) => Ok(ArgumentAnswer::Relation(rows)),
+        Ok(AskedJob::Relation(rows)) => answer_relation(services, rows),
         Err(wrong) => Err(usage_fault(alloc, wrong)),
     }
 }
@@ -451,6 +473,44 @@ fn stats_fault(alloc: Global, word: &str) -> ArgumentFault
     usage_fault(alloc, wrong)
 }
 
+// What there is in place of a word for the layout of rows that is none, with the help of the command that takes it.
+fn layouts_of(asked: &Asked<'_>) -> &'static str {
+    match asked {
+        Asked::Serial(_, _) => {
+            ": rows are written as csv, table or json; see volcano serial --help\n"
+        }
+        Asked::Generate(_) => ": rows are written as csv, table or json; see volcano gen --help\n",
+        _ => ": rows are written as csv, table or json; see volcano run --help\n",
+    }
+}
+
+// The fault of a word for the layout of rows that is none.
+fn layout_fault(alloc: Global, asked: &Asked<'_>, word: &str) -> ArgumentFault
+    requires { names_layout word.now ≡ false }
+    ensures { IsLayoutFault (Some word.now) result }
+{
+    let wrong = WrongPart {
+        before: "volcano: --format ",
+        argument: word,
+        after: layouts_of(asked),
+    };
+    usage_fault(alloc, wrong)
+}
+
+// The layout that a word asks for, or the word if it is none. Without a word rows are CSV.
+fn request_layout<'a>(columns: Option<usize>, word: Option<&'a str>) -> Result<Layout, &'a str>
+    ensures layout { IfOk result (λ l. l ≡ layout_of_word columns (option_map (λ s. s.now) word.entry)) }
+    ensures other { IfErr result (λ w. (names_layout w.now ≡ false) × (option_map (λ s. s.now) word.entry ≡ Some w.now)) }
+{
+    let Some(word) = word else {
+        return Ok(Layout::Csv);
+    };
+    match layout_named(columns, word) {
+        Some(layout) => Ok(layout),
+        None => Err(word),
+    }
+}
+
 // The fault of a word for the form of refusals that is none.
 fn errors_fault(alloc: Global, word: &str) -> ArgumentFault
     ensures { IsErrorsFault (Some word.now) result }
@@ -470,17 +530,22 @@ fn answer_request<T: Threads + Wait + Sync, R: Runs, C: Clock, F: Store, I: Byte
     input: &mut I,
     request: &Request<'_>,
 ) -> Result<ArgumentAnswer, ArgumentFault>
-    ensures answer { IfOk result (λ a. IsAskAnswer (R.counted services.now.engine.now) (F.holds files.now) (I.remaining input.old) (asked_is request.now.asked) a) }
+    ensures answer { IfOk result (λ a. IsAskAnswer (R.counted services.now.engine.now) (layout_of_word services.now.columns (option_map (λ s. s.now) request.now.layout)) (F.holds files.now) (I.remaining input.old) (asked_is request.now.asked) a) }
     ensures stats { (f : StatsForm) → AsksForRuns (I.remaining input.old) (asked_is request.now.asked) → stats_of_word (option_map (λ s. s.now) request.now.stats) ≡ Some f → IfOk result (IsCountedAs f) }
     ensures no_stats { stats_of_word (option_map (λ s. s.now) request.now.stats) ≡ None → IfOk result IsUncounted }
     ensures refused { IfErr result (λ e. IsAskFault (F.holds files.now) (F.is_reliable files.now) (I.remaining input.old) (I.has_failed input.new) (asked_is request.now.asked) e
-        ⊎ (IsStatsFault (option_map (λ s. s.now) request.now.stats) e ⊎ IsErrorsFault (option_map (λ s. s.now) request.now.unknown_errors) e)) }
+        ⊎ (IsStatsFault (option_map (λ s. s.now) request.now.stats) e ⊎ (IsLayoutFault (option_map (λ s. s.now) request.now.layout) e ⊎ IsErrorsFault (option_map (λ s. s.now) request.now.unknown_errors) e))) }
     ensures errors { IfOk result (λ _. option_map (λ s. s.now) request.now.unknown_errors ≡ None) }
 {
     if let Some(word) = request.unknown_errors {
         return Err(errors_fault(services.alloc, word));
     }
-    let services = services.with_threads(loading_threads(services.rt, request.threads));
+    let layout = match request_layout(services.columns, request.layout) {
+        Ok(layout) => layout,
+        Err(word) => return Err(layout_fault(services.alloc, &request.asked, word)),
+    };
+    let threads = loading_threads(services.rt, request.threads);
+    let services = services.with_threads(threads).with_layout(layout);
     match request.stats {
         None => answer_asked(&services, files, input, None, &request.asked),
         Some(word) => match stats_named(word) {
@@ -512,7 +577,7 @@ pub fn answer_arguments<T: Threads + Wait + Sync, R: Runs, C: Clock, F: Store, I
     input: &mut I,
     arguments: &[&str],
 ) -> Result<ArgumentAnswer, ArgumentFault>
-    ensures answer { IfOk result (λ a. IsArgumentAnswer (R.counted services.now.engine.now) (F.holds files.now) (I.remaining input.old) (map (λ a. a.now) arguments.now) a) }
+    ensures answer { IfOk result (λ a. IsArgumentAnswer (R.counted services.now.engine.now) services.now.columns (F.holds files.now) (I.remaining input.old) (map (λ a. a.now) arguments.now) a) }
     ensures stats { (f : StatsForm) (ask : Ask) → AsksFor (map (λ a. a.now) arguments.now) ask → AsksForRuns (I.remaining input.old) ask → stats_asked (map (λ a. a.now) arguments.now) ≡ Some f → IfOk result (IsCountedAs f) }
     ensures no_stats { stats_asked (map (λ a. a.now) arguments.now) ≡ None → IfOk result IsUncounted }
     ensures refused { IfErr result (IsArgumentFault (F.holds files.now) (F.is_reliable files.now) (I.remaining input.old) (I.has_failed input.new) (map (λ a. a.now) arguments.now)) }

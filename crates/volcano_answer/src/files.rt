@@ -29,8 +29,8 @@ pub fn is_input(path: &str) -> bool
     path == INPUT
 }
 
-// All bytes of a file.
-fn file_bytes<F: Store>(alloc: Global, files: &F, path: &str) -> Result<Vec<u8>, Refusal>
+/// All bytes of a file.
+pub fn file_bytes<F: Store>(alloc: Global, files: &F, path: &str) -> Result<Vec<u8>, Refusal>
     ensures bytes { IfOk result (λ v. IfBytes (F.holds files.now path.now) (λ bytes. bytes ≡ v.items)) }
     ensures refused { IfErr result (IsFileRefusal (F.holds files.now path.now) (F.is_reliable files.now path.now) path.now) }
 {

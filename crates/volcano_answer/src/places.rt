@@ -12,11 +12,15 @@ use std::sync::Wait;
 use std::thread::Threads;
 use std::time::Clock;
 use volcano_arguments::{Asked, ErrorForm, Request, Sources, asked_for};
-use volcano_diagnostics::{Diagnostic, json_line, text_lines};
+use volcano_diagnostics::{Diagnostic, Label, Note, json_line, text_lines};
 use volcano_locations::{Inputs, Origin, Reasons, Replay, diagnose};
 use volcano_refusals::Refusal;
 use vx_catalog_bytes::{ByteOut, Store, write_all};
 use vx_exec_runs::Runs;
+
+// What may be the cause if a file does not get the rows.
+const OUTPUT_HELP: &str =
+    "its folder is missing, no file may be written there, or the disk is full; what stood there is as it was.";
 
 // The files that are read for what arguments ask for. Without tables the folder is empty.
 #[derive(Drop)]
@@ -60,7 +64,7 @@ fn named_by<'a>(alloc: Global, asked: &Asked<'a>) -> Result<Option<Named<'a>>, A
             folder: *folder,
             draws_all: false,
         })),
-        Asked::Bundle | Asked::Why(_) | Asked::Generate(_) => Ok(None),
+        Asked::Bundle | Asked::Catalog(_, _) | Asked::Why(_) | Asked::Generate(_) => Ok(None),
     }
 }
 
@@ -115,6 +119,10 @@ fn said_of_request<F: Store + Reasons>(
     if let Asked::Bundle = asked {
         return said_of(alloc, files, input, &Origin::Bundle, form, refusal);
     }
+    if let Asked::Catalog(paths, _) = asked {
+        let origin = Origin::Tables(paths.as_slice());
+        return said_of(alloc, files, input, &origin, form, refusal);
+    }
     match named_by(alloc, asked)? {
         Some(named) => {
             let origin = Origin::Files(Inputs {
@@ -127,6 +135,22 @@ fn said_of_request<F: Store + Reasons>(
         }
         None => said_of(alloc, files, input, &Origin::Neither, form, refusal),
     }
+}
+
+// What is said of a file that does not get the rows: where it is, and what may be the cause.
+fn said_of_output(
+    alloc: Global,
+    path: &str,
+    form: ErrorForm,
+    refusal: &Refusal,
+) -> Result<Vec<u8>, AllocError> {
+    let text = format!(in alloc; "{refusal}")?;
+    let mut found = Diagnostic::in_file(alloc, path)?;
+    found.add_note(Note {
+        label: Label::Help,
+        text: String::from_str(alloc, OUTPUT_HELP)?,
+    })?;
+    written(alloc, form, text.as_str(), &found)
 }
 
 // What is said, if anything is.
@@ -144,7 +168,14 @@ fn said_if_asked<F: Store + Reasons>(
     if let ErrorForm::Short = form {
         return Ok(None);
     }
-    let text = said_of_request(alloc, files, input, &request.asked, form, refusal)?;
+    let unwritten = match refusal {
+        Refusal::WriteFailed => request.output,
+        _ => None,
+    };
+    let text = match unwritten {
+        Some(path) => said_of_output(alloc, path, form, refusal)?,
+        None => said_of_request(alloc, files, input, &request.asked, form, refusal)?,
+    };
     Ok(Some(text))
 }
 

@@ -65,7 +65,7 @@ fn print_run<T: Threads + Wait + Sync, R: Runs, C: Clock, O: ByteOut>(
     printed: &mut PrintedRuns,
     out: &mut O,
 ) -> Result<(), PrintFault>
-    ensures more { OnOk result ((own : List ℕ) × IsRunMore (R.counted services.now.engine.now) loaded.now.form loaded.now.database loaded.now.setting accepted.now [] (string_bytes printed.old.stats) own (string_bytes printed.new.stats) × Appends (O.contents out.old) (O.contents out.new) own) }
+    ensures more { OnOk result ((own : List ℕ) × IsRunMore (R.counted services.now.engine.now) services.now.layout loaded.now.form loaded.now.database loaded.now.setting accepted.now [] (string_bytes printed.old.stats) own (string_bytes printed.new.stats) × Appends (O.contents out.old) (O.contents out.new) own) }
     ensures whole { OnOk result (O.has_failed out.new ≡ O.has_failed out.old) }
     ensures fault { IfErr result (IsEndedBy (λ e. RunRefuses (resolved_of (typed_plan accepted.now.plan)) loaded.now.database loaded.now.setting e) (out.new ≡ out.old) (O.has_failed out.new)) }
 {
@@ -91,10 +91,12 @@ pub fn print_runs<T: Threads + Wait + Sync, R: Runs, C: Clock, O: ByteOut>(
     loaded: &LoadedPlans,
     out: &mut O,
 ) -> Result<PrintedRuns, PrintFault>
-    ensures all { IfOk result (λ p. AreWritten (R.counted services.now.engine.now) loaded.now.form loaded.now.database loaded.now.setting loaded.now.plans.items (O.contents out.old) (O.contents out.new) (string_bytes p.stats)) }
-    ensures stopped { IfErr result (StopsWith loaded.now.database loaded.now.setting (map named_is loaded.now.plans.items) (O.contents out.old) (O.contents out.new) (O.has_failed out.old) (O.has_failed out.new)) }
+    ensures all { IfOk result (λ p. AreWritten (R.counted services.now.engine.now) loaded.now.layout loaded.now.form loaded.now.database loaded.now.setting loaded.now.plans.items (O.contents out.old) (O.contents out.new) (string_bytes p.stats)) }
+    ensures stopped { IfErr result (StopsWith loaded.now.layout loaded.now.database loaded.now.setting (map named_is loaded.now.plans.items) (O.contents out.old) (O.contents out.new) (O.has_failed out.old) (O.has_failed out.new)) }
 {
-    let services = services.with_threads(loaded.threads);
+    let services = services
+        .with_threads(loaded.threads)
+        .with_layout(loaded.layout);
     let mut printed = PrintedRuns {
         stats: String::new(services.alloc),
         time: Some(0),

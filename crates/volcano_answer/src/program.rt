@@ -21,6 +21,7 @@ use crate::bundle::answer_bytes;
 use crate::command::CommandAnswer;
 use crate::command_line::{ArgumentAnswer, ArgumentFault, answer_arguments};
 use crate::files::input_bytes;
+use crate::layouts::Layout;
 use crate::pipe::Pipe;
 use crate::places::{write_more, write_more_of_bundle};
 use crate::printing::{PrintFault, print_runs, write_printed};
@@ -46,8 +47,8 @@ pub fn outcome_of<T: Threads + Wait + Sync, R: Runs, C: Clock, I: ByteIn>(
     input: &mut I,
     form: Option<StatsForm>,
 ) -> Result<CommandAnswer, Refusal>
-    ensures text { IfOk result (λ a. IfSome (I.remaining input.old) (λ bytes. IsAnswer bytes (text_in a))) }
-    ensures run { IfOk result (IfRun (λ k. IfSome (I.remaining input.old) (λ bytes. AreBundleStats (R.counted services.now.engine.now) form bytes k.text.items (string_bytes k.stats)))) }
+    ensures text { IfOk result (λ a. IfSome (I.remaining input.old) (λ bytes. IsAnswer services.now.layout bytes (text_in a))) }
+    ensures run { IfOk result (IfRun (λ k. IfSome (I.remaining input.old) (λ bytes. AreBundleStats (R.counted services.now.engine.now) services.now.layout form bytes k.text.items (string_bytes k.stats)))) }
     ensures runs { IfSome (I.remaining input.old) (λ bytes. AsksForRun bytes → IfOk result IsRunReport) }
     ensures refused { IfErr result (λ e. RefusedWith (I.remaining input.old) (I.has_failed input.new) e) }
     ensures broken { I.has_failed input.new ≡ true → IsErrOf result Refusal.InputUnreadable }
@@ -56,31 +57,31 @@ pub fn outcome_of<T: Threads + Wait + Sync, R: Runs, C: Clock, I: ByteIn>(
     answer_bytes(services, bytes.as_slice(), form)
 }
 
-// The text alone, without statistics.
+// The text alone, with rows as CSV and without statistics.
 fn text_outcome<T: Threads + Wait + Sync, R: Runs, C: Clock, I: ByteIn>(
     services: &Services<'_, T, R, C>,
     input: &mut I,
 ) -> Result<Vec<u8>, Refusal>
-    ensures text { IfOk result (λ text. IfSome (I.remaining input.old) (λ bytes. IsAnswer bytes text.items)) }
+    ensures text { IfOk result (λ text. IfSome (I.remaining input.old) (λ bytes. IsAnswer Layout.Csv bytes text.items)) }
     ensures refused { IfErr result (λ e. RefusedWith (I.remaining input.old) (I.has_failed input.new) e) }
     ensures broken { I.has_failed input.new ≡ true → IsErrOf result Refusal.InputUnreadable }
 {
-    match outcome_of(services, input, None) {
+    match outcome_of(&services.with_layout(Layout::Csv), input, None) {
         Ok(answer) => Ok(answer.into_text()),
         Err(refusal) => Err(refusal),
     }
 }
 
-// Reports a refusal on `err`. The status is that of the refusal.
-fn refuse<E: ByteOut>(refusal: &Refusal, err: &mut E) -> u8
+/// Reports a refusal on `err`. The status is that of the refusal.
+pub fn refuse<E: ByteOut>(refusal: &Refusal, err: &mut E) -> u8
     ensures { result ≡ status_of refusal.now }
 {
     report(refusal, err);
     status(refusal)
 }
 
-// Reports a refusal of what arguments ask for on `err`, and below it where it was found, if they ask for that or a person reads it.
-fn refuse_in_place<
+/// Reports a refusal of what arguments ask for on `err`, and below it where it was found, if they ask for that or a person reads it.
+pub fn refuse_in_place<
     T: Threads + Wait + Sync,
     R: Runs,
     C: Clock,
@@ -181,7 +182,7 @@ pub fn reply<
     E: ByteOut,
 >(services: &Services<'_, T, R, C>, files: &F, input: &mut I, out: &mut O, err: &mut E) -> u8
     // Status 0 comes only for a bundle that has an answer, and then `out` got exactly that.
-    ensures done { result ≡ 0 → IfSome (I.remaining input.old) (λ bytes. (text : List ℕ) × IsAnswer bytes text × Appends (O.contents out.old) (O.contents out.new) text) }
+    ensures done { result ≡ 0 → IfSome (I.remaining input.old) (λ bytes. (text : List ℕ) × IsAnswer Layout.Csv bytes text × Appends (O.contents out.old) (O.contents out.new) text) }
 
     // Any other leaves `out` as it was, unless `out` failed.
     ensures kept { result ≢ 0 → O.has_failed out.new ≡ false → out.new ≡ out.old }
@@ -289,14 +290,14 @@ fn write_runs<
     out: &mut O,
     err: &mut E,
 ) -> u8
-    ensures done { result ≡ 0 → (stats : List ℕ) × AreWritten (R.counted services.now.engine.now) loaded.now.form loaded.now.database loaded.now.setting loaded.now.plans.items (O.contents out.old) (O.contents out.new) stats }
+    ensures done { result ≡ 0 → (stats : List ℕ) × AreWritten (R.counted services.now.engine.now) loaded.now.layout loaded.now.form loaded.now.database loaded.now.setting loaded.now.plans.items (O.contents out.old) (O.contents out.new) stats }
     ensures stats { result ≡ 0 → E.has_failed err.new ≡ false → (f : StatsForm) → loaded.now.form ≡ Some f → (stats : List ℕ) × (time : Option ℕ)
-        × AreWritten (R.counted services.now.engine.now) loaded.now.form loaded.now.database loaded.now.setting loaded.now.plans.items (O.contents out.old) (O.contents out.new) stats
+        × AreWritten (R.counted services.now.engine.now) loaded.now.layout loaded.now.form loaded.now.database loaded.now.setting loaded.now.plans.items (O.contents out.old) (O.contents out.new) stats
         × Appends (E.contents err.old) (E.contents err.new) (stats ++ string_bytes loaded.now.common ++ write_end f time) }
     ensures no_stats { result ≡ 0 → loaded.now.form ≡ None → err.new ≡ err.old }
     ensures statuses { (result ≡ 0) ⊎ (result ≡ 3) ⊎ (result ≡ 4) }
     ensures stopped { result ≢ 0 → ((result ≡ 4) × (O.has_failed out.new ≡ true))
-        ⊎ ((e : Refusal) × (result ≡ status_of e) × StopsAfter loaded.now.database loaded.now.setting (map named_is loaded.now.plans.items) (O.contents out.old) (O.contents out.new) e) }
+        ⊎ ((e : Refusal) × (result ≡ status_of e) × StopsAfter loaded.now.layout loaded.now.database loaded.now.setting (map named_is loaded.now.plans.items) (O.contents out.old) (O.contents out.new) e) }
     ensures silent { result ≢ 0 → O.has_failed out.old ≡ false → O.has_failed out.new ≡ true → O.closed out.new ≡ true → err.new ≡ err.old }
 {
     match print_runs(services, loaded, out) {
@@ -352,13 +353,13 @@ fn reply_to_arguments<
     out: &mut O,
     err: &mut E,
 ) -> u8
-    ensures done { result ≡ 0 → (text : List ℕ) × AnswersArguments (F.holds files.now) (I.remaining input.old) (map (λ a. a.now) arguments.now) text × Appends (O.contents out.old) (O.contents out.new) text }
+    ensures done { result ≡ 0 → (text : List ℕ) × AnswersArguments services.now.columns (F.holds files.now) (I.remaining input.old) (map (λ a. a.now) arguments.now) text × Appends (O.contents out.old) (O.contents out.new) text }
     ensures stats { result ≡ 0 → E.has_failed err.new ≡ false → (f : StatsForm) (ask : Ask) → AsksFor (map (λ a. a.now) arguments.now) ask → AsksForRuns (I.remaining input.old) ask → stats_asked (map (λ a. a.now) arguments.now) ≡ Some f
-        → (text : List ℕ) × (stats : List ℕ) × AreStatsOf (R.counted services.now.engine.now) (F.holds files.now) (I.remaining input.old) f (map (λ a. a.now) arguments.now) text stats
+        → (text : List ℕ) × (stats : List ℕ) × AreStatsOf (R.counted services.now.engine.now) services.now.columns (F.holds files.now) (I.remaining input.old) f (map (λ a. a.now) arguments.now) text stats
         × Appends (O.contents out.old) (O.contents out.new) text × Appends (E.contents err.old) (E.contents err.new) stats }
     ensures no_stats { result ≡ 0 → stats_asked (map (λ a. a.now) arguments.now) ≡ None → annotates (asked_by (with_program_name (map (λ a. a.now) arguments.now))) ≡ false → err.new ≡ err.old }
     ensures kept { result ≢ 0 → O.has_failed out.new ≡ false → (out.new ≡ out.old)
-        ⊎ ((text : List ℕ) × (e : Refusal) × AsksForStopped (F.holds files.now) (I.remaining input.old) (map (λ a. a.now) arguments.now) text e × (result ≡ status_of e) × Appends (O.contents out.old) (O.contents out.new) text) }
+        ⊎ ((text : List ℕ) × (e : Refusal) × AsksForStopped services.now.columns (F.holds files.now) (I.remaining input.old) (map (λ a. a.now) arguments.now) text e × (result ≡ status_of e) × Appends (O.contents out.old) (O.contents out.new) text) }
     ensures statuses { (result ≡ 0) ⊎ (result ≡ 2) ⊎ (result ≡ 3) ⊎ (result ≡ 4) }
     ensures usage { result ≡ 2 → IsUsageError (F.holds files.now) (I.remaining input.old) (map (λ a. a.now) arguments.now) × (out.new ≡ out.old) }
     ensures refused { result ≡ 3 → AreRefusedBy 3 (F.holds files.now) (F.is_reliable files.now) (I.remaining input.old) (I.has_failed input.new) (map (λ a. a.now) arguments.now)
@@ -398,8 +399,8 @@ fn reply_to_arguments<
 /// `input`.
 ///
 /// The status is 0 if `out` got the answer, 2 for wrong arguments, 3 for input that is refused, and 4 if the machine or
-/// the run failed. All work ends before the first byte goes to `out`, but in two cases: the text of a relation is written as it is made,
-/// once all memory for it is there; and of several plans each answer is written once it is made, after all plans were checked and all
+/// the run failed. All work ends before the first byte goes to `out`, but in two cases: the text of a relation as CSV is written as it is
+/// made, once all memory for it is there; and of several plans each answer is written once it is made, after all plans were checked and all
 /// tables loaded, so `out` gets the answers before the first plan that is refused. A refusal is
 /// one line on `err`, below which others say where it was found, if the arguments or a terminal ask for it. A write of them that fails changes
 /// nothing else. Where nobody reads `out` any more, that is no line.
@@ -407,6 +408,8 @@ fn reply_to_arguments<
 /// Where the arguments ask for the statistics of runs, `err` gets those of the runs whose rows `out` got; where they ask for none,
 /// status 0 leaves `err` as it was, unless they ask for a plan with the claims that follow: then it may get a line that says that the
 /// total order which the plan claims does not follow.
+///
+/// Without arguments rows are CSV. With them they are in the layout that is asked for.
 ///
 /// Nothing of this depends on the seed of `services`. What its clock says goes into statistics alone.
 pub fn answer<
@@ -426,7 +429,7 @@ pub fn answer<
     err: &mut E,
 ) -> u8
     // Without arguments, status 0 comes only for a bundle that has an answer, and then `out` got exactly that.
-    ensures done { arguments.now ≡ [] → result ≡ 0 → IfSome (I.remaining input.old) (λ bytes. (text : List ℕ) × IsAnswer bytes text × Appends (O.contents out.old) (O.contents out.new) text) }
+    ensures done { arguments.now ≡ [] → result ≡ 0 → IfSome (I.remaining input.old) (λ bytes. (text : List ℕ) × IsAnswer Layout.Csv bytes text × Appends (O.contents out.old) (O.contents out.new) text) }
     ensures statuses { arguments.now ≡ [] → (result ≡ 0) ⊎ (result ≡ 3) ⊎ (result ≡ 4) }
 
     // Status 3 comes only for input that fails, is too long or is refused.
@@ -437,9 +440,9 @@ pub fn answer<
     ensures failed { arguments.now ≡ [] → result ≡ 4 → (O.has_failed out.new ≡ true) ⊎ IsRefusedBy 4 (I.remaining input.old) (I.has_failed input.new) }
 
     // With arguments, status 0 comes only for what they ask for, answered, and then `out` got exactly that.
-    ensures arguments_done { arguments.now ≢ [] → result ≡ 0 → (text : List ℕ) × AnswersArguments (F.holds files.now) (I.remaining input.old) (map (λ a. a.now) arguments.now) text × Appends (O.contents out.old) (O.contents out.new) text }
+    ensures arguments_done { arguments.now ≢ [] → result ≡ 0 → (text : List ℕ) × AnswersArguments services.now.columns (F.holds files.now) (I.remaining input.old) (map (λ a. a.now) arguments.now) text × Appends (O.contents out.old) (O.contents out.new) text }
     ensures arguments_stats { arguments.now ≢ [] → result ≡ 0 → E.has_failed err.new ≡ false → (f : StatsForm) (ask : Ask) → AsksFor (map (λ a. a.now) arguments.now) ask → AsksForRuns (I.remaining input.old) ask
-        → stats_asked (map (λ a. a.now) arguments.now) ≡ Some f → (text : List ℕ) × (stats : List ℕ) × AreStatsOf (R.counted services.now.engine.now) (F.holds files.now) (I.remaining input.old) f (map (λ a. a.now) arguments.now) text stats
+        → stats_asked (map (λ a. a.now) arguments.now) ≡ Some f → (text : List ℕ) × (stats : List ℕ) × AreStatsOf (R.counted services.now.engine.now) services.now.columns (F.holds files.now) (I.remaining input.old) f (map (λ a. a.now) arguments.now) text stats
         × Appends (O.contents out.old) (O.contents out.new) text × Appends (E.contents err.old) (E.contents err.new) stats }
     ensures arguments_no_stats { arguments.now ≢ [] → result ≡ 0 → stats_asked (map (λ a. a.now) arguments.now) ≡ None → annotates (asked_by (with_program_name (map (λ a. a.now) arguments.now))) ≡ false → err.new ≡ err.old }
     ensures arguments_statuses { arguments.now ≢ [] → (result ≡ 0) ⊎ (result ≡ 2) ⊎ (result ≡ 3) ⊎ (result ≡ 4) }
@@ -456,7 +459,7 @@ pub fn answer<
     // there the answers of the plans before the one that is refused.
     ensures kept { arguments.now ≡ [] → result ≢ 0 → O.has_failed out.new ≡ false → out.new ≡ out.old }
     ensures arguments_kept { arguments.now ≢ [] → result ≢ 0 → O.has_failed out.new ≡ false → (out.new ≡ out.old)
-        ⊎ ((text : List ℕ) × (e : Refusal) × AsksForStopped (F.holds files.now) (I.remaining input.old) (map (λ a. a.now) arguments.now) text e × (result ≡ status_of e) × Appends (O.contents out.old) (O.contents out.new) text) }
+        ⊎ ((text : List ℕ) × (e : Refusal) × AsksForStopped services.now.columns (F.holds files.now) (I.remaining input.old) (map (λ a. a.now) arguments.now) text e × (result ≡ status_of e) × Appends (O.contents out.old) (O.contents out.new) text) }
     ensures untouched { result ≡ 2 → out.new ≡ out.old }
 
     // Where `out` fails because nobody reads it any more, nothing is reported: the status alone says it.

@@ -8,11 +8,34 @@ ghost use Rattle.volcano_arguments.specs.Asked.{asked_is};
 
 use crate::command_line::with_program_name;
 use std::alloc::Global;
-use volcano_arguments::{Asked, asked_for};
+use volcano_arguments::{Asked, Sources, asked_for};
 use volcano_locations::{PlaceFault, Replay, dropped_total};
 use vx_catalog_bytes::{ByteOut, Store, write_all};
 
-// The line that says why an annotated plan is not total though the plan said so, if it is to be annotated.
+// What is said beside a catalog that is found in files.
+const OF_THESE_FILES: &str =
+    "volcano: types, keys and orders are those of these files; take out what the next ones may not keep\n";
+
+// The line that says why an annotated plan is not total though the plan said so, if it did.
+fn total_remark<F: Store>(
+    alloc: Global,
+    files: &F,
+    input: Option<&[u8]>,
+    sources: Sources<'_>,
+    derive: bool,
+) -> Result<Option<String>, PlaceFault> {
+    match dropped_total(alloc, files, input, sources.catalog, sources.plan, derive)? {
+        Some(why) => {
+            let line = format!(in alloc;
+                "volcano: \"total\" is left out, since the order of the root is not total: {why}\n"
+            )?;
+            Ok(Some(line))
+        }
+        None => Ok(None),
+    }
+}
+
+// The line beside what is asked for, if there is one.
 fn remark_on<F: Store>(
     alloc: Global,
     files: &F,
@@ -21,17 +44,10 @@ fn remark_on<F: Store>(
 ) -> Result<Option<String>, PlaceFault>
     ensures { annotates_ask (asked_is asked.now) ≡ false → IfOk result (λ o. o ≡ None) }
 {
-    let Asked::Annotate(sources, derive) = asked else {
-        return Ok(None);
-    };
-    match dropped_total(alloc, files, input, sources.catalog, sources.plan, *derive)? {
-        Some(why) => {
-            let line = format!(in alloc;
-                "volcano: \"total\" is left out, since the order of the root is not total: {why}\n"
-            )?;
-            Ok(Some(line))
-        }
-        None => Ok(None),
+    match asked {
+        Asked::Annotate(sources, derive) => { total_remark(alloc, files, input, *sources, *derive) }
+        Asked::Catalog(_, false) => Ok(Some(String::from_str(alloc, OF_THESE_FILES)?)),
+        _ => Ok(None),
     }
 }
 
@@ -52,7 +68,7 @@ fn remark_of<F: Store>(
 }
 
 /// Writes on `err` what is said beside the answer to arguments: where they ask for a plan with the claims that follow, whether the total
-/// order that the plan says is left out, and why. A write that fails changes nothing else.
+/// order that the plan says is left out, and why; where they ask for a catalog, what it rests on. A write that fails changes nothing else.
 pub fn write_remark<F: Store, I: Replay, E: ByteOut>(
     alloc: Global,
     files: &F,

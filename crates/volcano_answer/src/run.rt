@@ -2,14 +2,15 @@
 
 ghost use Rattle.std.specs.Prelude.{◌≡◌, true, Option, IfSome, IfOk, IfErr};
 ghost use Rattle.vx_exec_setup.specs.Counts.{is_wanted, counts_in};
-ghost use Rattle.vx_catalog.specs.Csv.{csv_text};
 ghost use Rattle.vx_plan_nodes.specs.Outline.{columns};
 ghost use Rattle.vx_plan_nodes.specs.TypedView.{resolved_of};
 ghost use Rattle.vx_check_rules.specs.CheckedView.{typed_plan};
 ghost use Rattle.volcano_stats.specs.declared.text.StatsForm.{StatsForm};
 ghost use Rattle.volcano_answer.specs.Commands.{RunRefuses};
+ghost use Rattle.volcano_answer.specs.Layouts.{rows_text};
 ghost use Rattle.volcano_answer.specs.Stats.{IsCountedRun};
 
+use crate::layouts::format_rows;
 use crate::services::Services;
 use std::alloc::AllocError;
 use std::sync::Wait;
@@ -17,29 +18,22 @@ use std::thread::Threads;
 use std::time::Clock;
 use volcano_refusals::Refusal;
 use vx_catalog::Database;
-use vx_catalog_writing::format_in_threads;
 use vx_check_rules::CheckedPlan;
 use vx_exec_runs::{RunOutcome, Runs};
 use vx_exec_setup::{RunCounts, Setting};
 use vx_plan_nodes::{TypedPlan, name_texts};
 use vx_rows_views::Rows;
 
-/// The text of rows under the names of a plan's output.
+/// The text of rows under the names of a plan's output, in the layout that is asked for.
 pub fn text_of<T: Threads + Wait + Sync, R: Runs, C: Clock>(
     services: &Services<'_, T, R, C>,
     plan: &TypedPlan,
     rows: &Rows,
 ) -> Result<Vec<u8>, AllocError>
-    ensures { IfOk result (λ v. v.items ≡ csv_text (columns (resolved_of plan.now).root).names rows.now.rows) }
+    ensures { IfOk result (λ v. v.items ≡ rows_text services.now.layout (columns (resolved_of plan.now).root).names rows.now.rows) }
 {
     let names = name_texts(services.alloc, plan.root().head().columns.names.as_slice())?;
-    format_in_threads(
-        services.rt,
-        services.alloc,
-        services.threads,
-        names.as_slice(),
-        rows,
-    )
+    format_rows(services, names.as_slice(), rows)
 }
 
 /// The text of a run of a plan over a database. What its workers counted is kept, if that is wanted.
@@ -51,7 +45,7 @@ pub fn run_over<T: Threads + Wait + Sync, R: Runs, C: Clock>(
     counts: &mut RunCounts,
 ) -> Result<Vec<u8>, Refusal>
     ensures run { (f : Option StatsForm) → IfSome f (λ _. is_wanted counts.old ≡ true)
-        → IfOk result (λ text. IsCountedRun (R.counted services.now.engine.now) f (typed_plan plan.now) database.now setting.now text.items (counts_in counts.new)) }
+        → IfOk result (λ text. IsCountedRun (R.counted services.now.engine.now) services.now.layout f (typed_plan plan.now) database.now setting.now text.items (counts_in counts.new)) }
     ensures refused { IfErr result (λ e. RunRefuses (resolved_of (typed_plan plan.now)) database.now setting.now e) }
 {
     let (rt, engine, alloc) = (services.rt, services.engine, services.alloc);

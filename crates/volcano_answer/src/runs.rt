@@ -8,6 +8,7 @@ ghost use Rattle.volcano_answer.specs.Plans.{PlansRefuse};
 ghost use Rattle.volcano_answer.specs.Stats.{if_asked};
 
 use crate::files::is_input;
+use crate::layouts::Layout;
 use crate::plans::{AcceptedPlan, accepted_plans, catalog_under};
 use crate::services::Services;
 use std::alloc::{AllocError, Global};
@@ -37,6 +38,8 @@ pub struct LoadedPlans {
     pub common: String,
     /// How many threads make the text of rows at most.
     pub threads: usize,
+    /// How the rows of each run are written.
+    pub layout: Layout,
 }
 
 // The statistics that several plans have in common, if they are asked for.
@@ -70,6 +73,7 @@ pub fn load_plans<T: Threads + Wait + Sync, R: Runs, C: Clock, F: Store, I: Byte
     ensures loaded { IfOk result (AreLoadedPlans (F.holds files.now) (I.remaining input.old) (many_are sources.now) folder.now) }
     ensures form { IfOk result (λ l. l.form ≡ form) }
     ensures setting { IfOk result (λ l. l.setting ≡ setting) }
+    ensures layout { IfOk result (λ l. l.layout ≡ services.now.layout) }
     ensures refused { IfErr result (PlansRefuse (F.holds files.now) (F.is_reliable files.now) (I.remaining input.old) (I.has_failed input.new) (many_are sources.now) folder.now) }
 {
     let (alloc, clock) = (services.alloc, services.clock);
@@ -96,5 +100,6 @@ pub fn load_plans<T: Threads + Wait + Sync, R: Runs, C: Clock, F: Store, I: Byte
         database,
         common,
         threads: services.threads,
+        layout: services.layout,
     })
 }

@@ -23,7 +23,7 @@ pub fn serial_plan<T: Threads + Wait + Sync, R: Runs, C: Clock, B: Tables>(
     tables: &B,
     plan: &TypedPlan,
 ) -> Result<Vec<u8>, Refusal>
-    ensures text { IfOk result (λ text. IsSerial (resolved_of plan.now) (B.holds tables.now) text.items) }
+    ensures text { IfOk result (λ text. IsSerial services.now.layout (resolved_of plan.now) (B.holds tables.now) text.items) }
     ensures refused { IfErr result (λ e. SerialRefuses (resolved_of plan.now) (B.holds tables.now) (B.lacks tables.now) e) }
 {
     let database = load_tables_in_threads(

@@ -2,6 +2,7 @@
 
 ghost use Rattle.std.specs.Prelude.{◌≡◌};
 
+use crate::layouts::Layout;
 use std::alloc::Global;
 use volcano_tables::Loading;
 use vx_rows_values::KeySeed;
@@ -22,10 +23,14 @@ pub struct Services<'a, T, R, C> {
     pub threads: usize,
     /// Whether a person reads what is said of refusals, as on a terminal.
     pub is_read: bool,
+    /// How rows are written.
+    pub layout: Layout,
+    /// How many columns the screen has that shows the rows, if one does and that is known.
+    pub columns: Option<usize>,
 }
 
 impl<'a, T, R, C> Services<'a, T, R, C> {
-    /// Where one thread loads each table and makes the text of rows, and no person reads what is said of refusals.
+    /// Where one thread loads each table and makes the text of rows, which is CSV, and no person reads what is said of refusals.
     pub fn new(
         rt: &'a T,
         engine: &'a R,
@@ -33,7 +38,8 @@ impl<'a, T, R, C> Services<'a, T, R, C> {
         alloc: Global,
         seed: KeySeed,
     ) -> Services<'a, T, R, C>
-        ensures { result.engine.now ≡ engine.now }
+        ensures engine { result.engine.now ≡ engine.now }
+        ensures layout { result.layout ≡ Layout.Csv }
     {
         Services {
             rt,
@@ -43,6 +49,8 @@ impl<'a, T, R, C> Services<'a, T, R, C> {
             seed,
             threads: 1,
             is_read: false,
+            layout: Layout::Csv,
+            columns: None,
         }
     }
 
@@ -57,32 +65,38 @@ impl<'a, T, R, C> Services<'a, T, R, C> {
 
     /// These services with up to `threads` threads.
     pub fn with_threads(&self, threads: usize) -> Services<'a, T, R, C>
-        ensures { result.engine.now ≡ self.now.engine.now }
+        ensures engine { result.engine.now ≡ self.now.engine.now }
+        ensures layout { result.layout ≡ self.now.layout }
+        ensures columns { result.columns ≡ self.now.columns }
     {
-        Services {
-            rt: self.rt,
-            engine: self.engine,
-            clock: self.clock,
-            alloc: self.alloc,
-            seed: self.seed,
-            threads,
-            is_read: self.is_read,
-        }
+        Services { threads, ..*self }
+    }
+
+    /// These services, where rows are written in this layout.
+    pub fn with_layout(&self, layout: Layout) -> Services<'a, T, R, C>
+        ensures engine { result.engine.now ≡ self.now.engine.now }
+        ensures layout { result.layout ≡ layout }
+        ensures columns { result.columns ≡ self.now.columns }
+    {
+        Services { layout, ..*self }
+    }
+
+    /// These services, where a screen of so many columns shows the rows, if that is known.
+    pub fn with_columns(&self, columns: Option<usize>) -> Services<'a, T, R, C>
+        ensures engine { result.engine.now ≡ self.now.engine.now }
+        ensures layout { result.layout ≡ self.now.layout }
+        ensures columns { result.columns ≡ columns }
+    {
+        Services { columns, ..*self }
     }
 
     /// These services, where a person reads what is said of refusals, or not.
     pub fn with_reader(&self, is_read: bool) -> Services<'a, T, R, C>
         ensures engine { result.engine.now ≡ self.now.engine.now }
         ensures read { result.is_read ≡ is_read }
+        ensures layout { result.layout ≡ self.now.layout }
+        ensures columns { result.columns ≡ self.now.columns }
     {
-        Services {
-            rt: self.rt,
-            engine: self.engine,
-            clock: self.clock,
-            alloc: self.alloc,
-            seed: self.seed,
-            threads: self.threads,
-            is_read,
-        }
+        Services { is_read, ..*self }
     }
 }

@@ -124,7 +124,7 @@ pub fn run_plan<T: Threads + Wait + Sync, R: Runs, C: Clock, B: Tables>(
     form: Option<StatsForm>,
     timer: &mut Timer,
 ) -> Result<RunReport, Refusal>
-    ensures run { IfOk result (λ k. IsCountedPlan (R.counted services.now.engine.now) form (typed_plan plan.now) (B.holds tables.now) setting.now (phases_of (times_in timer.old)) k.text.items (string_bytes k.stats)) }
+    ensures run { IfOk result (λ k. IsCountedPlan (R.counted services.now.engine.now) services.now.layout form (typed_plan plan.now) (B.holds tables.now) setting.now (phases_of (times_in timer.old)) k.text.items (string_bytes k.stats)) }
     ensures refused { IfErr result (λ e. (e ≡ Refusal.NoMemory) ⊎ PlanRefuses (resolved_of (typed_plan plan.now)) (B.holds tables.now) (B.lacks tables.now) setting.now e) }
 {
     let (alloc, clock) = (services.alloc, services.clock);
@@ -162,7 +162,7 @@ pub fn run_checked<T: Threads + Wait + Sync, R: Runs, C: Clock, B: Tables>(
     timer: &mut Timer,
 ) -> Result<RunReport, Refusal>
     ensures shown { IfOk result (λ _. IsShown (resolved_of plan)) }
-    ensures stats { IfOk result (λ k. IsCountedPlan (R.counted services.now.engine.now) form plan (B.holds tables.now) setting.now (phases_of (times_in timer.old) ++ (work_phase.Check ∷ [])) k.text.items (string_bytes k.stats)) }
+    ensures stats { IfOk result (λ k. IsCountedPlan (R.counted services.now.engine.now) services.now.layout form plan (B.holds tables.now) setting.now (phases_of (times_in timer.old) ++ (work_phase.Check ∷ [])) k.text.items (string_bytes k.stats)) }
     ensures refused { IfErr result (λ e. CommandRefuses command.Run (resolved_of plan) (B.holds tables.now) (B.lacks tables.now) setting.now e) }
 {
     let checked = accepted(services.alloc, plan)?;
@@ -181,7 +181,7 @@ pub fn run_task<T: Threads + Wait + Sync, R: Runs, C: Clock, F: Store, I: ByteIn
     folder: &str,
     setting: &Setting,
 ) -> Result<RunReport, Refusal>
-    ensures stats { IfOk result (λ k. AreTaskStats (R.counted services.now.engine.now) (F.holds files.now) (I.remaining input.old) form
+    ensures stats { IfOk result (λ k. AreTaskStats (R.counted services.now.engine.now) services.now.layout (F.holds files.now) (I.remaining input.old) form
         (record { command = command.Run; paths = paths_are sources.entry; folder = folder.now; setting = setting.now }) k.text.items (string_bytes k.stats)) }
     ensures refused { IfErr result (λ e. TaskRefuses (F.holds files.now) (F.is_reliable files.now) (I.remaining input.old) (I.has_failed input.new)
         (record { command = command.Run; paths = paths_are sources.entry; folder = folder.now; setting = setting.now }) e) }
@@ -232,11 +232,12 @@ pub fn run_one<T: Threads + Wait + Sync, R: Runs, C: Clock>(
     database: &Database,
     stats: &mut String,
 ) -> Result<Vec<u8>, Refusal>
-    ensures run { IfOk result (λ own. IsRunMore (R.counted services.now.engine.now) form database.now setting.now accepted.now [] (string_bytes stats.old) (title (string_bytes accepted.now.path) ++ own.items) (string_bytes stats.new)) }
+    ensures run { IfOk result (λ own. IsRunMore (R.counted services.now.engine.now) services.now.layout form database.now setting.now accepted.now [] (string_bytes stats.old) (title (string_bytes accepted.now.path) ++ own.items) (string_bytes stats.new)) }
     ensures refused { IfErr result (λ e. RunRefuses (resolved_of (typed_plan accepted.now.plan)) database.now setting.now e) }
 {
     let (alloc, clock) = (services.alloc, services.clock);
     let mut counts = counts_for(alloc, form);
+    services.engine.announce(accepted.path.as_str());
     let mut watch = Stopwatch::start(clock);
     let own = run_over(services, setting, &accepted.plan, database, &mut counts)?;
     let time = watch.end(clock, WorkPhase::Run);

@@ -53,6 +53,10 @@ code_rule = record (new_rule (codes "code")) { value_names = 1; required = true 
 abbrev pub sizes_rule : Rule
 sizes_rule = record (new_rule (codes "sizes")) { value_names = 1; range = Some (record { start_inclusive = 0; end_inclusive = usize_max }) }
 
+-- the arguments behind all options: files, one at least
+abbrev pub files_rule : Rule
+files_rule = record (new_rule (codes "files")) { value_names = 1; required = true; range = Some (record { start_inclusive = 1; end_inclusive = usize_max }) }
+
 -- a command that reads a catalog
 abbrev pub reading_app : Text → App
 reading_app name = with_rule (new_app name) (path_rule (codes "catalog"))
@@ -81,17 +85,29 @@ threads_rule = number_rule (codes "threads") (codes "0")
 abbrev pub drawn_rule : Rule
 drawn_rule = record (new_rule (codes "drawn")) { long = Some (codes "stats"); value_names = 1 }
 
+-- the layout of rows
+abbrev pub layout_rule : Rule
+layout_rule = record (new_rule (codes "layout")) { long = Some (codes "format"); value_names = 1; defaults = codes "csv" ∷ [] }
+
+-- the file that gets the rows, which need not be given; -o is short for it
+abbrev pub output_rule : Rule
+output_rule = record (named_rule (codes "output")) { short = Some 111 }
+
+-- a command with both, which say how rows are written and where
+abbrev pub with_rows : App → App
+with_rows app = with_rule (with_rule app layout_rule) output_rule
+
 abbrev pub serial_app : App
-serial_app = with_reports (with_rule (with_rule (with_rule (judging_app (codes "serial")) (path_rule (codes "data"))) threads_rule) (flag_rule (codes "quiet")))
+serial_app = with_reports (with_rows (with_rule (with_rule (with_rule (judging_app (codes "serial")) (path_rule (codes "data"))) threads_rule) (flag_rule (codes "quiet"))))
 
 abbrev pub run_app : App
 run_app =
-    with_rule (with_reports (with_rule (with_rule (with_rule (with_rule (with_rule (with_rule (with_rule (with_rule (with_rule (reading_app (codes "run")) plans_rule) (path_rule (codes "data")))
+    with_rule (with_reports (with_rows (with_rule (with_rule (with_rule (with_rule (with_rule (with_rule (with_rule (with_rule (with_rule (reading_app (codes "run")) plans_rule) (path_rule (codes "data")))
     (number_rule (codes "packet") (codes "256"))) (number_rule (codes "morsel") (codes "1024"))) (number_rule (codes "slack") (codes "8"))) (word_rule (codes "mode") (codes "rounds")))
-    threads_rule) (flag_rule (codes "quiet"))) (word_rule (codes "stats") (codes "none")))) sizes_rule
+    threads_rule) (flag_rule (codes "quiet"))) (word_rule (codes "stats") (codes "none"))))) sizes_rule
 
 abbrev pub gen_app : App
-gen_app = with_rule (new_app (codes "gen")) rows_rule
+gen_app = with_rows (with_rule (new_app (codes "gen")) rows_rule)
 
 abbrev pub check_app : App
 check_app = with_reports (with_rule (judging_app (codes "check")) (flag_rule (codes "all")))
@@ -104,6 +120,9 @@ annotate_app = with_reports (with_rule (judging_app (codes "annotate")) (flag_ru
 
 abbrev pub sql_app : App
 sql_app = with_reports (with_rule (judging_app (codes "sql")) (word_rule (codes "dialect") (codes "sqlite")))
+
+abbrev pub catalog_app : App
+catalog_app = with_rule (with_reports (with_rule (with_rule (new_app (codes "catalog")) threads_rule) (flag_rule (codes "quiet")))) files_rule
 
 abbrev pub why_app : App
 why_app = with_rule (new_app (codes "why")) code_rule
@@ -118,8 +137,8 @@ program_app = on_top (λ s. record s { has_version = true }) (new_app (codes "vo
 -- the program
 abbrev pub volcano_app : App
 volcano_app =
-    with_subcommand (with_subcommand (with_subcommand (with_subcommand (with_subcommand (with_subcommand (with_subcommand (with_subcommand (with_subcommand program_app run_app.top)
-    serial_app.top) check_app.top) explain_app.top) annotate_app.top) sql_app.top) why_app.top) gen_app.top) bundle_app.top
+    with_subcommand (with_subcommand (with_subcommand (with_subcommand (with_subcommand (with_subcommand (with_subcommand (with_subcommand (with_subcommand (with_subcommand program_app run_app.top)
+    serial_app.top) check_app.top) explain_app.top) annotate_app.top) sql_app.top) catalog_app.top) why_app.top) gen_app.top) bundle_app.top
 
 -- the paths of a catalog and of a plan
 pub record Paths : Type 0 where
@@ -147,6 +166,7 @@ pub data Ask : Type 0 where
   draw : Paths → (stats : Text) → Ask
   annotate : Paths → (derive : Bool) → Ask
   sql : Paths → (dialect : Text) → Ask
+  find_catalog : (files : List Text) → (quiet : Bool) → Ask
   why : (code : Text) → Ask
   serial : Paths → Text → Ask
   run : Paths → Text → Given → Ask
@@ -196,6 +216,10 @@ annotate_of rows = option_and_then (λ p. option_map (λ derive. annotate p (byt
 abbrev pub sql_of : List Row → Option Ask
 sql_of rows = option_and_then (λ p. option_map (sql p) (first_of (codes "dialect") rows)) (paths_of rows)
 
+-- the catalog that is found in files, with nothing said beside it if the flag is given
+abbrev pub find_of : List Row → Option Ask
+find_of rows = option_and_then (λ fs. option_map (λ quiet. find_catalog fs (bytes_eq quiet (codes "true"))) (first_of (codes "quiet") rows)) (all_of (codes "files") rows)
+
 -- the number of 64 bits that a text of digits is, behind a plus or not, if it is one
 abbrev pub number_of : Text → Option ℕ
 number_of text = if is_unsigned_in 0 18446744073709551615 text then Some (digits_value 10 (without_leading_plus text)) else None
@@ -213,6 +237,7 @@ ask_of (Some p) =
     else if bytes_eq p.0 (codes "explain") then explain_of p.1
     else if bytes_eq p.0 (codes "annotate") then annotate_of p.1
     else if bytes_eq p.0 (codes "sql") then sql_of p.1
+    else if bytes_eq p.0 (codes "catalog") then find_of p.1
     else if bytes_eq p.0 (codes "why") then option_map why (first_of (codes "code") p.1)
     else if bytes_eq p.0 (codes "gen") then generate_of p.1
     else if bytes_eq p.0 (codes "bundle") then Some bundle
@@ -250,6 +275,16 @@ abbrev pub stats_of : Option (Text × List Row) → Option Text
 stats_of None = None
 stats_of (Some p) = first_of (codes "stats") p.1
 
+-- the word for the layout of rows in these matches of a subcommand, where it writes any
+abbrev pub layout_of : Option (Text × List Row) → Option Text
+layout_of None = None
+layout_of (Some p) = first_of (codes "layout") p.1
+
+-- the path of the file that gets the rows, where these matches of a subcommand have one
+abbrev pub output_of : Option (Text × List Row) → Option Text
+output_of None = None
+output_of (Some p) = first_of (codes "output") p.1
+
 -- what the arguments ask for, the program's name first
 unfoldable pub asked_by : List Text → Option Ask
 asked_by arguments = ask_of (subcommand_of volcano_app arguments)
@@ -269,6 +304,14 @@ threads_by arguments = threads_of (subcommand_of volcano_app arguments)
 -- the format of statistics that they ask for, where they ask for a run
 unfoldable pub stats_by : List Text → Option Text
 stats_by arguments = stats_of (subcommand_of volcano_app arguments)
+
+-- their word for the layout of rows, where they ask for any
+unfoldable pub layout_by : List Text → Option Text
+layout_by arguments = layout_of (subcommand_of volcano_app arguments)
+
+-- the path of the file that is to get the rows, if they name one
+unfoldable pub output_by : List Text → Option Text
+output_by arguments = output_of (subcommand_of volcano_app arguments)
 
 -- the kinds that a refusal of the arguments may have; none if they are accepted
 unfoldable pub faults_of : List Text → Kinds
@@ -291,6 +334,7 @@ asked_is (asked.Explain sources format) = explain (paths_are sources) format.now
 asked_is (asked.Draw sources stats) = draw (paths_are sources) stats.now
 asked_is (asked.Annotate sources derive) = annotate (paths_are sources) derive
 asked_is (asked.Sql sources dialect) = sql (paths_are sources) dialect.now
+asked_is (asked.Catalog files quiet) = find_catalog (map (λ f. f.now) files.items) quiet
 asked_is (asked.Why code) = why code.now
 asked_is (asked.Serial sources folder) = serial (paths_are sources) folder.now
 asked_is (asked.Run sources folder given) = run (paths_are sources) folder.now (given_is given)

@@ -2,7 +2,7 @@
 
 ghost use Rattle.std.specs.Prelude.{◌≡◌, IfOk, IfSome, map, option_map, option_and_then, codes};
 ghost use Rattle.clap.specs.Words.{FailsBy, fault_of, rows_of, found_of, first_of, all_of, subcommand_of, subcommand_rows_of};
-ghost use Rattle.volcano_arguments.specs.Asked.{volcano_app, paths_of, given_of, sizes_of, serial_of, check_of, explain_of, annotate_of, sql_of, run_for, run_of, number_of, generate_of, ask_of, asked_by, error_form_named, verbose_form, errors_of, errors_by, unless_named, unknown_errors_of, unknown_errors_by, threads_of, threads_by, stats_of, stats_by, faults_of, paths_are, given_is, asked_is};
+ghost use Rattle.volcano_arguments.specs.Asked.{volcano_app, paths_of, given_of, sizes_of, serial_of, check_of, explain_of, annotate_of, sql_of, find_of, run_for, run_of, number_of, generate_of, ask_of, asked_by, error_form_named, verbose_form, errors_of, errors_by, unless_named, unknown_errors_of, unknown_errors_by, threads_of, threads_by, stats_of, stats_by, layout_of, layout_by, output_of, output_by, faults_of, paths_are, given_is, asked_is};
 
 use crate::command_line::command;
 use clap::{ArgMatches, Error};
@@ -48,6 +48,8 @@ pub enum Asked<'a> {
     Annotate(Sources<'a>, bool),
     /// The plan as a statement of SQL, with the name of the dialect.
     Sql(Sources<'a>, &'a str),
+    /// The catalog that is found in these files, and whether nothing is said beside it.
+    Catalog(Vec<&'a str>, bool),
     /// With the code of a refusal.
     Why(&'a str),
     /// With the folder of the tables.
@@ -83,6 +85,10 @@ pub struct Request<'a> {
     pub threads: Option<u64>,
     /// The format of a run's statistics: `none`, `table` or `json`, if it is one of them.
     pub stats: Option<&'a str>,
+    /// The layout of rows: `csv`, `table` or `json`, if it is one of them.
+    pub layout: Option<&'a str>,
+    /// The path of the file that gets the rows, if they name one.
+    pub output: Option<&'a str>,
 }
 
 // The first value of an option.
@@ -184,6 +190,19 @@ fn sql_asked<'a>(found: &ArgMatches<'a>) -> Option<Asked<'a>>
     Some(Asked::Sql(sources, dialect))
 }
 
+fn catalog_asked<'a>(alloc: Global, found: &ArgMatches<'a>) -> Result<Option<Asked<'a>>, AllocError>
+    ensures { IfOk result (λ o. option_map asked_is o ≡ find_of (rows_of (found_of found.now))) }
+{
+    let Some(files) = values(found, "files") else {
+        return Ok(None);
+    };
+    let Some(quiet) = value(found, "quiet") else {
+        return Ok(None);
+    };
+    let files = Vec::from_slice(alloc, files)?;
+    Ok(Some(Asked::Catalog(files, quiet == "true")))
+}
+
 fn serial_asked<'a>(found: &ArgMatches<'a>) -> Option<Asked<'a>>
     ensures { option_map asked_is result ≡ serial_of (rows_of (found_of found.now)) }
 {
@@ -269,6 +288,7 @@ fn asked_in<'a>(alloc: Global, matches: &ArgMatches<'a>) -> Result<Option<Asked<
         "explain" => Ok(explain_asked(found)),
         "annotate" => Ok(annotate_asked(found)),
         "sql" => Ok(sql_asked(found)),
+        "catalog" => catalog_asked(alloc, found),
         "why" => Ok(value(found, "code").map(Asked::Why)),
         "gen" => Ok(generate_asked(found)),
         "bundle" => Ok(Some(Asked::Bundle)),
@@ -343,14 +363,32 @@ fn stats_in<'a>(matches: &ArgMatches<'a>) -> Option<&'a str>
     value(found, "stats")
 }
 
+// The word for the layout of rows in matches.
+fn layout_in<'a>(matches: &ArgMatches<'a>) -> Option<&'a str>
+    ensures { option_map (λ s. s.now) result ≡ layout_of (subcommand_rows_of matches.now) }
+{
+    let (_, found) = matches.subcommand()?;
+    value(found, "layout")
+}
+
+// The path of the file that gets the rows, in matches.
+fn output_in<'a>(matches: &ArgMatches<'a>) -> Option<&'a str>
+    ensures { option_map (λ s. s.now) result ≡ output_of (subcommand_rows_of matches.now) }
+{
+    let (_, found) = matches.subcommand()?;
+    value(found, "output")
+}
+
 /// What the arguments ask for, the program's name first. An `Err` is running out of memory, a usage error, or help.
-#[tactic(auto, unfolding(crate::specs::Asked::asked_by, crate::specs::Asked::errors_by, crate::specs::Asked::unknown_errors_by, crate::specs::Asked::threads_by, crate::specs::Asked::stats_by, crate::specs::Asked::faults_of))]
+#[tactic(auto, unfolding(crate::specs::Asked::asked_by, crate::specs::Asked::errors_by, crate::specs::Asked::unknown_errors_by, crate::specs::Asked::threads_by, crate::specs::Asked::stats_by, crate::specs::Asked::layout_by, crate::specs::Asked::output_by, crate::specs::Asked::faults_of))]
 pub fn asked_for<'a>(alloc: Global, arguments: &'a [&'a str]) -> Result<Option<Request<'a>>, Error>
     ensures asked { IfOk result (λ o. option_map (λ r. asked_is r.asked) o ≡ asked_by (map (λ w. w.now) arguments.entry.now)) }
     ensures errors { IfOk result (λ o. IfSome o (λ r. r.errors ≡ errors_by (map (λ w. w.now) arguments.entry.now))) }
     ensures unknown_errors { IfOk result (λ o. IfSome o (λ r. option_map (λ s. s.now) r.unknown_errors ≡ unknown_errors_by (map (λ w. w.now) arguments.entry.now))) }
     ensures threads { IfOk result (λ o. IfSome o (λ r. r.threads ≡ threads_by (map (λ w. w.now) arguments.entry.now))) }
     ensures stats { IfOk result (λ o. IfSome o (λ r. option_map (λ s. s.now) r.stats ≡ stats_by (map (λ w. w.now) arguments.entry.now))) }
+    ensures layout { IfOk result (λ o. IfSome o (λ r. option_map (λ s. s.now) r.layout ≡ layout_by (map (λ w. w.now) arguments.entry.now))) }
+    ensures output { IfOk result (λ o. IfSome o (λ r. option_map (λ s. s.now) r.output ≡ output_by (map (λ w. w.now) arguments.entry.now))) }
     ensures faults { FailsBy (faults_of (map (λ w. w.now) arguments.entry.now)) result }
 {
     let matches = matches_in(alloc, arguments)?;
@@ -358,6 +396,8 @@ pub fn asked_for<'a>(alloc: Global, arguments: &'a [&'a str]) -> Result<Option<R
     let unknown_errors = unknown_errors_in(&matches);
     let threads = threads_in(&matches);
     let stats = stats_in(&matches);
+    let layout = layout_in(&matches);
+    let output = output_in(&matches);
     match asked_in(alloc, &matches)? {
         Some(asked) => Ok(Some(Request {
             asked,
@@ -365,6 +405,8 @@ pub fn asked_for<'a>(alloc: Global, arguments: &'a [&'a str]) -> Result<Option<R
             unknown_errors,
             threads,
             stats,
+            layout,
+            output,
         })),
         None => Ok(None),
     }

@@ -3,7 +3,7 @@
 ghost use Rattle.std.specs.Prelude.{◌≡◌, IfOk, false, codes};
 ghost use Rattle.clap.specs.Words.{App, Rule, app_of, rule_of, new_app, with_rule, with_subcommand};
 ghost use Rattle.clap.specs.declared.builder.command.Command.TheViews.{out-Command as fields_of};
-ghost use Rattle.volcano_arguments.specs.Asked.{named_rule, path_rule, plans_rule, number_rule, rows_rule, word_rule, flag_rule, code_rule, sizes_rule, verbose_rule, errors_rule, drawn_rule, with_reports, reading_app, judging_app, serial_app, run_app, check_app, explain_app, annotate_app, sql_app, why_app, gen_app, bundle_app, program_app, volcano_app};
+ghost use Rattle.volcano_arguments.specs.Asked.{named_rule, path_rule, plans_rule, number_rule, rows_rule, word_rule, flag_rule, code_rule, sizes_rule, files_rule, verbose_rule, errors_rule, drawn_rule, layout_rule, output_rule, with_reports, with_rows, reading_app, judging_app, serial_app, run_app, check_app, explain_app, annotate_app, sql_app, catalog_app, why_app, gen_app, bundle_app, program_app, volcano_app};
 ghost use Rattle.volcano_arguments.specs.Planned.{IsOption, IsCommand};
 
 use clap::{Arg, ArgAction, Command, value_parser};
@@ -179,6 +179,32 @@ fn drawn_option<'a>(alloc: Global) -> Arg<'a>
         )
 }
 
+fn layout_option<'a>(alloc: Global) -> Arg<'a>
+    ensures rule { rule_of result ≡ layout_rule }
+    ensures own { result.global ≡ false }
+{
+    Arg::new(alloc, "layout")
+        .long("format")
+        .value_name("FORMAT")
+        .help(
+            "How the rows are written: `csv`; `table`, in columns for people; or `json`, an object on a line for each row",
+        )
+        .default_value("csv")
+}
+
+fn output_option<'a>(alloc: Global) -> Arg<'a>
+    ensures rule { rule_of result ≡ output_rule }
+    ensures own { result.global ≡ false }
+{
+    named_option(
+        alloc,
+        "output",
+        "FILE",
+        "The file that gets the rows in place of standard output, once all are there; until then it stays as it was",
+    )
+    .short('o')
+}
+
 fn quiet_option<'a>(alloc: Global) -> Arg<'a>
     ensures rule { rule_of result ≡ flag_rule (codes "quiet") }
     ensures own { result.global ≡ false }
@@ -186,7 +212,18 @@ fn quiet_option<'a>(alloc: Global) -> Arg<'a>
     flag_option(
         alloc,
         "quiet",
-        "No line on a terminal that says how far a long load is",
+        "No line on a terminal that says how far a long load or run is",
+    )
+}
+
+fn silent_option<'a>(alloc: Global) -> Arg<'a>
+    ensures rule { rule_of result ≡ flag_rule (codes "quiet") }
+    ensures own { result.global ≡ false }
+{
+    flag_option(
+        alloc,
+        "quiet",
+        "No line that says that the catalog need not hold of other files, nor how far a long load is",
     )
 }
 
@@ -220,6 +257,19 @@ fn sizes_argument<'a>(alloc: Global) -> Arg<'a>
         .value_name("NAME=N")
         .help("How many workers each size name of the plan stands for, 1 to 64")
         .num_args(0..)
+}
+
+fn files_argument<'a>(alloc: Global) -> Arg<'a>
+    ensures rule { rule_of result ≡ files_rule }
+    ensures own { result.global ≡ false }
+{
+    Arg::new(alloc, "files")
+        .value_name("FILE")
+        .help(
+            "The files NAME.csv, each with the names of its columns in the first line: one for each relation NAME",
+        )
+        .num_args(1..)
+        .required(true)
 }
 
 fn catalog_option<'a>(alloc: Global) -> Arg<'a>
@@ -292,6 +342,17 @@ fn with_reports<'a>(
     with_option(command, verbose_option(alloc))
 }
 
+// The command with both options that say how rows are written and where, where there was memory for the command.
+fn with_rows<'a>(
+    alloc: Global,
+    command: Result<Command<'a>, AllocError>,
+) -> Result<Command<'a>, AllocError>
+    ensures { (app : App) → IsCommand app command.entry → IsCommand (with_rows app) result }
+{
+    let command = with_option(command, layout_option(alloc));
+    with_option(command, output_option(alloc))
+}
+
 // A command without options.
 fn bare<'a>(alloc: Global, name: &'a str, about: &'a str, example: &'a str) -> Command<'a>
     ensures app { app_of result ≡ new_app name.entry.now }
@@ -332,12 +393,13 @@ fn serial<'a>(alloc: Global) -> Result<Command<'a>, AllocError>
     let command = judging(
         alloc,
         "serial",
-        "Evaluates the plan without its exchanges and prints the rows as CSV; the claims of the plan are not checked",
+        "Evaluates the plan without its exchanges and prints the rows; the claims of the plan are not checked",
         "Example: volcano serial --catalog catalog.json --plan plan.json --data tables",
     );
     let command = with_option(command, data_option(alloc));
     let command = with_option(command, threads_option(alloc));
     let command = with_option(command, quiet_option(alloc));
+    let command = with_rows(alloc, command);
     with_reports(alloc, command)
 }
 
@@ -383,7 +445,7 @@ fn run<'a>(alloc: Global) -> Result<Command<'a>, AllocError>
     let command = reading(
         alloc,
         "run",
-        "Runs a plan that the checker accepts, with many workers, and prints the rows as CSV",
+        "Runs a plan that the checker accepts, with many workers, and prints the rows",
         "Example: volcano run --catalog catalog.json --plan plan.json --data tables many=4",
     );
     let command = with_option(command, plans_option(alloc));
@@ -395,6 +457,7 @@ fn run<'a>(alloc: Global) -> Result<Command<'a>, AllocError>
     let command = with_option(command, threads_option(alloc));
     let command = with_option(command, quiet_option(alloc));
     let command = with_option(command, stats_option(alloc));
+    let command = with_rows(alloc, command);
     let command = with_reports(alloc, command);
     with_option(command, sizes_argument(alloc))
 }
@@ -452,6 +515,21 @@ fn sql<'a>(alloc: Global) -> Result<Command<'a>, AllocError>
     with_reports(alloc, command)
 }
 
+fn catalog<'a>(alloc: Global) -> Result<Command<'a>, AllocError>
+    ensures { IsCommand catalog_app result }
+{
+    let command = bare(
+        alloc,
+        "catalog",
+        "Prints a catalog of CSV files, as JSON: the types of their columns, and the keys and orders that their rows have",
+        "Example: volcano catalog tables/orders.csv tables/customers.csv > catalog.json",
+    );
+    let command = with_option(Ok(command), threads_option(alloc));
+    let command = with_option(command, silent_option(alloc));
+    let command = with_reports(alloc, command);
+    with_option(command, files_argument(alloc))
+}
+
 fn why<'a>(alloc: Global) -> Result<Command<'a>, AllocError>
     ensures { IsCommand why_app result }
 {
@@ -470,10 +548,11 @@ fn generate<'a>(alloc: Global) -> Result<Command<'a>, AllocError>
     let command = bare(
         alloc,
         "gen",
-        "Prints a relation to measure on, as CSV, of which each value is a formula on the row's number",
+        "Prints a relation to measure on, of which each value is a formula on the row's number",
         "Example: volcano gen --rows 10000",
     );
-    with_option(Ok(command), rows_option(alloc))
+    let command = with_option(Ok(command), rows_option(alloc));
+    with_rows(alloc, command)
 }
 
 fn bundle<'a>(alloc: Global) -> Result<Command<'a>, AllocError>
@@ -526,6 +605,7 @@ pub fn command<'a>(alloc: Global) -> Result<Command<'a>, AllocError>
     let program = with_command(program, explain(alloc));
     let program = with_command(program, annotate(alloc));
     let program = with_command(program, sql(alloc));
+    let program = with_command(program, catalog(alloc));
     let program = with_command(program, why(alloc));
     let program = with_command(program, generate(alloc));
     with_command(program, bundle(alloc))

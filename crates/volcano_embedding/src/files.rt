@@ -75,4 +75,8 @@ impl Reasons for CallTexts<'_> {
     fn reason(&self, _path: &str) -> Option<Reason> {
         None
     }
+
+    fn is_regular(&self, _path: &str) -> bool {
+        true
+    }
 }

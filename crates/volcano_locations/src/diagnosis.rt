@@ -1,5 +1,6 @@
 //! What is said of a refusal of what arguments ask for, from the files that they name.
 
+use crate::again::ReadAgain;
 use crate::bundles::place_in_bundle;
 use crate::catalogs::catalog_diagnostic;
 use crate::checks::{check_diagnostic, first_failure, fitted};
@@ -11,6 +12,7 @@ use crate::plans::{plan_diagnostic, plan_of};
 use crate::reasons::{Reason, Reasons};
 use crate::source_text::SourceText;
 use crate::tables::{file_diagnostic, load_diagnostic};
+use crate::unloaded::place_in_tables;
 use crate::with_input::WithInput;
 use std::alloc::{AllocError, Global};
 use volcano_diagnostics::{Diagnostic, Label, Note};
@@ -213,11 +215,13 @@ fn add_cure(alloc: Global, found: &mut Diagnostic, refusal: &str) -> Result<(), 
     }
 }
 
-/// What arguments ask for: the answer to a bundle on standard input, or something of files. Or neither.
+/// What arguments ask for: the answer to a bundle on standard input, something of files, or the catalog of tables. Or none of these.
 #[derive(Clone, Copy)]
 pub enum Origin<'a> {
     Bundle,
     Files(Inputs<'a>),
+    /// Tables at these paths, in which a catalog is looked for.
+    Tables(&'a [&'a str]),
     Neither,
 }
 
@@ -231,11 +235,16 @@ pub fn diagnose<F: Store + Reasons>(
     refusal: &Refusal,
     text: &str,
 ) -> Result<Diagnostic, AllocError> {
+    let files = ReadAgain { files };
     let place = match (origin, input) {
         (Origin::Files(inputs), _) => {
-            let files = WithInput { files, input };
+            let files = WithInput {
+                files: &files,
+                input,
+            };
             place_of(alloc, &files, inputs, refusal)
         }
+        (Origin::Tables(paths), _) => place_in_tables(alloc, &files, *paths, refusal),
         (Origin::Bundle, Some(bundle)) => place_in_bundle(alloc, bundle, refusal),
         _ => Ok(None),
     };

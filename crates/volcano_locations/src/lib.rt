@@ -1,6 +1,7 @@
 //! Where what was refused is: in which file, and where in it, in the words that a person looks for it by; and what was expected there.
 #![tactic(auto)]
 
+mod again;
 mod bundles;
 mod catalogs;
 mod checks;
@@ -22,6 +23,7 @@ mod source_text;
 mod spots;
 mod stage;
 mod tables;
+mod unloaded;
 mod with_input;
 
 pub use diagnosis::{Origin, diagnose};

@@ -30,10 +30,13 @@ impl Reason {
     }
 }
 
-/// What can say why a file is not read.
+/// What can say why a file is not read, and whether it may be read once more. No clause says what a file system answers.
 pub trait Reasons {
-    /// Why the file at this path does not open or is not read, if that is known. No clause says what a file system answers.
+    /// Why the file at this path does not open or is not read, if that is known.
     fn reason(&self, path: &str) -> Option<Reason>;
+
+    /// Whether the file at this path gives its bytes at each reading. A pipe gives them once.
+    fn is_regular(&self, path: &str) -> bool;
 }
 
 fn reason_of(kind: ErrorKind) -> Option<Reason> {
@@ -50,11 +53,20 @@ fn reason_of(kind: ErrorKind) -> Option<Reason> {
 pub fn system_reason<R: Files<File = File>>(rt: &R, path: &str) -> Option<Reason> {
     match rt.metadata(path) {
         Ok(found) if found.is_dir() => Some(Reason::IsFolder),
+        Ok(found) if !found.is_file() => None,
         Ok(_) => match fs::open(rt, path) {
             Ok(_) => None,
             Err(e) => reason_of(e.kind()),
         },
         Err(e) => reason_of(e.kind()),
+    }
+}
+
+// Whether the system has a regular file at this path.
+fn is_regular<R: Files<File = File>>(rt: &R, path: &str) -> bool {
+    match rt.metadata(path) {
+        Ok(found) => found.is_file(),
+        Err(_) => false,
     }
 }
 
@@ -80,5 +92,9 @@ impl<R, S: Store> Store for SystemFiles<'_, R, S> {
 impl<R: Files<File = File>, S> Reasons for SystemFiles<'_, R, S> {
     fn reason(&self, path: &str) -> Option<Reason> {
         system_reason(self.rt, path)
+    }
+
+    fn is_regular(&self, path: &str) -> bool {
+        is_regular(self.rt, path)
     }
 }

@@ -68,4 +68,8 @@ impl<F: Reasons> Reasons for WithInput<'_, F> {
     fn reason(&self, path: &str) -> Option<Reason> {
         self.files.reason(path)
     }
+
+    fn is_regular(&self, path: &str) -> bool {
+        path == INPUT || self.files.is_regular(path)
+    }
 }

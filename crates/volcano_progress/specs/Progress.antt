@@ -1,19 +1,8 @@
--- What is counted of a relation's text, and which line is due.
-use Rattle.std.specs.Prelude.{◌≡◌, ℕ, ◌+◌, ◌-◌, ◌^◌, ◌==◌, Bool, false, min, max, List, [], ◌++◌, if◌then◌else◌, length, count_by}
+-- What is counted of a relation's text, and what its line says.
+use Rattle.std.specs.Prelude.{◌≡◌, ℕ, ◌==◌, Bool, false, List, [], ◌++◌, if◌then◌else◌, length, count_by}
+use Rattle.volcano_progress.specs.Due.{counted}
 use Rattle.volcano_progress.specs.Text.{start, erased, shown_text}
 use Rattle.volcano_progress.specs.declared.progress.Progress.{Progress}
-
--- the sum, or the greatest number that is counted
-abbrev pub counted : ℕ → ℕ → ℕ
-counted number more = min (number + more) (2 ^ 64 - 1)
-
--- when the first line is due, in milliseconds: a second after the command began, and a tenth of one after the file was opened
-abbrev pub first_due : ℕ → ℕ → ℕ
-first_due began opened = max (counted began 1_000) (counted opened 100)
-
--- when the next line is due
-abbrev pub next_due : ℕ → ℕ
-next_due now = counted now 100
 
 -- a byte ends a line
 abbrev pub is_feed : ℕ → Bool

@@ -1,4 +1,4 @@
--- The line that says how much of a relation's text has been read.
+-- The lines that say how much of a relation's text has been read, and how far a run has come.
 use Rattle.std.specs.Prelude.{ℕ, ◌*◌, ◌/◌, ◌%◌, ◌==◌, ◌&&◌, Bool, List, [], ◌∷◌, ◌++◌, Option, Some, None, length, codes, decimal, nat_lt, nat_le, if◌then◌else◌}
 
 -- so many digits are whole groups of three
@@ -53,3 +53,11 @@ erased = 27 ∷ codes "[K"
 -- what is written for the line: over the one before it, of which nothing is left
 abbrev pub shown_text : List ℕ → Option ℕ → ℕ → ℕ → List ℕ
 shown_text name size bytes lines = start ++ line_text name size bytes lines ++ erased
+
+-- the line of a run, without what moves the cursor
+abbrev pub run_line_text : List ℕ → ℕ → ℕ → List ℕ
+run_line_text name rows seconds = name ++ codes ": " ++ number_text rows ++ codes " rows, " ++ number_text seconds ++ codes " s"
+
+-- what is written for it
+abbrev pub shown_run_text : List ℕ → ℕ → ℕ → List ℕ
+shown_run_text name rows seconds = start ++ run_line_text name rows seconds ++ erased

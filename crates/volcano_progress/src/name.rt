@@ -11,9 +11,9 @@ const SHOWN: usize = 40;
 // The ending of the path of each relation's text.
 const ENDING: &[u8] = b".csv";
 
-// What follows the last slash, or all if there is none.
+/// What follows the last slash, or all if there is none.
 #[tactic(auto, using(crate::proofs::NameFacts::last_part_whole))]
-fn after_slash(path: &[u8]) -> &[u8]
+pub fn after_slash(path: &[u8]) -> &[u8]
     ensures { result.now ≡ after_slash path.now }
 {
     let mut name = path;

@@ -2,14 +2,9 @@
 
 ghost use Rattle.std.specs.Prelude.{◌≡◌, ◌≤◌, ◌<◌, IfOk, OnOk, IsSomeAnd, None, true, false};
 
+use crate::due::{first_due, next_due};
 use crate::text::{ENDING, shown_text};
 use std::alloc::{AllocError, Global};
-
-// How long a command runs before a line is shown, in milliseconds.
-const BEFORE: u64 = 1_000;
-
-// How long a line is shown before the next one, in milliseconds.
-const BETWEEN: u64 = 100;
 
 /// How much of a relation's text has been read.
 #[derive(Drop)]
@@ -23,7 +18,8 @@ pub struct Progress {
 }
 
 impl Progress {
-    ghost use Rattle.volcano_progress.specs.Progress.{first_due, next_due, IsCounted, IsSameCount, progress_text, ending_text};
+    ghost use Rattle.volcano_progress.specs.Due.{first_due, next_due};
+    ghost use Rattle.volcano_progress.specs.Progress.{IsCounted, IsSameCount, progress_text, ending_text};
 
     /// Nothing of the text of a relation, whose size may be known. The command began and the text was opened at these
     /// times, in milliseconds.
@@ -40,9 +36,7 @@ impl Progress {
             size,
             bytes: 0,
             lines: 0,
-            due: began
-                .saturating_add(BEFORE)
-                .max(opened.saturating_add(BETWEEN)),
+            due: first_due(began, opened),
             is_shown: false,
         }
     }
@@ -76,7 +70,7 @@ impl Progress {
             self.bytes,
             self.lines,
         )?;
-        self.due = now.saturating_add(BETWEEN);
+        self.due = next_due(now);
         self.is_shown = true;
         Ok(Some(text))
     }

@@ -1,7 +1,7 @@
-//! The text of the line.
+//! The texts of lines.
 
 ghost use Rattle.std.specs.Prelude.{◌≡◌, ◌++◌, ◌≤◌, ◌<◌, ◌*◌, ◌/◌, ◌%◌, ◌==◌, OnOk, IfOk, Option};
-ghost use Rattle.volcano_progress.specs.Text.{are_groups, grouped, number_text, units, unit_name, bytes_text, part_text, amount_text, line_text, shown_text};
+ghost use Rattle.volcano_progress.specs.Text.{are_groups, grouped, number_text, units, unit_name, bytes_text, part_text, amount_text, line_text, shown_text, run_line_text, shown_run_text};
 
 use itoa::Buffer;
 use std::alloc::{AllocError, Global};
@@ -140,6 +140,33 @@ pub fn shown_text(
 {
     let mut text = Vec::from_slice(alloc, START)?;
     push_line(&mut text, name, size, bytes, lines)?;
+    text.extend_from_slice(ERASED)?;
+    Ok(text)
+}
+
+// Adds the line of a run.
+fn push_run_line(text: &mut Vec<u8>, name: &[u8], rows: u64, seconds: u64) -> Result<(), AllocError>
+    ensures { OnOk result (text.new.items ≡ text.old.items ++ run_line_text name.now rows seconds) }
+{
+    text.extend_from_slice(name)?;
+    text.extend_from_slice(b": ")?;
+    push_number(text, rows)?;
+    text.extend_from_slice(b" rows, ")?;
+    push_number(text, seconds)?;
+    text.extend_from_slice(b" s")
+}
+
+/// What is written for the line of a run: over the one before it, of which nothing is left.
+pub fn shown_run_text(
+    alloc: Global,
+    name: &[u8],
+    rows: u64,
+    seconds: u64,
+) -> Result<Vec<u8>, AllocError>
+    ensures { IfOk result (λ text. text.items ≡ shown_run_text name.now rows seconds) }
+{
+    let mut text = Vec::from_slice(alloc, START)?;
+    push_run_line(&mut text, name, rows, seconds)?;
     text.extend_from_slice(ERASED)?;
     Ok(text)
 }

@@ -36,6 +36,7 @@ use vx_exec_operators::{Destination, Operator};
 use vx_exec_runs::RunOutcome;
 use vx_exec_setup::{RunCounts, RunFault, Setup};
 use vx_exec_steps::{RunState, bad_step, judge_rounds, judge_schedule};
+use vx_exec_watch::Watch;
 use vx_ops::{Code, Fault};
 use vx_plan_nodes::{PlanFunctions, Router};
 use vx_rows_views::Rows;
@@ -89,11 +90,12 @@ pub fn answer_of<F: PlanFunctions + Copy>(
 }
 
 // At most `limit` rounds of all workers of a job, and what they come to. What they counted is kept, if that is wanted.
-fn run_job<F: PlanFunctions + Copy, R: Router>(
+fn run_job<F: PlanFunctions + Copy, R: Router, V: Watch>(
     alloc: Global,
     job: &Job<'_, F>,
     router: &R,
     limit: u64,
+    watch: &V,
     counts: &mut RunCounts,
 ) -> Result<RunOutcome, RunFault>
     requires allowed { is_allowed job.now.plan.now ≡ true }
@@ -108,7 +110,7 @@ fn run_job<F: PlanFunctions + Copy, R: Router>(
     job.meets();
     let crew = Crew::new(alloc, job)?;
     let (mut workers, mut links) = crew.into_parts();
-    let verdict = judge_rounds(&mut workers, job, router, &mut links, limit);
+    let verdict = judge_rounds(&mut workers, job, router, &mut links, limit, watch);
     keep_counts(counts, alloc, workers.as_slice())?;
     answer_of(workers, verdict)
 }
@@ -139,8 +141,9 @@ fn schedule_job<F: PlanFunctions + Copy, R: Router>(
 /// A run of a plan over a database, under these functions: at most `limit` rounds, in each of which every worker makes one step, in
 /// number order. Once all workers have ended and some failed, the fault is that of the lowest-numbered one that failed by itself. As many
 /// rounds as `rounds_needed` of `vx_exec_layout` says are enough: with that limit or a higher one the answer is not Unfinished. What each
-/// worker counted is in `counts` afterwards, also where some failed; memory for it is refused only where it is wanted.
-pub fn run_rounds<F: PlanFunctions + Copy, R: Router>(
+/// worker counted is in `counts` afterwards, also where some failed; memory for it is refused only where it is wanted. `watch` is told how
+/// far the run has come.
+pub fn run_rounds<F: PlanFunctions + Copy, R: Router, V: Watch>(
     alloc: Global,
     plan: &CheckedPlan,
     database: &Database,
@@ -148,6 +151,7 @@ pub fn run_rounds<F: PlanFunctions + Copy, R: Router>(
     functions: &F,
     router: &R,
     limit: u64,
+    watch: &V,
     counts: &mut RunCounts,
 ) -> Result<RunOutcome, RunFault>
     ensures promise { CrewPromise (R.route_of router.now) (F.functions functions.now) NothingElse (typed_plan plan.now) database.now setup.now result }
@@ -157,7 +161,7 @@ pub fn run_rounds<F: PlanFunctions + Copy, R: Router>(
     ensures ends { WhereSet (R.route_of router.now) (F.functions functions.now) (typed_plan plan.now) database.now setup.now (λ W p. rounds_needed W.db W.sizes p ≤ limit → IfOk result IsWhole) }
 {
     let job = job_of(alloc, *functions, plan.plan(), database, setup)?;
-    run_job(alloc, &job, router, limit, counts)
+    run_job(alloc, &job, router, limit, watch, counts)
 }
 
 /// A run of a plan over a database, under these functions, by a schedule: one step of the worker with each of these numbers, in this

@@ -37,6 +37,10 @@ node_in s = s.node
 abbrev pub counts_in : {F : Type 0} {given : Ghosts F} → Operator F given → OperatorCounts
 counts_in s = s.counts
 
+-- how many rows it counted that it gave
+abbrev pub rows_given : {F : Type 0} (given : Ghosts F) → Operator F given → ℕ
+rows_given given s = s.counts.gave
+
 -- what is known of it
 pub operator_abides : {F : Type 0} {given : Ghosts F} (s : Operator F given) (l : Ledger) → OperatorStands given s l → Abides (operator_op given s) l
 operator_abides s l h = kind_abides s.kind l h.kind

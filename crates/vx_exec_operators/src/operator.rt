@@ -3,6 +3,7 @@
 use crate::counting::{count_given, count_got};
 use crate::kind::OperatorKind;
 use vx_exec_setup::OperatorCounts;
+use vx_exec_watch::CountsRows;
 use vx_ops::{Got, Polled, Source, Want};
 use vx_plan_nodes::PlanFunctions;
 
@@ -95,5 +96,15 @@ impl<F: PlanFunctions + Copy> Source for Operator<F> {
         let polled = self.kind.turn(got);
         count_given(&mut self.counts, &polled);
         polled
+    }
+}
+
+impl<F: PlanFunctions + Copy> CountsRows for Operator<F> {
+    ghost use Rattle.vx_exec_operators.specs.Operator.{rows_given};
+
+    ghost given = { rows_given F.PlanFunctions };
+
+    fn rows_given(&self) -> u64 {
+        self.counts.gave
     }
 }

@@ -11,17 +11,35 @@ use vx_exec::run_rounds;
 use vx_exec_runs::{MAX_ROUNDS, RunOutcome, Runs};
 use vx_exec_setup::{Mode, RunCounts, RunFault, Setting};
 use vx_exec_threads::Free;
+use vx_exec_watch::Watch;
 use vx_plan_nodes::{PlanFunctions, StandardFunctions};
 
 /// Runs plans by the workers of this repository and by the standard functions: by rounds in one thread, or each worker in a thread of its own.
-/// Hash routes send keys by their bytes.
-#[derive(Clone, Copy)]
-pub struct Engine;
+/// Hash routes send keys by their bytes. A watch is told how far each run has come.
+#[derive(Drop)]
+pub struct Engine<'w, V> {
+    watch: &'w V,
+}
 
-impl Runs for Engine {
+impl<'w, V> Engine<'w, V> {
+    ghost use Rattle.std.specs.Prelude.{◌≡◌};
+
+    /// Such an engine, with this watch.
+    pub fn new(watch: &'w V) -> Engine<'w, V>
+        ensures { result.watch.now ≡ watch.now }
+    {
+        Engine { watch }
+    }
+}
+
+impl<V: Watch> Runs for Engine<'_, V> {
     ghost use Rattle.vx_exec_parallel.specs.Engine.{CountedIn};
 
     ghost counted = { λ _ mode p db s result ws. CountedIn ⟦<StandardFunctions as PlanFunctions>⟧ mode p db s result ws };
+
+    fn announce(&self, path: &str) {
+        self.watch.announce(path);
+    }
 
     fn run<T: Threads + Wait + Sync>(
         &self,
@@ -42,11 +60,12 @@ impl Runs for Engine {
                 &StandardFunctions,
                 &ByteRouter,
                 MAX_ROUNDS,
+                self.watch,
                 counts,
             ),
             Mode::Threads => {
                 let (router, gate) = (ByteRouter, Free);
-                let threading = Threading::new(&router, &gate);
+                let threading = Threading::new(&router, &gate, self.watch);
                 run_threads(
                     rt,
                     alloc,

@@ -33,6 +33,7 @@ use vx_exec_setup::{RunCounts, RunFault, Setup};
 use vx_exec_spawn::{CrewMember, Joined, run_in_threads};
 use vx_exec_steps::RunState;
 use vx_exec_threads::Gate;
+use vx_exec_watch::Watch;
 use vx_exec_wiring::{Wiring, wiring_of};
 use vx_morsel_decks::SharedDeck;
 use vx_plan_nodes::{PlanFunctions, Router};
@@ -57,6 +58,7 @@ fn run_crew<
     F: PlanFunctions + Copy + Send + Sync,
     R: Router + Sync,
     G: Gate + Sync,
+    V: Watch,
     T: Threads + Wait + Sync,
 >(
     rt: &T,
@@ -64,6 +66,7 @@ fn run_crew<
     job: &Job<'_, F>,
     router: &R,
     gate: &G,
+    watch: &V,
     workers: Vec<Worker<Operator<F>, Destination>>,
     wiring: Wiring,
 ) -> Result<(Vec<Worker<Operator<F>, Destination>>, RunState), RunFault>
@@ -82,7 +85,7 @@ fn run_crew<
     let layout = job.layout();
     let seats = places_of(alloc, layout)?;
     let members = members_of(alloc, workers, ends, seats.as_slice())?;
-    let joined = run_in_threads(rt, alloc, job, router, gate, &decks, members)?;
+    let joined = run_in_threads(rt, alloc, job, router, gate, watch, &decks, members)?;
     let ended = assemble(alloc, layout, decks, places.as_slice(), joined)?;
     Ok(ended)
 }
@@ -93,6 +96,7 @@ fn run_job<
     F: PlanFunctions + Copy + Send + Sync,
     R: Router + Sync,
     G: Gate + Sync,
+    V: Watch,
     T: Threads + Wait + Sync,
 >(
     rt: &T,
@@ -100,6 +104,7 @@ fn run_job<
     job: &Job<'_, F>,
     router: &R,
     gate: &G,
+    watch: &V,
     most: u32,
     counts: &mut RunCounts,
 ) -> Result<RunOutcome, RunFault>
@@ -120,7 +125,7 @@ fn run_job<
         return Err(RunFault::NoThread);
     }
     let wiring = wiring_for(alloc, job)?;
-    let ended = run_crew(rt, alloc, job, router, gate, workers, wiring)?;
+    let ended = run_crew(rt, alloc, job, router, gate, watch, workers, wiring)?;
     let (workers, verdict) = ended;
     keep_counts(counts, alloc, workers.as_slice())?;
     answer_of(workers, verdict)
@@ -128,26 +133,29 @@ fn run_job<
 
 /// How the workers of a run are threads.
 #[derive(Clone, Copy)]
-pub struct Threading<'a, R, G> {
+pub struct Threading<'a, R, G, V> {
     /// Says where hash routes send keys.
     pub router: &'a R,
     /// What each thread passes before it makes a step.
     pub gate: &'a G,
+    /// Is told how far the run has come.
+    pub watch: &'a V,
     /// The most workers that there may be.
     pub most: u32,
 }
 
-impl<'a, R, G> Threading<'a, R, G> {
+impl<'a, R, G, V> Threading<'a, R, G, V> {
     ghost use Rattle.vx_rows_values.specs.Limits.{max_workers};
 
     /// With as many workers as a run may have.
-    pub fn new(router: &'a R, gate: &'a G) -> Threading<'a, R, G>
+    pub fn new(router: &'a R, gate: &'a G, watch: &'a V) -> Threading<'a, R, G, V>
         ensures router { result.router.now ≡ router.now }
         ensures most { result.most ≡ max_workers }
     {
         Threading {
             router,
             gate,
+            watch,
             most: MAX_WORKERS,
         }
     }
@@ -161,6 +169,7 @@ pub fn run_threads<
     F: PlanFunctions + Copy + Send + Sync,
     R: Router + Sync,
     G: Gate + Sync,
+    V: Watch,
     T: Threads + Wait + Sync,
 >(
     rt: &T,
@@ -169,7 +178,7 @@ pub fn run_threads<
     database: &Database,
     setup: &Setup,
     functions: &F,
-    threading: &Threading<'_, R, G>,
+    threading: &Threading<'_, R, G, V>,
     counts: &mut RunCounts,
 ) -> Result<RunOutcome, RunFault>
     ensures promise { CrewPromise (R.route_of threading.now.router.now) (F.functions functions.now) NoThreadStarted (typed_plan plan.now) database.now setup.now result }
@@ -181,6 +190,6 @@ pub fn run_threads<
         (λ W p. CountedByThreads F.PlanFunctions (R.route_of threading.now.router.now) W p result (counts_in counts.new)) }
 {
     let job = job_of(alloc, *functions, plan.plan(), database, setup)?;
-    let (router, gate, most) = (threading.router, threading.gate, threading.most);
-    run_job(rt, alloc, &job, router, gate, most, counts)
+    let (router, gate, watch) = (threading.router, threading.gate, threading.watch);
+    run_job(rt, alloc, &job, router, gate, watch, threading.most, counts)
 }

@@ -34,6 +34,9 @@ pub trait Runs {
     // What the workers of a run in this mode, of these sizes, which came to this, counted in the end.
     ghost counted: { Self → Mode → TypedPlan → Database → Sizes → Result RunOutcome RunFault → List WorkerCounts → Type 0 };
 
+    /// The run that comes next is of the plan at `path`, one of several. What tells a person of it may name it; no run depends on it.
+    fn announce(&self, _path: &str) {}
+
     /// A run of a plan over a database, in the mode that the setting says. A plan that names a function which the program does not have is
     /// refused before the first step. Only by rounds may a run be left unfinished, and only where the setup is right and the plan needs more
     /// than `MAX_ROUNDS` rounds by the bound `rounds_needed`. What its workers counted is in `counts` afterwards, also where some failed;

@@ -2,6 +2,7 @@
 
 use crate::start::Start;
 use std::alloc::AllocError;
+use vx_exec_watch::Board;
 use vx_morsel_decks::SharedDeck;
 
 /// What the threads of a run share.
@@ -16,6 +17,8 @@ pub struct Shared<'s, G, R, H> {
     pub decks: &'s Vec<SharedDeck>,
     /// Lets all begin at once.
     pub start: &'s Start,
+    /// Has how far the run has come.
+    pub board: &'s Board,
 }
 
 // By hand, since a derive would ask that what is lent can be copied too.

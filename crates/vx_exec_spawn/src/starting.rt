@@ -15,6 +15,7 @@ use std::sync::Wait;
 use std::thread::{PromisedHandle, Scope, Threads};
 use vx_exchange_ends::Sends;
 use vx_exec_threads::{Gate, ThreadWires, WorkerPlace, run_to_end};
+use vx_exec_watch::CountsRows;
 use vx_ops::Source;
 use vx_plan_nodes::Router;
 use vx_worker::Morsels;
@@ -28,11 +29,14 @@ fn may_begin<O, S, T: Wait>(rt: &T, start: &Start, member: &CrewMember<O, S>) ->
 }
 
 /// What a worker's thread does: it waits for the start, and steps its worker to its end. None if the run was cancelled.
-pub fn work<O: Source + Drop, S: Sends + Drop, G: Morsels, R: Router, H: Gate, T: Wait>(
-    rt: &T,
-    shared: Shared<'_, G, R, H>,
-    member: CrewMember<O, S>,
-) -> Option<Joined<O, S>>
+pub fn work<
+    O: Source + CountsRows + Drop,
+    S: Sends + Drop,
+    G: Morsels,
+    R: Router,
+    H: Gate,
+    T: Wait,
+>(rt: &T, shared: Shared<'_, G, R, H>, member: CrewMember<O, S>) -> Option<Joined<O, S>>
     requires ready { IsReady O.types S.post S.is_open S.has_closed (G.types_of shared.morsels.now) member.worker }
     requires sits { All (Sits shared.decks.now.items) member.ends.draws.items }
     ensures { IfSome result (λ j. IsHonest O.Stands O.op S.Stands S.task S.post S.bounds (R.route_of shared.entry.router.now) (G.morsel_of shared.entry.morsels.now) member j) }
@@ -58,10 +62,12 @@ pub fn work<O: Source + Drop, S: Sends + Drop, G: Morsels, R: Router, H: Gate, T
         shared.morsels,
         shared.router,
         shared.gate,
+        shared.board,
         at,
         worker,
         wires,
     );
+    shared.board.leave();
     Some(Joined { worker, ends })
 }
 
@@ -69,7 +75,7 @@ pub fn work<O: Source + Drop, S: Sends + Drop, G: Morsels, R: Router, H: Gate, T
 pub fn begin<
     's,
     E: 's,
-    O: Source + Send + Drop + 's,
+    O: Source + CountsRows + Send + Drop + 's,
     S: Sends + Send + Drop + 's,
     G: Morsels + Sync + 's,
     R: Router + Sync + 's,

@@ -17,18 +17,20 @@ use crate::links::Links;
 use crate::run::{step_rounds, step_schedule};
 use crate::verdict::{RunState, judge};
 use vx_exchange_ends::Sends;
+use vx_exec_watch::{CountsRows, Watch};
 use vx_ops::Source;
 use vx_plan_nodes::Router;
 use vx_worker::{Morsels, Worker};
 
 /// At most `limit` rounds of all workers in number order, and what they come to. Where `limit` is as many rounds as the plan needs at
-/// most, all workers end.
-pub fn judge_rounds<O: Source, S: Sends, G: Morsels, R: Router>(
+/// most, all workers end. `watch` is told how far the run has come.
+pub fn judge_rounds<O: Source + CountsRows, S: Sends, G: Morsels, R: Router, V: Watch>(
     workers: &mut Vec<Worker<O, S>>,
     morsels: &G,
     router: &R,
     links: &mut Links,
     limit: u64,
+    watch: &V,
 ) -> RunState
     requires { All (IsReady O.types S.post S.is_open S.has_closed (G.types_of morsels.now)) workers.old.items }
     ensures follows { FollowsRounds O.Stands O.want O.op O.most O.idle S.Stands S.task S.post S.bounds S.held S.unclosed (R.route_of router.now) (G.morsel_of morsels.now) limit workers.old.items links.old workers.new.items links.new }
@@ -48,7 +50,9 @@ pub fn judge_rounds<O: Source, S: Sends, G: Morsels, R: Router>(
         → All (IsRested O.op O.most O.idle S.post S.held S.unclosed) workers.old.items
         → rounds_needed W.db W.sizes p ≤ limit → result ≡ RunState.Unfinished → ⊥ }
 {
-    step_rounds(workers, morsels, router, links, limit);
+    watch.begin();
+    step_rounds(workers, morsels, router, links, limit, watch);
+    watch.end();
     judge(workers.as_slice())
 }
 

@@ -10,7 +10,9 @@ ghost use Rattle.vx_exec_steps.specs.Verdicts.{EndsAt, HasEnded, SameBut};
 ghost use Rattle.vx_worker.specs.declared.worker.StepOutcome.TheVariants as StepOutcome;
 
 use crate::links::Links;
+use crate::watching::tell_rows;
 use vx_exchange_ends::Sends;
+use vx_exec_watch::{CountsRows, Watch};
 use vx_ops::Source;
 use vx_plan_nodes::Router;
 use vx_worker::{Morsels, StepOutcome, Worker};
@@ -69,19 +71,22 @@ pub fn step_round<O: Source, S: Sends, G: Morsels, R: Router>(
     all_ended
 }
 
-/// At most `limit` rounds, until all workers have ended. A round over workers that have nothing to do allocates nothing.
-pub fn step_rounds<O: Source, S: Sends, G: Morsels, R: Router>(
+/// At most `limit` rounds, until all workers have ended. A round over workers that have nothing to do allocates nothing. `watch` is told
+/// how far the run has come, and changes nothing of it.
+pub fn step_rounds<O: Source + CountsRows, S: Sends, G: Morsels, R: Router, V: Watch>(
     workers: &mut Vec<Worker<O, S>>,
     morsels: &G,
     router: &R,
     links: &mut Links,
     limit: u64,
+    watch: &V,
 )
     requires ready { All (IsReady O.types S.post S.is_open S.has_closed (G.types_of morsels.now)) workers.old.items }
     ensures follows { FollowsRounds O.Stands O.want O.op O.most O.idle S.Stands S.task S.post S.bounds S.held S.unclosed (R.route_of router.now) (G.morsel_of morsels.now) limit workers.old.items links.old workers.new.items links.new }
     ensures advances { Advances O.Stands O.op S.Stands S.task S.post S.bounds (R.route_of router.now) (G.morsel_of morsels.now) workers.old.items links.old workers.new.items links.new }
 {
     for done in 0..limit {
+        tell_rows(watch, workers.as_slice(), done);
         if step_round(workers, morsels, router, links) {
             return;
         }

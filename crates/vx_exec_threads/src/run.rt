@@ -16,6 +16,8 @@ use std::sync::Wait;
 use std::thread;
 use std::thread::Parker;
 use vx_exchange_ends::Sends;
+use vx_exec_steps::post_rows;
+use vx_exec_watch::{Board, CountsRows};
 use vx_ops::Source;
 use vx_plan_nodes::Router;
 use vx_worker::{Morsels, StepOutcome, Worker};
@@ -121,12 +123,13 @@ fn step_in_thread<O: Source, S: Sends, G: Morsels, R: Router, H: Gate>(
 }
 
 /// Steps a worker until it has ended, and returns it with what its thread held. While it cannot move, it sleeps, and its
-/// partners wake it. That it ends is not promised.
-pub fn run_to_end<O: Source, S: Sends, G: Morsels, R: Router, H: Gate, T: Wait>(
+/// partners wake it. That it ends is not promised. The root's worker posts on the board how many rows it has given.
+pub fn run_to_end<O: Source + CountsRows, S: Sends, G: Morsels, R: Router, H: Gate, T: Wait>(
     rt: &T,
     morsels: &G,
     router: &R,
     gate: &H,
+    board: &Board,
     at: WorkerPlace,
     mut worker: Worker<O, S>,
     mut wires: ThreadWires<'_>,
@@ -137,7 +140,10 @@ pub fn run_to_end<O: Source, S: Sends, G: Morsels, R: Router, H: Gate, T: Wait>(
         worker (hold_of wires.entry.ends) result.0 (hold_of result.1) }
 {
     let mut waited = 0;
+    let mut made = 0u64;
     'steps: for _ in rt.forever() {
+        made = made.wrapping_add(1);
+        post_rows(board, at.number, &worker, made);
         match step_in_thread(morsels, router, gate, at, &mut worker, &mut wires) {
             StepOutcome::Ended => return (worker, wires.into_ends()),
             stepped => {

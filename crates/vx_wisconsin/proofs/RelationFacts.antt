@@ -113,7 +113,7 @@ numbers-held (k ∷ ks) rest h r = and-both _ _ (number-held k h.0) (numbers-hel
 texts-held : (u i : ℕ) → list_all is_held (text (text_of u) ∷ text (text_of i) ∷ text (string4 i) ∷ []) ≡ true
 texts-held u i = and-both _ _ (text-held u) (and-both _ _ (text-held i) (and-both _ _ (string4-held i) refl))
 
-small : (u i : ℕ) → u ≤ 9223372036854775807 → i ≤ 9223372036854775807 → AllByRecursion (λ k. k ≤ 9223372036854775807) (numbers u i)
+pub small : (u i : ℕ) → u ≤ 9223372036854775807 → i ≤ 9223372036854775807 → AllByRecursion (λ k. k ≤ 9223372036854775807) (numbers u i)
 small u i h k =
     (h, (k, (omega arith, (omega arith, (omega arith, (omega arith, (omega arith, (omega arith, (omega arith, (omega arith, (h, (omega arith, (omega arith, tt)))))))))))))
 

@@ -2,6 +2,7 @@
 use Rattle.std.specs.Prelude.{◌≡◌, ℕ, pos, ◌+◌, ◌*◌, ◌/◌, ◌%◌, ◌^◌, ◌≤◌, ◌==◌, if◌then◌else◌, List, [], ◌∷◌, ◌++◌, length, map, replicate, codes, slice_index, Ok}
 use Rattle.std.specs.List.{range_with_len}
 use Rattle.vx_rows_values.specs.Values.{num, text, Row}
+use Rattle.vx_rows_values.specs.declared.value.ColType.{ColType}
 use Rattle.vx_rows_values.specs.declared.value.ColType.TheVariants.{Int, Text}
 use Rattle.vx_rows_values.specs.Order.{rising}
 use Rattle.vx_catalog.specs.Csv.{csv_text}
@@ -56,9 +57,13 @@ column_names =
     ∷ codes "unique3" ∷ codes "evenOnePercent" ∷ codes "oddOnePercent"
     ∷ codes "stringu1" ∷ codes "stringu2" ∷ codes "string4" ∷ []
 
+-- the types of the columns
+abbrev pub column_types : List ColType
+column_types = replicate 13 Int ++ replicate 3 Text
+
 -- what a catalog declares of such a relation: the keys unique1 and unique2, and the order unique2
 abbrev pub relation_named : List ℕ → Relation
-relation_named name = record { name = name; names = column_names; types = replicate 13 Int ++ replicate 3 Text; keys = (0 ∷ []) ∷ (1 ∷ []) ∷ []; order = rising (1 ∷ []) }
+relation_named name = record { name = name; names = column_names; types = column_types; keys = (0 ∷ []) ∷ (1 ∷ []) ∷ []; order = rising (1 ∷ []) }
 
 -- the rows are as many as asked for; they fit, have both keys and are sorted; and their text is loaded as these rows
 pub record WisconsinLaw : Type 0 where

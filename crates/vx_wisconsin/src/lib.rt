@@ -5,8 +5,10 @@
 mod fault;
 mod line;
 mod queries;
+mod rows;
 mod writing;
 
 pub use fault::GenerateFault;
 pub use queries::{catalog, plan};
+pub use rows::{column_names, generate_rows};
 pub use writing::{generate, rows_meet_what_is_declared};

@@ -16,12 +16,12 @@ const FILLER_AND_COMMA: [u8; 46] = *b"xxxxxxxxxxxxxxxxxxxxxxxxxxxxxxxxxxxxxxxxxx
 
 const FILLER_AND_END: [u8; 49] = *b"xxxxxxxxxxxxxxxxxxxxxxxxxxxxxxxxxxxxxxxxxxxxxxxx\n";
 
-// The letters of the last column.
-const TURNS: [u8; 4] = *b"AHOV";
+/// The letters of the last column.
+pub const TURNS: [u8; 4] = *b"AHOV";
 
-// The first column of row `i` of `rows`.
+/// The first column of row `i` of `rows`.
 #[tactic(auto, unfolding(crate::specs::Wisconsin::unique1))]
-fn unique1(rows: u64, i: u64) -> u64
+pub fn unique1(rows: u64, i: u64) -> u64
     requires { (rows ≤ max_generated_rows) × (i < rows) }
     ensures { result ≡ unique1 rows i }
 {
@@ -32,8 +32,8 @@ fn unique1(rows: u64, i: u64) -> u64
     }
 }
 
-// The columns of numbers.
-fn numbers(u: u64, i: u64) -> [u64; 13]
+/// The columns of numbers, where the first two are `u` and `i`.
+pub fn numbers(u: u64, i: u64) -> [u64; 13]
     ensures { result ≡ numbers u i }
 {
     let percent = u % 100;
@@ -60,9 +60,9 @@ fn letter(digit: u64) -> u8
     b'A' + (digit % 26) as u8
 }
 
-// A number in base 26.
+/// A number in base 26.
 #[tactic(auto, unfolding(crate::specs::Wisconsin::seven_letters))]
-fn seven_letters(number: u64) -> [u8; 7]
+pub fn seven_letters(number: u64) -> [u8; 7]
     ensures { result ≡ seven_letters number }
 {
     [

@@ -15,12 +15,12 @@ returns-in_err-plan-clause-refused g c =
 pub returns-clause-text : goal.returns-clause-text
 returns-clause-text g c =
     let text = rw (c.command-command.ensures, c.setting-setting.ensures) at c.execute.ensures.text in
-    outputs c.execute.result (bundle_form c.args.bundle.now) (resolved_of c.in_ok-plan.plan) c.in_ok-plan.ensures.planned text
+    outputs c.args.services.now.layout c.execute.result (bundle_form c.args.bundle.now) (resolved_of c.in_ok-plan.plan) c.in_ok-plan.ensures.planned text
 
 pub returns-clause-run : goal.returns-clause-run
 returns-clause-run g c =
     let run = rw (c.command-command.ensures, c.setting-setting.ensures) at c.execute.ensures.run in
-    bundle_run (g.R.Runs.counted c.args.services.now.engine.now) c.args.form c.execute.result (bundle_form c.args.bundle.now) c.in_ok-plan.plan (phases_of (times_in c.args.timer.now))
+    bundle_run (g.R.Runs.counted c.args.services.now.engine.now) c.args.services.now.layout c.args.form c.execute.result (bundle_form c.args.bundle.now) c.in_ok-plan.plan (phases_of (times_in c.args.timer.now))
     (phases_of (times_in c.end.new.self)) c.in_ok-plan.ensures.planned c.in_ok-end.ensures run
 
 pub returns-clause-refused : goal.returns-clause-refused

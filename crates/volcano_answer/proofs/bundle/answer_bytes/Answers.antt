@@ -18,7 +18,7 @@ pub returns-clause-run : goal.returns-clause-run
 returns-clause-run g c =
     let b = bundle_form c.in-Some-2.bundle in
     let is : bundle_of_text c.args.bytes.now ≡ Some b = search rules in
-    bytes_run (g.R.Runs.counted c.args.services.now.engine.now) c.args.form c.answer_bundle.result c.args.bytes.now b (phases_of (times_in c.start-timer.result)) (phases_of (times_in c.end.new.self)) is
+    bytes_run (g.R.Runs.counted c.args.services.now.engine.now) c.args.services.now.layout c.args.form c.answer_bundle.result c.args.bytes.now b (phases_of (times_in c.start-timer.result)) (phases_of (times_in c.end.new.self)) is
     (ap phases_of c.start-timer.ensures) c.in_ok-end.ensures c.answer_bundle.ensures.run
 
 pub returns-clause-runs : goal.returns-clause-runs

@@ -54,7 +54,7 @@ returns-in-Ok-Verdict g c =
     let is : IsJob (asked_is c.args.asked.now) (asked_job.Verdict c.in-Ok-Verdict.sources) = rw (c.in-Ok-Verdict.is, c.in-Ok-Verdict.field-0-is) at c.job_in.ensures in
     let files = g.F.Store.holds c.args.files.now in
     let input = g.I.ByteIn.remaining c.args.input.now in
-    let Answers : Ask → Type 0 = λ ask. IfOk c.answer_verdict.result (λ a. IsAskAnswer (g.R.Runs.counted c.args.services.now.engine.now) files input ask a) in
+    let Answers : Ask → Type 0 = λ ask. IfOk c.answer_verdict.result (λ a. IsAskAnswer (g.R.Runs.counted c.args.services.now.engine.now) c.args.services.now.layout files input ask a) in
     let Refuses : Ask → Type 0 = λ ask. IfErr c.answer_verdict.result (IsAskFault files (g.F.Store.is_reliable c.args.files.now) input (g.I.ByteIn.has_failed c.answer_verdict.new.input) ask) in
     record { answer = subst Answers (sym is) c.answer_verdict.ensures.answer; no_stats = c.answer_verdict.ensures.no_stats; refused = subst Refuses (sym is) c.answer_verdict.ensures.refused }
 
@@ -74,9 +74,24 @@ returns-in-Ok-Drawing g c =
     let is : IsJob (asked_is c.args.asked.now) (asked_job.Drawing c.in-Ok-Drawing.sources c.in-Ok-Drawing.stats) = rw (c.in-Ok-Drawing.is, c.in-Ok-Drawing.field-0-is) at c.job_in.ensures in
     let files = g.F.Store.holds c.args.files.now in
     let input = g.I.ByteIn.remaining c.args.input.now in
-    let Answers : Ask → Type 0 = λ ask. IfOk c.answer_drawing.result (λ a. IsAskAnswer (g.R.Runs.counted c.args.services.now.engine.now) files input ask a) in
+    let Answers : Ask → Type 0 = λ ask. IfOk c.answer_drawing.result (λ a. IsAskAnswer (g.R.Runs.counted c.args.services.now.engine.now) c.args.services.now.layout files input ask a) in
     let Refuses : Ask → Type 0 = λ ask. IfErr c.answer_drawing.result (IsAskFault files (g.F.Store.is_reliable c.args.files.now) input (g.I.ByteIn.has_failed c.answer_drawing.new.input) ask) in
     record { answer = subst Answers (sym is) c.answer_drawing.ensures.answer; no_stats = c.answer_drawing.ensures.no_stats; refused = subst Refuses (sym is) c.answer_drawing.ensures.refused }
+
+pub returns-in-Ok-Relation : goal.returns-in-Ok-Relation
+returns-in-Ok-Relation g c =
+    let is : IsJob (asked_is c.args.asked.now) (asked_job.Relation c.in-Ok-Relation.rows) = rw (c.in-Ok-Relation.is, c.in-Ok-Relation.field-0-is) at c.job_in.ensures in
+    let files = g.F.Store.holds c.args.files.now in
+    let reliable = g.F.Store.is_reliable c.args.files.now in
+    let input = g.I.ByteIn.remaining c.args.input.now in
+    let failed = g.I.ByteIn.has_failed c.args.input.now in
+    let Answers : Ask → Type 0 = λ ask. IfOk c.answer_relation.result (λ a. IsAskAnswer (g.R.Runs.counted c.args.services.now.engine.now) c.args.services.now.layout files input ask a) in
+    let Refuses : Ask → Type 0 = λ ask. IfErr c.answer_relation.result (IsAskFault files reliable input failed ask) in
+    record {
+      answer = subst Answers (sym is) (c.answer_relation.ensures.answer files input);
+      no_stats = c.answer_relation.ensures.no_stats;
+      refused = subst Refuses (sym is) (c.answer_relation.ensures.refused files reliable input failed);
+    }
 
 pub returns-in-Err-clause-refused : goal.returns-in-Err-clause-refused
 returns-in-Err-clause-refused g c =

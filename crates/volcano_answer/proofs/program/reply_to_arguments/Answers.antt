@@ -7,7 +7,7 @@ use Rattle.volcano_refusals.specs.declared.refusal.Refusal.TheVariants as refusa
 use Rattle.volcano_stats.specs.Text.{write_end}
 use Rattle.volcano_stats.specs.declared.text.StatsForm.{StatsForm}
 use Rattle.volcano_answer.specs.Stats.{AreStatsOf}
-use Rattle.volcano_answer.specs.CommandLine.{AsksFor, for_what_is_asked, for_relation, for_ask, for_asked_relation, arguments_memory}
+use Rattle.volcano_answer.specs.CommandLine.{for_what_is_asked, for_relation, for_ask, for_asked_relation, arguments_memory}
 use Rattle.volcano_answer.proofs.CommandLineFacts.{stopped_refuses}
 use Rattle.volcano_answer.proofs.LoadedFacts.{printed_answers, printed_stats, printed_stops, true_false}
 use Rattle.volcano_answer.proofs.Refusing.{has_status}
@@ -21,15 +21,15 @@ returns-in-Ok-Text-clause-done g c zero =
 pub returns-in-Ok-Relation-clause-done : goal.returns-in-Ok-Relation-clause-done
 returns-in-Ok-Relation-clause-done g c zero =
     let rows = c.in-Ok-Relation.rows in
-    let asked : AsksFor (map (λ a. a.now) c.args.arguments.now) (generate rows) = rw c.in-Ok-Relation.field-0-is at c.in-Ok-Relation.ensures.answer in
+    let answers = rw c.in-Ok-Relation.field-0-is at c.in-Ok-Relation.ensures.answer in
     let written = c.write_relation.ensures.done zero in
-    (csv_text column_names (wisconsin rows), for_what_is_asked (generate rows) asked (for_relation rows refl written.0 refl), written.1)
+    (csv_text column_names (wisconsin rows), for_what_is_asked (generate rows) answers.0 (for_relation rows refl written.0 (rw answers.1 refl)), written.1)
 
 pub returns-in-Ok-Relation-clause-refused : goal.returns-in-Ok-Relation-clause-refused
 returns-in-Ok-Relation-clause-refused g c three =
     let rows = c.in-Ok-Relation.rows in
-    let asked : AsksFor (map (λ a. a.now) c.args.arguments.now) (generate rows) = rw c.in-Ok-Relation.field-0-is at c.in-Ok-Relation.ensures.answer in
-    inl (refusal.TooLarge, refl, for_ask (generate rows) asked (for_asked_relation rows refl (c.write_relation.ensures.large.1 three).0 refl))
+    let answers = rw c.in-Ok-Relation.field-0-is at c.in-Ok-Relation.ensures.answer in
+    inl (refusal.TooLarge, refl, for_ask (generate rows) answers.0 (for_asked_relation rows refl (c.write_relation.ensures.large.1 three).0 refl))
 
 pub returns-in-Ok-Relation-clause-failed : goal.returns-in-Ok-Relation-clause-failed
 returns-in-Ok-Relation-clause-failed g c four = inr (refusal.NoMemory, refl, arguments_memory refl)
@@ -78,7 +78,7 @@ returns-in-Ok-Counted-clause-stats g c = λ zero whole f ask asked run stats.
     let answers = rw c.in-Ok-Counted.field-0-is at c.in-Ok-Counted.ensures.answer in
     let form = rw c.in-Ok-Counted.field-0-is at (c.in-Ok-Counted.ensures.stats f ask asked run stats) in
     let reported = c.write_counted.ensures.stats zero whole in
-    let P : StatsForm → Type 0 = λ f. (text : List ℕ) × (stats : List ℕ) × AreStatsOf (g.R.Runs.counted c.args.services.now.engine.now) files input f arguments text stats
+    let P : StatsForm → Type 0 = λ f. (text : List ℕ) × (stats : List ℕ) × AreStatsOf (g.R.Runs.counted c.args.services.now.engine.now) c.args.services.now.columns files input f arguments text stats
     × Appends (g.O.ByteOut.contents c.args.out.now) (g.O.ByteOut.contents c.write_counted.new.out) text
     × Appends (g.E.ByteOut.contents c.args.err.now) (g.E.ByteOut.contents c.write_counted.new.err) stats in
     subst P form (
@@ -100,7 +100,7 @@ returns-in-Ok-Runs-clause-done g c = λ zero.
     let asks = rw c.in-Ok-Runs.field-0-is at c.in-Ok-Runs.ensures.answer in
     let w = c.write_runs.ensures.done zero in (
       w.1.text,
-      printed_answers (g.R.Runs.counted c.args.services.now.engine.now) (g.F.Store.holds c.args.files.now) (g.I.ByteIn.remaining c.args.input.now) (map (λ a. a.now) c.args.arguments.now) c.in-Ok-Runs.loaded
+      printed_answers (g.R.Runs.counted c.args.services.now.engine.now) c.args.services.now.columns (g.F.Store.holds c.args.files.now) (g.I.ByteIn.remaining c.args.input.now) (map (λ a. a.now) c.args.arguments.now) c.in-Ok-Runs.loaded
           w.1.text w.0 asks w.1.runs,
       w.1.wrote,
     )
@@ -112,7 +112,7 @@ returns-in-Ok-Runs-clause-stats g c = λ zero whole f ask asked run stats.
     let form : loaded.form ≡ Some f = rw c.in-Ok-Runs.field-0-is at (c.in-Ok-Runs.ensures.stats f ask asked run stats) in
     let w = c.write_runs.ensures.stats zero whole f form in
     let opening = w.0 ++ string_bytes loaded.common in
-    let reports = printed_stats (g.R.Runs.counted c.args.services.now.engine.now) (g.F.Store.holds c.args.files.now) (g.I.ByteIn.remaining c.args.input.now) f (map (λ a. a.now) c.args.arguments.now) loaded
+    let reports = printed_stats (g.R.Runs.counted c.args.services.now.engine.now) c.args.services.now.columns (g.F.Store.holds c.args.files.now) (g.I.ByteIn.remaining c.args.input.now) f (map (λ a. a.now) c.args.arguments.now) loaded
     w.2.text w.0 asks form w.2.runs in
     (w.2.text, opening ++ write_end f w.1, record { opening = opening; reports = reports; time = w.1; is = refl }, w.2.wrote, w.3)
 
@@ -124,7 +124,7 @@ returns-in-Ok-Runs-clause-kept g c = λ some whole.
     let asks = rw c.in-Ok-Runs.field-0-is at c.in-Ok-Runs.ensures.answer in
     elim (c.write_runs.ensures.stopped some) [
       | inl h ↦ absurd (true_false _ h.1 whole)
-      | inr h ↦ inr (h.2.text, h.0, printed_stops (g.F.Store.holds c.args.files.now) (g.I.ByteIn.remaining c.args.input.now) (map (λ a. a.now) c.args.arguments.now) c.in-Ok-Runs.loaded h.2.text h.0 asks h.2.stops, h.1, h.2.wrote)
+      | inr h ↦ inr (h.2.text, h.0, printed_stops c.args.services.now.columns (g.F.Store.holds c.args.files.now) (g.I.ByteIn.remaining c.args.input.now) (map (λ a. a.now) c.args.arguments.now) c.in-Ok-Runs.loaded h.2.text h.0 asks h.2.stops, h.1, h.2.wrote)
     ]
 
 pub returns-in-Ok-Runs-clause-refused : goal.returns-in-Ok-Runs-clause-refused
@@ -138,8 +138,8 @@ returns-in-Ok-Runs-clause-refused g c = λ three.
       | inr h ↦ inl (
         h.0,
         sym h.1 ∙ three,
-        stopped_refuses files (g.F.Store.is_reliable c.args.files.now) input (g.I.ByteIn.has_failed c.answer_arguments.new.input) arguments h.2.text h.0
-            (printed_stops files input arguments c.in-Ok-Runs.loaded h.2.text h.0 asks h.2.stops),
+        stopped_refuses c.args.services.now.columns files (g.F.Store.is_reliable c.args.files.now) input (g.I.ByteIn.has_failed c.answer_arguments.new.input) arguments h.2.text h.0
+            (printed_stops c.args.services.now.columns files input arguments c.in-Ok-Runs.loaded h.2.text h.0 asks h.2.stops),
       )
     ]
 
@@ -154,7 +154,7 @@ returns-in-Ok-Runs-clause-failed g c = λ four.
       | inr h ↦ inr (
         h.0,
         sym h.1 ∙ four,
-        stopped_refuses files (g.F.Store.is_reliable c.args.files.now) input (g.I.ByteIn.has_failed c.answer_arguments.new.input) arguments h.2.text h.0
-            (printed_stops files input arguments c.in-Ok-Runs.loaded h.2.text h.0 asks h.2.stops),
+        stopped_refuses c.args.services.now.columns files (g.F.Store.is_reliable c.args.files.now) input (g.I.ByteIn.has_failed c.answer_arguments.new.input) arguments h.2.text h.0
+            (printed_stops c.args.services.now.columns files input arguments c.in-Ok-Runs.loaded h.2.text h.0 asks h.2.stops),
       )
     ]

@@ -20,6 +20,6 @@ returns-clause-refused g c =
 
 pub returns-clause-stats : goal.returns-clause-stats
 returns-clause-stats g c =
-    task_stats (g.R.Runs.counted c.args.services.now.engine.now) (g.F.Store.holds c.args.files.now) (g.I.ByteIn.remaining c.args.input.now) c.args.form
+    task_stats (g.R.Runs.counted c.args.services.now.engine.now) c.args.services.now.layout (g.F.Store.holds c.args.files.now) (g.I.ByteIn.remaining c.args.input.now) c.args.form
     (record { command = command.Run; paths = paths_are c.args.sources; folder = c.args.folder.now; setting = c.args.setting.now })
     c.in_ok-plan.plan c.run_checked.result c.in_ok-plan.ensures.planned c.run_checked.ensures.shown (rw (c.in_ok-plan.ensures.phases, c.start-timer.ensures) at c.run_checked.ensures.stats)

@@ -9,6 +9,7 @@ returns c =
     let explain = c.with_command-program-4.ensures _ _ check c.explain.ensures in
     let annotate = c.with_command-program-5.ensures _ _ explain c.annotate.ensures in
     let sql = c.with_command-program-6.ensures _ _ annotate c.sql.ensures in
-    let why = c.with_command-program-7.ensures _ _ sql c.why.ensures in
-    let generate = c.with_command-program-8.ensures _ _ why c.generate.ensures in
+    let catalog = c.with_command-program-7.ensures _ _ sql c.catalog.ensures in
+    let why = c.with_command-program-8.ensures _ _ catalog c.why.ensures in
+    let generate = c.with_command-program-9.ensures _ _ why c.generate.ensures in
     IfOk-weaker c.with_command.result _ _ (λ r h. h.0) (c.with_command.ensures _ _ generate c.bundle.ensures)

@@ -11,4 +11,5 @@ returns c =
     let threads = c.with_option-command-7.ensures _ _ mode (c.threads_option.ensures.rule, c.threads_option.ensures.own) in
     let quiet = c.with_option-command-8.ensures _ _ threads (c.quiet_option.ensures.rule, c.quiet_option.ensures.own) in
     let stats = c.with_option-command-9.ensures _ _ quiet (c.stats_option.ensures.rule, c.stats_option.ensures.own) in
-    c.with_option.ensures _ _ (c.with_reports-command.ensures _ stats) (c.sizes_argument.ensures.rule, c.sizes_argument.ensures.own)
+    let rows = c.with_rows-command.ensures _ stats in
+    c.with_option.ensures _ _ (c.with_reports-command.ensures _ rows) (c.sizes_argument.ensures.rule, c.sizes_argument.ensures.own)

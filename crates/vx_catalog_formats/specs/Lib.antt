@@ -1,0 +1,2 @@
+pub mod JsonLines
+pub mod Table
