@@ -143,9 +143,11 @@ impl Bench {
         let text = format_rows(self.alloc, names, rows)?;
         let one = nanos_since(rt, start)?;
         let start = Instant::now(rt)?;
-        let same = format_in_threads(rt, self.alloc, THREADS, names, rows)?;
+        let shared = rows.slice(self.alloc, 0, rows.len())?;
+        let blocks = format_in_threads(rt, self.alloc, THREADS, names, shared)?;
         let four = nanos_since(rt, start)?;
-        if same.as_slice() != text.as_slice() {
+        let mut same = Vec::new(self.alloc);
+        if blocks.write_to(&mut Real::new(&mut same)).is_err() || same.as_slice() != text.as_slice() {
             bail!("threads make another text");
         }
         let times = [Some(one), None, None, None, None, Some(four), None];

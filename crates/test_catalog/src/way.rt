@@ -5,7 +5,7 @@ ghost use Rattle.std.specs.Prelude.{◌<◌, length};
 use std::alloc::{AllocError, Global};
 use std::thread::Threads;
 use vx_catalog::{LoadFault, Loaded};
-use vx_catalog_bytes::MemoryIn;
+use vx_catalog_bytes::{MemoryIn, Real};
 use vx_catalog_loading::{ReadShares, load_in_shares, load_in_threads};
 use vx_catalog_relations::Catalog;
 use vx_catalog_writing::{WriteShares, format_in_shares, format_in_threads};
@@ -82,13 +82,21 @@ impl Way {
         names: &[String],
         rows: &Rows,
     ) -> Result<Vec<u8>, AllocError> {
-        let Some(sizes) = self.sizes else {
-            return format_in_threads(rt, alloc, self.threads, names, rows);
+        let rows = rows.slice(alloc, 0, rows.len())?;
+        let text = match self.sizes {
+            None => format_in_threads(rt, alloc, self.threads, names, rows)?,
+            Some(sizes) => {
+                let shares = WriteShares {
+                    threads: self.threads.max(1),
+                    block: sizes.rows.max(1),
+                };
+                format_in_shares(rt, alloc, shares, names, rows)?
+            }
         };
-        let shares = WriteShares {
-            threads: self.threads.max(1),
-            block: sizes.rows.max(1),
-        };
-        format_in_shares(rt, alloc, shares, names, rows)
+        let mut bytes = Vec::new(alloc);
+        match text.write_to(&mut Real::new(&mut bytes)) {
+            Ok(()) => Ok(bytes),
+            Err(_) => Err(AllocError),
+        }
     }
 }

@@ -22,6 +22,7 @@ use std::time::Clock;
 use volcano_arguments::Asked;
 use volcano_stats::StatsForm;
 use vx_catalog_bytes::{ByteIn, Store};
+use vx_catalog_writing::Text;
 use vx_exec_runs::Runs;
 
 // The answer that a report of runs is: with statistics, if they are asked for.
@@ -89,7 +90,7 @@ pub fn answer_asked<T: Threads + Wait + Sync, R: Runs, C: Clock, F: Store, I: By
         }
         Asked::Catalog(paths, _quiet) => {
             let text = answer_catalog(services, files, paths.as_slice())?;
-            Ok(ArgumentAnswer::Text(text))
+            Ok(ArgumentAnswer::Text(Text::from(text)))
         }
         _ => answer_plain(services, files, input, asked),
     }

@@ -20,6 +20,7 @@ use volcano_bundle::Command;
 use volcano_refusals::Refusal;
 use volcano_stats::{StatsForm, Timer};
 use volcano_tables::Tables;
+use vx_catalog_writing::Text;
 use vx_check::{accepted_text, explain};
 use vx_check_rules::{CheckFault, CheckedPlan, check};
 use vx_exec_runs::Runs;
@@ -30,14 +31,14 @@ use vx_plan_nodes::TypedPlan;
 /// What a command makes of a plan over tables.
 #[derive(Drop)]
 pub enum CommandAnswer {
-    Text(Vec<u8>),
+    Text(Text),
     /// Of a run, with its statistics if they are asked for.
     Run(RunReport),
 }
 
 impl CommandAnswer {
     /// The text alone.
-    pub fn into_text(self) -> Vec<u8>
+    pub fn into_text(self) -> Text
         ensures { result.items ≡ text_in self }
     {
         match self {
@@ -89,11 +90,11 @@ pub fn execute<T: Threads + Wait + Sync, R: Runs, C: Clock, B: Tables>(
         }
         Command::Check => {
             let text = accepted_text(services.alloc, accepted(services.alloc, plan)?.is_total())?;
-            Ok(CommandAnswer::Text(text))
+            Ok(CommandAnswer::Text(Text::from(text)))
         }
         Command::Explain => {
             let text = explain(services.alloc, &accepted(services.alloc, plan)?)?;
-            Ok(CommandAnswer::Text(text.into_bytes()))
+            Ok(CommandAnswer::Text(Text::from(text.into_bytes())))
         }
     }
 }

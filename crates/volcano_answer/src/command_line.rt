@@ -42,6 +42,7 @@ use volcano_stats::{Timer, operator_words};
 use volcano_tables::Folder;
 use volcano_why::entry;
 use vx_catalog_bytes::{ByteIn, Store};
+use vx_catalog_writing::Text;
 use vx_check_sql::Dialect;
 use vx_exec_runs::Runs;
 use vx_exec_setup::{
@@ -81,7 +82,7 @@ enum AskedJob<'a> {
 #[derive(Drop)]
 pub enum ArgumentAnswer {
     /// A finished text.
-    Text(Vec<u8>),
+    Text(Text),
     /// The text of the relation with so many rows as CSV, which is still to be made.
     Relation(u64),
     /// A finished text, and statistics that follow it.
@@ -237,7 +238,7 @@ fn answer_task<T: Threads + Wait + Sync, R: Runs, C: Clock, F: Store, I: ByteIn>
     files: &F,
     input: &mut I,
     task: &FileCommand<'_>,
-) -> Result<Vec<u8>, Refusal>
+) -> Result<Text, Refusal>
     ensures text { IfOk result (λ text. AnswersTask services.now.layout (F.holds files.now) (I.remaining input.old) (task_is task.now) text.items) }
     ensures refused { IfErr result (λ e. TaskRefuses (F.holds files.now) (F.is_reliable files.now) (I.remaining input.old) (I.has_failed input.new) (task_is task.now) e) }
 {
@@ -300,7 +301,7 @@ fn answer_drawing<T: Threads + Wait + Sync, R: Runs, C: Clock, F: Store, I: Byte
     let checked = accepted(alloc, plan)?;
     let counted = bytes_at(alloc, files, input, true, stats)?;
     match draw(alloc, &checked, words.as_slice(), counted.as_slice()) {
-        Ok(drawing) => Ok(ArgumentAnswer::Text(drawing)),
+        Ok(drawing) => Ok(ArgumentAnswer::Text(Text::from(drawing))),
         Err(fault) => Err(no_drawing(alloc, stats, words.as_slice(), fault)),
     }
 }
@@ -336,7 +337,7 @@ fn answer_verdict<T: Threads + Wait + Sync, R: Runs, C: Clock, F: Store, I: Byte
     let alloc = services.alloc;
     let (catalog, document, plan) = all_from_files(alloc, files, input, sources)?;
     match verdict_on(alloc, &catalog, document, &plan)? {
-        Findings::Accepted(text) => Ok(ArgumentAnswer::Text(text)),
+        Findings::Accepted(text) => Ok(ArgumentAnswer::Text(Text::from(text))),
         Findings::Failing(lines) => Err(ArgumentFault::Failing(lines)),
     }
 }
@@ -398,22 +399,22 @@ pub fn answer_plain<T: Threads + Wait + Sync, R: Runs, C: Clock, F: Store, I: By
         Ok(AskedJob::Verdict(sources)) => answer_verdict(services, files, input, sources),
         Ok(AskedJob::Annotation(sources, derive)) => {
             let text = answer_annotation(alloc, files, input, sources, derive)?;
-            Ok(ArgumentAnswer::Text(text))
+            Ok(ArgumentAnswer::Text(Text::from(text)))
         }
         Ok(AskedJob::Form(form, sources)) => {
             let text = answer_form(alloc, files, input, form, sources)?;
-            Ok(ArgumentAnswer::Text(text))
+            Ok(ArgumentAnswer::Text(Text::from(text)))
         }
         Ok(AskedJob::Drawing(sources, stats)) => answer_drawing(
             services, files, input, sources, stats,
         ),
         Ok(AskedJob::Statement(dialect, sources)) => {
             let text = answer_statement(alloc, files, input, dialect, sources)?;
-            Ok(ArgumentAnswer::Text(text))
+            Ok(ArgumentAnswer::Text(Text::from(text)))
         }
         Ok(AskedJob::Entry(text)) => {
             let text = Vec::from_slice(alloc, text.as_bytes())?;
-            Ok(ArgumentAnswer::Text(text))
+            Ok(ArgumentAnswer::Text(Text::from(text)))
         }
         Ok(AskedJob::Relation(rows)) => answer_relation(services, rows),
         Err(wrong) => Err(usage_fault(alloc, wrong)),
@@ -562,9 +563,9 @@ fn help_or_fault(alloc: Global, error: &Error) -> Result<ArgumentAnswer, Argumen
 {
     let text = format!(in alloc; "{error}")?;
     match error.kind() {
-        ErrorKind::DisplayHelp | ErrorKind::DisplayVersion => Ok(ArgumentAnswer::Text(
+        ErrorKind::DisplayHelp | ErrorKind::DisplayVersion => Ok(ArgumentAnswer::Text(Text::from(
             text.into_bytes(),
-        )),
+        ))),
         ErrorKind::OutOfMemory => Err(ArgumentFault::Refused(Refusal::NoMemory)),
         _ => Err(ArgumentFault::Usage(text.into_bytes())),
     }

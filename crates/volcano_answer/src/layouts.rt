@@ -10,7 +10,7 @@ use std::sync::Wait;
 use std::thread::Threads;
 use std::time::Clock;
 use vx_catalog_formats::{format_json, format_table};
-use vx_catalog_writing::format_in_threads;
+use vx_catalog_writing::{Text, format_in_threads};
 use vx_exec_runs::Runs;
 use vx_rows_views::Rows;
 
@@ -37,18 +37,18 @@ pub fn layout_named(columns: Option<usize>, word: &str) -> Option<Layout>
     }
 }
 
-/// The text of rows under these names.
+/// The text of rows under these names. Rows as CSV go as their text grows.
 pub fn format_rows<T: Threads + Wait + Sync, R: Runs, C: Clock>(
     services: &Services<'_, T, R, C>,
     names: &[String],
-    rows: &Rows,
-) -> Result<Vec<u8>, AllocError>
-    ensures { IfOk result (λ v. v.items ≡ rows_text services.now.layout (map string_bytes names.now) rows.now.rows) }
+    rows: Rows,
+) -> Result<Text, AllocError>
+    ensures { IfOk result (λ v. v.items ≡ rows_text services.now.layout (map string_bytes names.now) rows.rows) }
 {
     let (rt, alloc, threads) = (services.rt, services.alloc, services.threads);
     match services.layout {
         Layout::Csv => format_in_threads(rt, alloc, threads, names, rows),
-        Layout::Table(columns) => format_table(alloc, columns, names, rows),
-        Layout::Json => format_json(alloc, names, rows),
+        Layout::Table(columns) => Ok(Text::from(format_table(alloc, columns, names, &rows)?)),
+        Layout::Json => Ok(Text::from(format_json(alloc, names, &rows)?)),
     }
 }

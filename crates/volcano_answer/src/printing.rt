@@ -22,6 +22,7 @@ use std::time::Clock;
 use volcano_refusals::Refusal;
 use volcano_stats::{Stopwatch, write_end};
 use vx_catalog_bytes::{Broken, ByteOut, write_all};
+use vx_catalog_writing::Text;
 use vx_exec_runs::Runs;
 
 /// What is left of runs whose answers were printed: their statistics, and how long the writes took, if that is known.
@@ -46,14 +47,14 @@ fn both(first: Option<u64>, second: Option<u64>) -> Option<u64> {
 }
 
 // Writes a text behind the line with the path of its plan.
-fn write_titled<O: ByteOut>(path: &str, text: &[u8], out: &mut O) -> Result<(), Broken>
-    ensures ok { OnOk result (Appends (O.contents out.old) (O.contents out.new) (title path.now ++ text.now)) }
+fn write_titled<O: ByteOut>(path: &str, text: &Text, out: &mut O) -> Result<(), Broken>
+    ensures ok { OnOk result (Appends (O.contents out.old) (O.contents out.new) (title path.now ++ text.now.items)) }
     ensures fails { O.has_failed out.new ≡ (O.has_failed out.old || is_err result) }
 {
     write_all(out, b"# ")?;
     write_all(out, path.as_bytes())?;
     write_all(out, b"\n")?;
-    write_all(out, text)
+    text.write_to(out)
 }
 
 // Runs one of several plans, and writes its answer once all work of the plan is done. Its statistics and the time of the write are
@@ -75,7 +76,7 @@ fn print_run<T: Threads + Wait + Sync, R: Runs, C: Clock, O: ByteOut>(
         Err(refusal) => return Err(PrintFault::Refused(refusal)),
     };
     let mut watch = Stopwatch::start(services.clock);
-    match write_titled(accepted.path.as_str(), own.as_slice(), out) {
+    match write_titled(accepted.path.as_str(), &own, out) {
         Ok(()) => {
             printed.time = both(printed.time, watch.lap(services.clock));
             Ok(())

@@ -37,6 +37,7 @@ use volcano_locations::{Reasons, Replay};
 use volcano_refusals::{Refusal, report, status};
 use volcano_stats::{StatsForm, Stopwatch, write_end};
 use vx_catalog_bytes::{Broken, ByteIn, ByteOut, Store, write_all};
+use vx_catalog_writing::Text;
 use vx_exec_runs::Runs;
 use vx_wisconsin::{GenerateFault, generate};
 
@@ -61,7 +62,7 @@ pub fn outcome_of<T: Threads + Wait + Sync, R: Runs, C: Clock, I: ByteIn>(
 fn text_outcome<T: Threads + Wait + Sync, R: Runs, C: Clock, I: ByteIn>(
     services: &Services<'_, T, R, C>,
     input: &mut I,
-) -> Result<Vec<u8>, Refusal>
+) -> Result<Text, Refusal>
     ensures text { IfOk result (λ text. IfSome (I.remaining input.old) (λ bytes. IsAnswer Layout.Csv bytes text.items)) }
     ensures refused { IfErr result (λ e. RefusedWith (I.remaining input.old) (I.has_failed input.new) e) }
     ensures broken { I.has_failed input.new ≡ true → IsErrOf result Refusal.InputUnreadable }
@@ -131,13 +132,13 @@ fn refuse_write<O: Pipe, E: ByteOut>(out: &O, err: &mut E) -> u8
 }
 
 // Writes a text on `out`, or reports on `err` that this failed, unless nobody reads `out` any more.
-fn write_text<O: ByteOut + Pipe, E: ByteOut>(text: &[u8], out: &mut O, err: &mut E) -> u8
-    ensures done { result ≡ 0 → Appends (O.contents out.old) (O.contents out.new) text.now }
+fn write_text<O: ByteOut + Pipe, E: ByteOut>(text: &Text, out: &mut O, err: &mut E) -> u8
+    ensures done { result ≡ 0 → Appends (O.contents out.old) (O.contents out.new) text.now.items }
     ensures failed { result ≢ 0 → (result ≡ 4) × (O.has_failed out.new ≡ true) }
     ensures quiet { result ≡ 0 → err.new ≡ err.old }
     ensures silent { result ≢ 0 → O.closed out.new ≡ true → err.new ≡ err.old }
 {
-    match write_all(out, text) {
+    match text.write_to(out) {
         Ok(()) => 0,
         Err(_) => refuse_write(out, err),
     }
@@ -156,7 +157,7 @@ fn deliver_bundle<
     services: &Services<'_, T, R, C>,
     files: &F,
     input: &I,
-    outcome: Result<Vec<u8>, Refusal>,
+    outcome: Result<Text, Refusal>,
     out: &mut O,
     err: &mut E,
 ) -> u8
@@ -166,7 +167,7 @@ fn deliver_bundle<
     ensures silent { IfOk outcome (λ _. result ≢ 0 → O.closed out.new ≡ true → err.new ≡ err.old) }
 {
     match outcome {
-        Ok(text) => write_text(text.as_slice(), out, err),
+        Ok(text) => write_text(&text, out, err),
         Err(refusal) => refuse_bundle(services, files, input, &refusal, err),
     }
 }
@@ -262,7 +263,7 @@ fn write_counted<C: Clock, O: ByteOut + Pipe, E: ByteOut>(
     ensures silent { result ≢ 0 → O.closed out.new ≡ true → err.new ≡ err.old }
 {
     let mut watch = Stopwatch::start(clock);
-    match write_text(counted.text.as_slice(), out, err) {
+    match write_text(&counted.text, out, err) {
         0 => {
             let _ = write_stats(counted, watch.lap(clock), err);
             0
@@ -318,11 +319,11 @@ fn write_answer<F: Store, I: Replay, O: ByteOut + Pipe, E: ByteOut>(
     arguments: &[&str],
     files: &F,
     input: &I,
-    text: &[u8],
+    text: &Text,
     out: &mut O,
     err: &mut E,
 ) -> u8
-    ensures done { result ≡ 0 → Appends (O.contents out.old) (O.contents out.new) text.now }
+    ensures done { result ≡ 0 → Appends (O.contents out.old) (O.contents out.new) text.now.items }
     ensures failed { result ≢ 0 → (result ≡ 4) × (O.has_failed out.new ≡ true) }
     ensures quiet { result ≡ 0 → annotates (asked_by (with_program_name (map (λ a. a.now) arguments.now))) ≡ false → err.new ≡ err.old }
     ensures silent { result ≢ 0 → O.closed out.new ≡ true → err.new ≡ err.old }
@@ -369,15 +370,7 @@ fn reply_to_arguments<
 {
     match answer_arguments(services, files, input, arguments) {
         Ok(ArgumentAnswer::Text(text)) => {
-            write_answer(
-                services.alloc,
-                arguments,
-                files,
-                input,
-                text.as_slice(),
-                out,
-                err,
-            )
+            write_answer(services.alloc, arguments, files, input, &text, out, err)
         }
         Ok(ArgumentAnswer::Relation(rows)) => write_relation(services.alloc, rows, out, err),
         Ok(ArgumentAnswer::Counted(counted)) => write_counted(services.clock, &counted, out, err),

@@ -11,6 +11,7 @@ use std::sync::Wait;
 use std::thread::Threads;
 use std::time::Clock;
 use volcano_refusals::Refusal;
+use vx_catalog_writing::Text;
 use vx_exec_runs::Runs;
 use vx_rows_values::limits::MAX_GENERATED_ROWS;
 use vx_wisconsin::{column_names, generate_rows};
@@ -19,7 +20,7 @@ use vx_wisconsin::{column_names, generate_rows};
 pub fn relation_text<T: Threads + Wait + Sync, R: Runs, C: Clock>(
     services: &Services<'_, T, R, C>,
     rows: u64,
-) -> Result<Vec<u8>, Refusal>
+) -> Result<Text, Refusal>
     ensures few { IfOk result (λ _. rows ≤ max_generated_rows) }
     ensures text { IfOk result (λ text. text.items ≡ rows_text services.now.layout column_names (wisconsin rows)) }
     ensures refused { IfErr result (λ e. (e ≡ Refusal.NoMemory) ⊎ ((max_generated_rows < rows) × (e ≡ Refusal.TooLarge))) }
@@ -29,5 +30,5 @@ pub fn relation_text<T: Threads + Wait + Sync, R: Runs, C: Clock>(
     }
     let names = column_names(services.alloc)?;
     let relation = generate_rows(services.alloc, rows)?;
-    Ok(format_rows(services, names.as_slice(), &relation)?)
+    Ok(format_rows(services, names.as_slice(), relation)?)
 }

@@ -11,6 +11,7 @@ use std::thread::Threads;
 use std::time::Clock;
 use volcano_refusals::Refusal;
 use volcano_tables::{Tables, Unobserved, load_tables_in_threads};
+use vx_catalog_writing::Text;
 use vx_exec_runs::Runs;
 use vx_plan::erase;
 use vx_plan_nodes::{StandardFunctions, TypedPlan};
@@ -22,7 +23,7 @@ pub fn serial_plan<T: Threads + Wait + Sync, R: Runs, C: Clock, B: Tables>(
     services: &Services<'_, T, R, C>,
     tables: &B,
     plan: &TypedPlan,
-) -> Result<Vec<u8>, Refusal>
+) -> Result<Text, Refusal>
     ensures text { IfOk result (λ text. IsSerial services.now.layout (resolved_of plan.now) (B.holds tables.now) text.items) }
     ensures refused { IfErr result (λ e. SerialRefuses (resolved_of plan.now) (B.holds tables.now) (B.lacks tables.now) e) }
 {
@@ -37,5 +38,7 @@ pub fn serial_plan<T: Threads + Wait + Sync, R: Runs, C: Clock, B: Tables>(
         return Err(Refusal::NoMemory);
     };
     let rows = eval(services.alloc, &StandardFunctions, &erased, &database)?;
-    Ok(text_of(services, plan, &rows)?)
+    // What no row of the answer needs goes before the text is made, and the rest while it is.
+    drop(database);
+    Ok(text_of(services, plan, rows)?)
 }

@@ -19,7 +19,7 @@ ghost use Rattle.volcano_answer.specs.StatsNames.{stats_named};
 use crate::command::accepted;
 use crate::files::document_from_files;
 use crate::plans::AcceptedPlan;
-use crate::run::run_over;
+use crate::run::{rows_over, run_over, text_of};
 use crate::services::Services;
 use std::alloc::{AllocError, Global};
 use std::sync::Wait;
@@ -34,6 +34,7 @@ use volcano_stats::{
 use volcano_tables::{Folder, Tables, load_tables_in_threads};
 use vx_catalog::Database;
 use vx_catalog_bytes::{ByteIn, Store};
+use vx_catalog_writing::Text;
 use vx_check_directions::planned;
 use vx_check_rules::CheckedPlan;
 use vx_exec_runs::Runs;
@@ -43,14 +44,14 @@ use vx_plan_nodes::TypedPlan;
 /// The text of runs, and their statistics up to the time that its write takes, which are empty where none are asked for.
 #[derive(Drop)]
 pub struct RunReport {
-    pub text: Vec<u8>,
+    pub text: Text,
     pub stats: String,
 }
 
 /// A finished text, and the statistics of its runs up to the time that its write takes.
 #[derive(Drop)]
 pub struct CountedText {
-    pub text: Vec<u8>,
+    pub text: Text,
     pub form: StatsForm,
     pub opening: String,
 }
@@ -138,7 +139,10 @@ pub fn run_plan<T: Threads + Wait + Sync, R: Runs, C: Clock, B: Tables>(
     )?;
     timer.end(clock, WorkPhase::Load)?;
     let mut counts = counts_for(alloc, form);
-    let text = run_over(services, setting, plan, &database, &mut counts)?;
+    let rows = rows_over(services, setting, plan, &database, &mut counts)?;
+    // What no row of the answer needs goes before the text is made, and the rest while it is.
+    drop(database);
+    let text = text_of(services, plan.plan(), rows)?;
     timer.end(clock, WorkPhase::Run)?;
     let workers = counts.workers();
     let stats = lone_stats(
@@ -231,7 +235,7 @@ pub fn run_one<T: Threads + Wait + Sync, R: Runs, C: Clock>(
     accepted: &AcceptedPlan,
     database: &Database,
     stats: &mut String,
-) -> Result<Vec<u8>, Refusal>
+) -> Result<Text, Refusal>
     ensures run { IfOk result (λ own. IsRunMore (R.counted services.now.engine.now) services.now.layout form database.now setting.now accepted.now [] (string_bytes stats.old) (title (string_bytes accepted.now.path) ++ own.items) (string_bytes stats.new)) }
     ensures refused { IfErr result (λ e. RunRefuses (resolved_of (typed_plan accepted.now.plan)) database.now setting.now e) }
 {

@@ -1,115 +1,86 @@
 -- The lines of blocks that follow one another.
-use Rattle.std.proofs.Common.{◌≡◌, ℕ, zero, suc, ◌+◌, ◌*◌, ◌-◌, ◌<◌, ◌≤◌, List, [], ◌∷◌, ◌++◌, Result, Ok, Err, refl, sym, ap, subst, ◌∙◌, arith, append_assoc, append-nil, length, drop, take, get_or, flat_map, All, IfOk, IsOk}
+use Rattle.std.proofs.Common.{◌≡◌, ℕ, suc, ◌+◌, ◌<◌, ◌≤◌, List, [], ◌∷◌, ◌++◌, Option, Some, None, Result, Ok, Err, true, refl, sym, ap, subst, ◌∙◌, arith, append_assoc, append-nil, length, take, take_all, drop, get_or, flat_map, All, IfSome, IfOk}
 use Rattle.std.specs.Prelude.{slice_range}
-use Rattle.std.specs.declared.alloc.AllocError.{AllocError}
-use Rattle.std.proofs.Math.Nat.{mul-le-mul_right, zero-mul}
-use Rattle.std.proofs.Math.Seq.{take-append-add}
+use Rattle.std.specs.Io.KnownBytes.{Appends}
+use Rattle.std.specs.Option.{is_some}
 use Rattle.std.proofs.lemmas.Bool.{false≢true}
 use Rattle.std.proofs.lemmas.Grind.{flat_map-append}
-use Rattle.std.proofs.lemmas.List.{take_more}
-use Rattle.std.proofs.lemmas.List.Elements.{All-append, All-cons, All-nil, All-tail}
-use Rattle.std.proofs.lemmas.List.Folds.{drop_split}
+use Rattle.std.proofs.lemmas.List.{drop_all, take_more}
+use Rattle.std.proofs.lemmas.List.Elements.{All-cons, All-head, All-same, All-tail}
 use Rattle.csv.specs.Writing.{row_text, default_writer}
 use Rattle.vx_rows_values.specs.Values.{Row}
-use Rattle.vx_rows_views.proofs.Facts.{length-slice}
 use Rattle.vx_rows_views.proofs.Whole.{take-range}
+use Rattle.vx_catalog_bytes.proofs.PortFacts.{appends_more}
 use Rattle.vx_catalog.specs.Csv.{csv_text, line_text}
-use Rattle.vx_catalog_writing.specs.Blocks.{block_start, lines_text, lines_in, AreLines}
+use Rattle.vx_catalog_writing.specs.Text.{TextView}
+use Rattle.vx_catalog_writing.specs.Blocks.{lines_text, rows_of_blocks, made_lines, lines_in, IsMade, HaveLines}
+use Rattle.vx_catalog_writing.specs.declared.blocks.Block.{Block}
 
--- one part more was made
-pub made_more : (parts : List (Result (List ℕ) AllocError)) (i : ℕ) (part : Result (List ℕ) AllocError) (lines : List ℕ) → i < length parts → part ≡ get_or parts i part → part ≡ Ok lines
-    → All IsOk (take i parts) → All IsOk (take (i + 1) parts)
-made_more parts i part lines near at is made =
-    let here : IsOk (get_or parts i part) = subst IsOk (sym is ∙ at) refl in
-    subst (All IsOk) (sym (take_more parts i part near)) (All-append IsOk (take i parts) (get_or parts i part ∷ []) made (All-cons IsOk (get_or parts i part) [] here (All-nil IsOk)))
+-- one block more
+pub block_more : (blocks : List Block) (block : Block) (rows : List Row) (from to : ℕ) → from ≤ to → to ≤ length rows
+    → rows_of_blocks blocks ≡ take from rows → block.rows.rows ≡ slice_range rows from to → rows_of_blocks (blocks ++ block ∷ []) ≡ take to rows
+block_more blocks block rows from to order there so_far here =
+    flat_map-append (λ b. b.rows.rows) blocks (block ∷ [])
+    ∙ (ap (λ l. rows_of_blocks blocks ++ l) (append-nil block.rows.rows ∙ here)
+    ∙ (ap (λ l. l ++ slice_range rows from to) so_far ∙ sym (take-range rows from to order there)))
 
--- its lines behind those so far
-pub lines_more : (parts : List (Result (List ℕ) AllocError)) (i : ℕ) (part : Result (List ℕ) AllocError) (lines before now : List ℕ) → i < length parts → part ≡ get_or parts i part → part ≡ Ok lines
-    → now ≡ before ++ flat_map lines_in (take i parts) → now ++ lines ≡ before ++ flat_map lines_in (take (i + 1) parts)
-lines_more parts i part lines before now near at is so_far =
-    let here : lines_in (get_or parts i part) ≡ lines = ap lines_in (sym at ∙ is) in
-    let one : flat_map lines_in (take (i + 1) parts) ≡ flat_map lines_in (take i parts) ++ lines =
-    ap (flat_map lines_in) (take_more parts i part near)
-    ∙ (flat_map-append lines_in (take i parts) (get_or parts i part ∷ []) ∙ ap (λ l. flat_map lines_in (take i parts) ++ l) (append-nil (lines_in (get_or parts i part)) ∙ here)) in
-    ap (λ l. l ++ lines) so_far ∙ (append_assoc before (flat_map lines_in (take i parts)) lines ∙ ap (λ l. before ++ l) (sym one))
+-- the lines of the next block
+pub lines_more : (left rest : List Block) (block : Block) (lines all now : List ℕ) → left ≡ block ∷ rest → block.lines ≡ Some lines → all ≡ now ++ flat_map lines_in left
+    → all ≡ (now ++ lines) ++ flat_map lines_in rest
+lines_more left rest block lines all now next is so_far =
+    let there : flat_map lines_in left ≡ lines ++ flat_map lines_in rest = ap (flat_map lines_in) next ∙ ap (λ l. l ++ flat_map lines_in rest) (ap made_lines is) in
+    so_far ∙ (ap (λ l. now ++ l) there ∙ sym (append_assoc now lines (flat_map lines_in rest)))
 
--- parts of a list that follow one another
-slices_join : {X : Type 0} (xs : List X) (a b c : ℕ) → a ≤ b → b ≤ c → c ≤ length xs → slice_range xs a c ≡ slice_range xs a b ++ slice_range xs b c
-slices_join xs a b c order more there =
-    let n = length-slice xs a b order (omega (arith, more, there)) in
-    let e : c - a ≡ length (slice_range xs a b) + (c - b) = omega (arith, n, order, more) in
-    ap (take (c - a)) (drop_split xs a b order)
-    ∙ (ap (λ m. take m (slice_range xs a b ++ drop b xs)) e ∙ take-append-add (slice_range xs a b) (drop b xs) (c - b))
+-- and they were made
+pub made_more : (left rest : List Block) (block : Block) (lines : List ℕ) → left ≡ block ∷ rest → block.lines ≡ Some lines → All IsMade rest → All IsMade left
+made_more left rest block lines next is made = All-same IsMade left (block ∷ rest) next (All-cons IsMade block rest (ap is_some is) made)
 
--- the lines of rows that follow one another
-lines_join : (rows : List Row) (a b c : ℕ) → a ≤ b → b ≤ c → c ≤ length rows → lines_text (slice_range rows a c) ≡ lines_text (slice_range rows a b) ++ lines_text (slice_range rows b c)
-lines_join rows a b c order more there =
-    ap lines_text (slices_join rows a b c order more there) ∙ flat_map-append line_text (slice_range rows a b) (slice_range rows b c)
+-- lines that were made are the right ones
+made_right : (made : Option (List ℕ)) (lines : List ℕ) → is_some made ≡ true → IfSome made (λ l. l ≡ lines) → made_lines made ≡ lines
+made_right None lines there right = absurd (false≢true there)
+made_right (Some l) lines there right = right
 
--- blocks that begin no sooner than those before them
-grown : (start : ℕ → ℕ) → ((i : ℕ) → start i ≤ start (i + 1)) → (n : ℕ) → start 0 ≤ start n
-grown start up zero = omega arith
-grown start up (suc n) =
-    let h = grown start up n in
-    let u = up n in
-    let r : start 0 ≤ start (n + 1) = omega (arith, h, u) in
-    let e : n + 1 ≡ suc n = omega arith in
-    subst (λ m. start 0 ≤ start m) e r
+-- the lines of all blocks
+all_lines : (before after : List Block) → length after ≡ length before → HaveLines before after → All IsMade after → flat_map lines_in after ≡ lines_text (rows_of_blocks before)
+all_lines [] [] many have made = refl
+all_lines [] (a ∷ rest) many have made = absurd (omega (arith, many))
+all_lines (b ∷ bs) [] many have made = absurd (omega (arith, many))
+all_lines (b ∷ bs) (a ∷ rest) many have made =
+    let here : lines_in a ≡ lines_text b.rows.rows = made_right a.lines (lines_text b.rows.rows) (All-head IsMade a rest made) (have 0 a (omega arith)) in
+    let more = all_lines bs rest (omega (arith, many)) (λ i d near. have (suc i) d (omega (arith, near))) (All-tail IsMade a rest made) in
+    ap (λ l. l ++ flat_map lines_in rest) here
+    ∙ (ap (λ l. lines_text b.rows.rows ++ l) more ∙ sym (flat_map-append line_text b.rows.rows (rows_of_blocks bs)))
 
--- part i has the lines of the rows from `start i` up to the next start
-abbrev HasLines : List Row → (ℕ → ℕ) → ℕ → Result (List ℕ) AllocError → Type 0
-HasLines rows start i part = IfOk part (λ lines. lines ≡ lines_text (slice_range rows (start i) (start (i + 1))))
+-- a slice of a whole `Vec` is written back whole
+written_back : {X : Type 0} (n : ℕ) (old new : List X) → n ≡ length old → length new ≡ length old → take n (new ++ drop (length new) old) ≡ new
+written_back n old new e many =
+    ap (λ rest. take n (new ++ rest)) (drop_all (length new) old (omega (arith, many))) ∙ (ap (take n) (append-nil new) ∙ take_all n new (omega (arith, e, many)))
 
--- the parts together
-parts_join : (rows : List Row) (start : ℕ → ℕ) (parts : List (Result (List ℕ) AllocError))
-    → ((i : ℕ) → start i ≤ start (i + 1)) → ((i : ℕ) → start i ≤ length rows)
-    → ((i : ℕ) (d : Result (List ℕ) AllocError) → i < length parts → HasLines rows start i (get_or parts i d))
-    → All IsOk parts
-    → flat_map lines_in parts ≡ lines_text (slice_range rows (start 0) (start (length parts)))
-parts_join rows start [] up there each made =
-    let e : start 0 - start 0 ≡ 0 = omega arith in
-    sym (ap (λ n. lines_text (take n (drop (start 0) rows))) e)
-parts_join rows start (Err e ∷ parts) up there each made = absurd (false≢true (made 0 (Err e) (omega arith)))
-parts_join rows start (Ok lines ∷ parts) up there each made =
-    let first : lines ≡ lines_text (slice_range rows (start 0) (start 1)) = each 0 (Ok lines) (omega arith) in
-    let others : (i : ℕ) (d : Result (List ℕ) AllocError) → i < length parts → HasLines rows (λ k. start (k + 1)) i (get_or parts i d) =
-    λ i d h. (let e : suc i ≡ i + 1 = omega arith in subst (λ m. HasLines rows start m (get_or parts i d)) e (each (suc i) d (omega (arith, h)))) in
-    let rest = parts_join rows (λ k. start (k + 1)) parts (λ i. up (i + 1)) (λ i. there (i + 1)) others (All-tail IsOk (Ok lines) parts made) in
-    let far : start 1 ≤ start (length parts + 1) = grown (λ k. start (k + 1)) (λ i. up (i + 1)) (length parts) in
-    let whole = lines_join rows (start 0) (start 1) (start (length parts + 1)) (up 0) far (there (length parts + 1)) in
-    let n : length parts + 1 ≡ length (Ok lines ∷ parts) = omega arith in
-    ap (λ l. l ++ flat_map lines_in parts) first
-    ∙ (ap (λ l. lines_text (slice_range rows (start 0) (start 1)) ++ l) rest ∙ (sym whole ∙ ap (λ m. lines_text (slice_range rows (start 0) (start m))) n))
+-- the whole text
+whole_text : {E : Type 0} (names : List (List ℕ)) (rows : List Row) (header : List ℕ) (text : Result TextView E) (before after : List Block) → header ≡ csv_text names [] → rows_of_blocks before ≡ rows
+    → length after ≡ length before → HaveLines before after → IfOk text (λ _. All IsMade after) → IfOk text (λ t. t.items ≡ header ++ flat_map lines_in after)
+    → IfOk text (λ t. t.items ≡ csv_text names rows)
+whole_text names rows header (Err e) before after top cut many have made is = tt
+whole_text names rows header (Ok t) before after top cut many have made is =
+    is
+    ∙ (ap (λ h. h ++ flat_map lines_in after) (top ∙ append-nil (row_text default_writer names))
+    ∙ ap (λ l. row_text default_writer names ++ l) (all_lines before after many have made ∙ ap lines_text cut))
 
--- the next block begins no sooner
-start_up : (rows : List Row) (from size i : ℕ) → block_start rows from size i ≤ block_start rows from size (i + 1)
-start_up rows from size i = let p : i * size ≤ (i + 1) * size = mul-le-mul_right size (omega arith) in omega (arith, p)
+-- the same, with the blocks as threads left what was lent to them of all `n`
+pub lent_text : {E : Type 0} (names : List (List ℕ)) (rows : List Row) (header : List ℕ) (text : Result TextView E) (n : ℕ) (blocks given after : List Block) → given ≡ blocks → n ≡ length blocks
+    → header ≡ csv_text names [] → rows_of_blocks blocks ≡ rows → length after ≡ length given → HaveLines given after → IfOk text (λ _. All IsMade (take n (after ++ drop (length after) blocks)))
+    → IfOk text (λ t. t.items ≡ header ++ flat_map lines_in (take n (after ++ drop (length after) blocks))) → IfOk text (λ t. t.items ≡ csv_text names rows)
+lent_text names rows header text n blocks given after lent len top cut many have made is =
+    let same : length after ≡ length blocks = many ∙ ap length lent in
+    let back = written_back n blocks after len same in
+    whole_text names rows header text blocks after top cut same (subst (λ bs. HaveLines bs after) lent have) (subst (λ bs. IfOk text (λ _. All IsMade bs)) back made)
+    (subst (λ bs. IfOk text (λ t. t.items ≡ header ++ flat_map lines_in bs)) back is)
 
--- the lines of all blocks of a round
-blocks_join : (rows : List Row) (from size : ℕ) (parts : List (Result (List ℕ) AllocError)) → from ≤ length rows → AreLines rows from size parts → All IsOk parts
-    → flat_map lines_in parts ≡ lines_text (slice_range rows from (block_start rows from size (length parts)))
-blocks_join rows from size parts there each made =
-    let z : 0 * size ≡ 0 = zero-mul size in
-    let e : block_start rows from size 0 ≡ from = omega (arith, z, there) in
-    parts_join rows (block_start rows from size) parts (start_up rows from size) (λ i. omega arith) each made
-    ∙ ap (λ n. lines_text (slice_range rows n (block_start rows from size (length parts)))) e
-
--- they stand behind a text, where so many blocks were shared out
-pub round_lines : (rows : List Row) (from size count end : ℕ) (before now : List ℕ) (parts : List (Result (List ℕ) AllocError)) → from ≤ length rows → AreLines rows from size parts → All IsOk parts
-    → length parts ≡ count → end ≡ block_start rows from size count
-    → now ≡ before ++ flat_map lines_in parts → now ≡ before ++ lines_text (slice_range rows from end)
-round_lines rows from size count end before now parts there each made many last is =
-    let to : block_start rows from size (length parts) ≡ end = ap (block_start rows from size) many ∙ sym last in
-    let all = blocks_join rows from size parts there each made ∙ ap (λ n. lines_text (slice_range rows from n)) to in
-    is ∙ ap (λ l. before ++ l) all
-
--- the text up to a row, and the lines of the rows behind it
-pub text_more : (names : List (List ℕ)) (rows : List Row) (from to : ℕ) (before now : List ℕ) → from ≤ to → to ≤ length rows
-    → before ≡ csv_text names (take from rows) → now ≡ before ++ lines_text (slice_range rows from to) → now ≡ csv_text names (take to rows)
-text_more names rows from to before now order there so_far is =
-    let header = row_text default_writer names in
-    let front = lines_text (take from rows) in
-    let more = lines_text (slice_range rows from to) in
-    let both : front ++ more ≡ lines_text (take to rows) =
-    sym (flat_map-append line_text (take from rows) (slice_range rows from to)) ∙ ap lines_text (sym (take-range rows from to order there)) in
-    is ∙ (ap (λ l. l ++ more) so_far ∙ (append_assoc header front more ∙ ap (λ l. header ++ l) both))
+-- one text more was written
+pub wrote_more : (a b c : Option (List ℕ)) (texts : List (List ℕ)) (i : ℕ) (text d : List ℕ) → i < length texts → text ≡ get_or texts i d → Appends a b (flat_map (λ t. t) (take i texts))
+    → Appends b c text → Appends a c (flat_map (λ t. t) (take (i + 1) texts))
+wrote_more a b c texts i text d near at before now =
+    let more : flat_map (λ t. t) (take (i + 1) texts) ≡ flat_map (λ t. t) (take i texts) ++ text =
+    ap (flat_map (λ t. t)) (take_more texts i d near)
+    ∙ (flat_map-append (λ t. t) (take i texts) (get_or texts i d ∷ []) ∙ ap (λ t. flat_map (λ t. t) (take i texts) ++ t) (append-nil (get_or texts i d) ∙ sym at)) in
+    subst (Appends a c) (sym more) (appends_more a b c (flat_map (λ t. t) (take i texts)) text before now)

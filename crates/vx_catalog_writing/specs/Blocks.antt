@@ -1,26 +1,30 @@
 -- Rows in blocks that follow one another, and the lines of each.
-use Rattle.std.specs.Prelude.{◌≡◌, ℕ, ◌+◌, ◌*◌, ◌<◌, List, [], Result, Ok, Err, min, flat_map, length, slice_range, slice_index_or, IfOk}
-use Rattle.std.specs.declared.alloc.AllocError.{AllocError}
+use Rattle.std.specs.Prelude.{◌≡◌, ℕ, ◌<◌, List, [], Option, Some, None, true, flat_map, length, slice_index_or, IfSome}
+use Rattle.std.specs.Option.{is_some}
 use Rattle.vx_rows_values.specs.Values.{Row}
 use Rattle.vx_catalog.specs.Csv.{line_text}
-
--- where block i begins, if the first begins at `from` and each has `size` rows: at the end of the rows, if they end before
-abbrev pub block_start : List Row → ℕ → ℕ → ℕ → ℕ
-block_start rows from size i = min (from + i * size) (length rows)
-
--- the rows of block i
-abbrev pub block_at : List Row → ℕ → ℕ → ℕ → List Row
-block_at rows from size i = slice_range rows (block_start rows from size i) (block_start rows from size (i + 1))
+use Rattle.vx_catalog_writing.specs.declared.blocks.Block.{Block}
 
 -- the lines of the rows, without a header
 abbrev pub lines_text : List Row → List ℕ
 lines_text rows = flat_map line_text rows
 
--- the lines that were made, or none if memory ran out
-abbrev pub lines_in : Result (List ℕ) AllocError → List ℕ
-lines_in (Ok lines) = lines
-lines_in (Err e) = []
+-- the rows of blocks, one behind the other
+abbrev pub rows_of_blocks : List Block → List Row
+rows_of_blocks blocks = flat_map (λ b. b.rows.rows) blocks
 
--- each of the parts has the lines of the block with its number, or memory ran out
-abbrev pub AreLines : List Row → ℕ → ℕ → List (Result (List ℕ) AllocError) → Type 0
-AreLines rows from size parts = (i : ℕ) (d : Result (List ℕ) AllocError) → i < length parts → IfOk (slice_index_or parts i d) (λ lines. lines ≡ lines_text (block_at rows from size i))
+-- the lines of a block, or none if memory ran out
+abbrev pub made_lines : Option (List ℕ) → List ℕ
+made_lines (Some lines) = lines
+made_lines None = []
+
+abbrev pub lines_in : Block → List ℕ
+lines_in b = made_lines b.lines
+
+-- its lines were made
+abbrev pub IsMade : Block → Type 0
+IsMade b = is_some b.lines ≡ true
+
+-- each block has the lines of the rows that it had before, unless memory ran out
+abbrev pub HaveLines : List Block → List Block → Type 0
+HaveLines before after = (i : ℕ) (d : Block) → i < length before → IfSome (slice_index_or after i d).lines (λ l. l ≡ lines_text (slice_index_or before i d).rows.rows)

@@ -3,6 +3,8 @@
 
 mod blocks;
 mod lines;
+mod text;
 mod write;
 
+pub use text::Text;
 pub use write::{WriteShares, format_in_shares, format_in_threads};

@@ -1,8 +1,8 @@
 //! The lines of rows, without a header.
 
-ghost use Rattle.std.specs.Prelude.{◌≡◌, ◌++◌, [], drop, flat_map, map, string_bytes, All, IfOk, IsOk, OnOk};
+ghost use Rattle.std.specs.Prelude.{◌≡◌, [], map, string_bytes, IfOk};
 ghost use Rattle.vx_catalog.specs.Csv.{csv_text};
-ghost use Rattle.vx_catalog_writing.specs.Blocks.{lines_text, lines_in};
+ghost use Rattle.vx_catalog_writing.specs.Blocks.{lines_text};
 
 use std::alloc::{AllocError, Global};
 use std::marker::Model;
@@ -39,33 +39,20 @@ pub fn header_text(
 }
 
 impl Lines {
-    /// The lines of all rows.
+    /// The lines of all rows, in no more memory than they take.
     pub fn of(alloc: Global, names: &[String], rows: &Rows) -> Result<Lines, AllocError>
         ensures { IfOk result (λ l. l ≡ lines_text rows.now.rows) }
     {
         let header = header_text(alloc, names, rows.types())?.len();
-        let text = format_rows(alloc, names, rows)?;
+        let mut text = format_rows(alloc, names, rows)?;
+        text.shrink_to_fit();
         Ok(Lines { text, header })
     }
 
-    /// Adds these lines to a text.
-    pub fn add_to(&self, text: &mut Vec<u8>) -> Result<(), AllocError>
-        ensures { OnOk result (text.new.items ≡ text.old.items ++ self.now) }
+    /// Their bytes.
+    pub fn bytes(&self) -> &[u8]
+        ensures { result.now ≡ self.now }
     {
-        text.extend_from_slice(&self.text[self.header..])
+        &self.text[self.header..]
     }
-}
-
-/// Adds the lines of all parts to a text, in their order, unless memory ran out where one of them was made.
-pub fn add_all(text: &mut Vec<u8>, parts: &[Result<Lines, AllocError>]) -> Result<(), AllocError>
-    ensures made { OnOk result (All IsOk parts.now) }
-    ensures lines { OnOk result (text.new.items ≡ text.old.items ++ flat_map lines_in parts.now) }
-{
-    for part in parts {
-        match part {
-            Ok(lines) => lines.add_to(text)?,
-            Err(_) => return Err(AllocError),
-        }
-    }
-    Ok(())
 }

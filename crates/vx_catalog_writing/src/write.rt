@@ -1,50 +1,24 @@
-//! The text of rows, made by several threads in rounds.
+//! The text of rows, made by several threads.
 
-ghost use Rattle.std.specs.Prelude.{◌≡◌, ◌<◌, ◌≤◌, ◌++◌, length, map, slice_range, string_bytes, IfOk};
+ghost use Rattle.std.specs.Prelude.{◌≡◌, ◌<◌, map, string_bytes, IfOk};
 ghost use Rattle.vx_catalog.specs.Csv.{csv_text};
-ghost use Rattle.vx_catalog_writing.specs.Blocks.{lines_text};
 
-use crate::blocks::{block_start, lines_of_blocks};
-use crate::lines::{add_all, header_text};
+use crate::blocks::{cut_into_blocks, make_all_lines, with_lines};
+use crate::lines::header_text;
+use crate::text::Text;
 use std::alloc::{AllocError, Global};
 use std::thread::Threads;
-use vx_catalog::format_rows;
 use vx_rows_values::limits::MAX_THREADS;
 use vx_rows_views::Rows;
 
-// How many rows each thread gets in a round. The text of fewer is made by one thread, since starting threads costs more than
-// they save.
-const BLOCK: usize = 16_384;
+// How many rows a block has: so many that few blocks have a small part of all rows, and that starting a thread costs less than their lines.
+const BLOCK: usize = 4096;
 
-/// How rows are shared out: how many threads make their text, and how many rows each of them gets in a round, at least one.
+/// How rows are shared out: how many threads make their text, and how many rows a block has, at least one.
 #[derive(Clone, Copy, Debug)]
 pub struct WriteShares {
     pub threads: usize,
     pub block: usize,
-}
-
-// Adds the lines of the rows of one round, which begins at row `from`, and returns where it ends.
-fn add_round<P: Threads + Sync>(
-    rt: &P,
-    alloc: Global,
-    shares: WriteShares,
-    names: &[String],
-    rows: &Rows,
-    from: usize,
-    text: &mut Vec<u8>,
-) -> Result<usize, AllocError>
-    requires threads { 0 < shares.threads }
-    requires block { 0 < shares.block }
-    requires there { from < length rows.now.rows }
-    ensures more { IfOk result (λ to. from < to) }
-    ensures end { IfOk result (λ to. to ≤ length rows.now.rows) }
-    ensures lines { IfOk result (λ to. text.new.items ≡ text.old.items ++ lines_text (slice_range rows.now.rows from to)) }
-{
-    let len = rows.len();
-    let count = shares.threads.min((len - from).div_ceil(shares.block));
-    let parts = lines_of_blocks(rt, alloc, names, rows, from, shares.block, count)?;
-    add_all(text, parts.as_slice())?;
-    Ok(block_start(len, from, shares.block, count))
 }
 
 /// `format_in_threads`, where the caller says how the rows are shared out.
@@ -53,38 +27,33 @@ pub fn format_in_shares<P: Threads + Sync>(
     alloc: Global,
     shares: WriteShares,
     names: &[String],
-    rows: &Rows,
-) -> Result<Vec<u8>, AllocError>
+    rows: Rows,
+) -> Result<Text, AllocError>
     requires threads { 0 < shares.threads }
     requires block { 0 < shares.block }
-    ensures { IfOk result (λ v. v.items ≡ csv_text (map string_bytes names.now) rows.now.rows) }
+    ensures { IfOk result (λ v. v.items ≡ csv_text (map string_bytes names.now) rows.rows) }
 {
-    let mut text = header_text(alloc, names, rows.types())?;
-    let mut from = 0;
-    'rounds: while from < rows.len() {
-        from = add_round(rt, alloc, shares, names, rows, from, &mut text)?;
-    }
-    Ok(text)
+    let header = header_text(alloc, names, rows.types())?;
+    let mut blocks = cut_into_blocks(alloc, rows, shares.block)?;
+    make_all_lines(rt, alloc, shares.threads, names, blocks.as_mut_slice());
+    with_lines(Text::from(header), blocks)
 }
 
 /// The text of rows, as `format_rows` makes it, by up to `threads` threads.
 ///
-/// The rows are shared out in rounds. In a round each thread makes the text of some thousand rows that follow one another, and these texts
-/// are put behind the text so far. The text of few rows is made by one thread.
+/// The rows are cut into blocks of some thousand. A thread makes the lines of blocks that follow one another, and lets go of the rows of each
+/// once it has its lines: so the memory of tables that nobody else holds goes as the text grows.
 pub fn format_in_threads<P: Threads + Sync>(
     rt: &P,
     alloc: Global,
     threads: usize,
     names: &[String],
-    rows: &Rows,
-) -> Result<Vec<u8>, AllocError>
-    ensures { IfOk result (λ v. v.items ≡ csv_text (map string_bytes names.now) rows.now.rows) }
+    rows: Rows,
+) -> Result<Text, AllocError>
+    ensures { IfOk result (λ v. v.items ≡ csv_text (map string_bytes names.now) rows.rows) }
 {
-    if threads < 2 || rows.len() < BLOCK {
-        return format_rows(alloc, names, rows);
-    }
     let shares = WriteShares {
-        threads: threads.min(MAX_THREADS),
+        threads: threads.clamp(1, MAX_THREADS),
         block: BLOCK,
     };
     format_in_shares(rt, alloc, shares, names, rows)

@@ -100,4 +100,4 @@ pub returns-in_ok-text-in-Catalog-clause-answer : goal.returns-in_ok-text-in-Cat
 returns-in_ok-text-in-Catalog-clause-answer g c =
     let paths = map (λ p. p.now) c.in-Catalog.paths.items in
     let same : asked_is c.args.asked.now ≡ find_catalog paths c.in-Catalog._quiet = ap asked_is c.in-Catalog.is in
-    for_found_catalog paths c.in-Catalog._quiet same (rw c.as_slice.ensures.value at c.in_ok-text-in-Catalog.ensures.text)
+    rw c.from.ensures (for_found_catalog paths c.in-Catalog._quiet same (rw c.as_slice.ensures.value at c.in_ok-text-in-Catalog.ensures.text))

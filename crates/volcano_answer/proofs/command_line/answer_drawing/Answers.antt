@@ -36,8 +36,8 @@ returns-in-Ok-clause-answer g c =
     let drawn = rw c.as_slice-2.ensures.value at c.in-Ok.ensures.drawn in
     let Words : List (List ℕ) → Type 0 = λ ws. IsDrawn ws (resolved_of (typed_plan c.in_ok-checked.checked)) c.in_ok-counted.counted.items c.in-Ok.drawing.items in
     let Plan : TypedPlanView → Type 0 = λ p. IsDrawn (op_words plan.root) p c.in_ok-counted.counted.items c.in-Ok.drawing.items in
-    for_drawing (paths_are c.args.sources) c.args.stats.now refl
-    (plan, c.in_ok-counted.counted.items, c.in_ok-plan.ensures.planned, c.in_ok-checked.ensures.shown, c.in_ok-counted.ensures.bytes, subst Plan checked (subst Words words drawn))
+    rw c.from.ensures (for_drawing (paths_are c.args.sources) c.args.stats.now refl
+    (plan, c.in_ok-counted.counted.items, c.in_ok-plan.ensures.planned, c.in_ok-checked.ensures.shown, c.in_ok-counted.ensures.bytes, subst Plan checked (subst Words words drawn)))
 
 pub returns-clause-refused : goal.returns-clause-refused
 returns-clause-refused g c =

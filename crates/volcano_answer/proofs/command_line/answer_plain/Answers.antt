@@ -29,7 +29,7 @@ returns-in_err-text-in-Ok-Form g c =
 pub returns-in_ok-text-in-Ok-Form : goal.returns-in_ok-text-in-Ok-Form
 returns-in_ok-text-in-Ok-Form g c =
     let is : IsJob (asked_is c.args.asked.now) (asked_job.Form c.in-Ok-Form.form c.in-Ok-Form.sources) = rw (c.in-Ok-Form.is, c.in-Ok-Form.field-0-is) at c.job_in.ensures in
-    record { answer = for_plan_form c.in-Ok-Form.form (paths_are c.in-Ok-Form.sources) is.0 is.1 is.2 c.in_ok-text-in-Ok-Form.ensures.text; no_stats = tt; refused = tt }
+    record { answer = rw c.from-in-Ok-Form.ensures (for_plan_form c.in-Ok-Form.form (paths_are c.in-Ok-Form.sources) is.0 is.1 is.2 c.in_ok-text-in-Ok-Form.ensures.text); no_stats = tt; refused = tt }
 
 pub returns-in_err-text-in-Ok-Statement : goal.returns-in_err-text-in-Ok-Statement
 returns-in_err-text-in-Ok-Statement g c =
@@ -40,14 +40,14 @@ returns-in_err-text-in-Ok-Statement g c =
 pub returns-in_ok-text-in-Ok-Statement : goal.returns-in_ok-text-in-Ok-Statement
 returns-in_ok-text-in-Ok-Statement g c =
     let is : IsJob (asked_is c.args.asked.now) (asked_job.Statement c.in-Ok-Statement.dialect c.in-Ok-Statement.sources) = rw (c.in-Ok-Statement.is, c.in-Ok-Statement.field-0-is) at c.job_in.ensures in
-    record { answer = for_sql c.in-Ok-Statement.dialect (paths_are c.in-Ok-Statement.sources) is.0 is.1 is.2 c.in_ok-text-in-Ok-Statement.ensures.text; no_stats = tt; refused = tt }
+    record { answer = rw c.from-in-Ok-Statement.ensures (for_sql c.in-Ok-Statement.dialect (paths_are c.in-Ok-Statement.sources) is.0 is.1 is.2 c.in_ok-text-in-Ok-Statement.ensures.text); no_stats = tt; refused = tt }
 
 pub returns-in_ok-text-in-Ok-Entry-clause-answer : goal.returns-in_ok-text-in-Ok-Entry-clause-answer
 returns-in_ok-text-in-Ok-Entry-clause-answer g c =
     let is : IsJob (asked_is c.args.asked.now) (asked_job.Entry c.in-Ok-Entry.text) = rw (c.in-Ok-Entry.is, c.in-Ok-Entry.field-0-is) at c.job_in.ensures in
     let same : c.in_ok-text-in-Ok-Entry.text.items ≡ c.in-Ok-Entry.text.now = c.in_ok-text-in-Ok-Entry.ensures.items ∙ c.as_bytes.ensures.value in
     let P : List ℕ → Type 0 = λ t. IsEntry is.0 t in
-    for_code is.0 is.1 (subst P (sym same) is.2)
+    rw c.from-in-Ok-Entry.ensures (for_code is.0 is.1 (subst P (sym same) is.2))
 
 pub returns-in-Ok-Verdict : goal.returns-in-Ok-Verdict
 returns-in-Ok-Verdict g c =
@@ -67,7 +67,7 @@ returns-in_err-text-in-Ok-Annotation g c =
 pub returns-in_ok-text-in-Ok-Annotation : goal.returns-in_ok-text-in-Ok-Annotation
 returns-in_ok-text-in-Ok-Annotation g c =
     let is : IsJob (asked_is c.args.asked.now) (asked_job.Annotation c.in-Ok-Annotation.sources c.in-Ok-Annotation.derive) = rw (c.in-Ok-Annotation.is, c.in-Ok-Annotation.field-0-is) at c.job_in.ensures in
-    record { answer = for_claims (paths_are c.in-Ok-Annotation.sources) c.in-Ok-Annotation.derive is c.in_ok-text-in-Ok-Annotation.ensures.text; no_stats = tt; refused = tt }
+    record { answer = rw c.from.ensures (for_claims (paths_are c.in-Ok-Annotation.sources) c.in-Ok-Annotation.derive is c.in_ok-text-in-Ok-Annotation.ensures.text); no_stats = tt; refused = tt }
 
 pub returns-in-Ok-Drawing : goal.returns-in-Ok-Drawing
 returns-in-Ok-Drawing g c =

@@ -13,4 +13,4 @@ returns-in_err-catalog-clause-refused g c =
 pub returns-in-Accepted-clause-answer : goal.returns-in-Accepted-clause-answer
 returns-in-Accepted-clause-answer g c =
     let shown = rw c.in-Accepted.is at c.in_ok-text.ensures in
-    for_all_nodes (paths_are c.args.sources) refl (resolved_of c.in_ok-catalog.plan, c.in_ok-catalog.ensures.planned, shown)
+    rw c.from.ensures (for_all_nodes (paths_are c.args.sources) refl (resolved_of c.in_ok-catalog.plan, c.in_ok-catalog.ensures.planned, shown))

@@ -16,7 +16,7 @@ use Rattle.volcano_answer.proofs.program.reply_to_arguments.Goals as goal
 pub returns-in-Ok-Text-clause-done : goal.returns-in-Ok-Text-clause-done
 returns-in-Ok-Text-clause-done g c zero =
     let answers = rw c.in-Ok-Text.field-0-is at c.in-Ok-Text.ensures.answer in
-    (c.in-Ok-Text.text.items, answers, rw c.as_slice.ensures.value at (c.write_answer.ensures.done zero))
+    (c.in-Ok-Text.text.items, answers, c.write_answer.ensures.done zero)
 
 pub returns-in-Ok-Relation-clause-done : goal.returns-in-Ok-Relation-clause-done
 returns-in-Ok-Relation-clause-done g c zero =
