@@ -9,3 +9,4 @@ pub mod DatabaseFacts
 pub mod CsvFacts
 pub mod Meant
 pub mod PlacedFacts
+pub mod KeyNumberFacts

@@ -7,3 +7,4 @@ pub mod Database
 pub mod Text
 pub mod Meaning
 pub mod Folder
+pub mod KeyNumbers

@@ -5,6 +5,7 @@ mod counted;
 mod database;
 mod fault;
 mod folder;
+mod key_numbers;
 mod loader;
 mod number;
 mod record;

@@ -21,6 +21,7 @@ ghost use Rattle.vx_rows_values.specs.Limits.{max_rows};
 
 use crate::counted::{Lent, LimitedReader, Origin};
 use crate::fault::LoadFault;
+use crate::key_numbers::key_numbers;
 use crate::record::{is_header, next_record, read_rows};
 use csv::{ByteRecord, Reader, ReaderBuilder};
 use std::alloc::{AllocError, Global};
@@ -29,7 +30,7 @@ use std::marker::{Brand, Model};
 use vx_catalog_bytes::ByteIn;
 use vx_catalog_relations::{Catalog, Relation};
 use vx_rows::{Table, compare_on};
-use vx_rows_values::OrderEntry;
+use vx_rows_values::{ColType, OrderEntry};
 use vx_rows_views::Rows;
 
 // The rows under a text's header.
@@ -96,6 +97,9 @@ fn columns_of(alloc: Global, rows: &Rows, columns: &[usize]) -> Result<Table, Al
     ensures types { IfOk result (λ t. t.types ≡ map (type_at rows.now.types) columns.now) }
     ensures rows { IfOk result (λ t. t.rows ≡ map (pick columns.now) rows.now.rows) }
 {
+    if columns.len() == 1 && rows.types()[columns[0]] == ColType::Int {
+        return Table::of_numbers(alloc, key_numbers(alloc, rows, columns[0])?);
+    }
     rows.project(alloc, columns)?.gathered(alloc)
 }
 
