@@ -1,12 +1,15 @@
 //! The numbers of a key or an order of one column, read where they lie.
 
 ghost use Rattle.std.specs.Prelude.{◌≡◌, ◌+◌, ◌<◌, ◌≤◌, ◌++◌, ◌∷◌, [], pos, length, map, slice_index_or, slice_range, All, IfOk, OnOk};
+ghost use Rattle.std.specs.Ordering.{is_lt};
 ghost use Rattle.vx_rows_values.specs.declared.value.ColType.TheVariants as kind;
 ghost use Rattle.vx_rows_values.specs.Types.{type_at};
-ghost use Rattle.vx_rows_values.specs.Values.{pick};
+ghost use Rattle.vx_rows_values.specs.Values.{num, pick};
+ghost use Rattle.vx_rows_values.specs.Order.{compare_values};
 ghost use Rattle.vx_rows.specs.Numbers.{seen_numbers};
 ghost use Rattle.vx_rows_views.specs.Chunks.{all_rows};
-ghost use Rattle.vx_catalog.specs.KeyNumbers.{number_rows};
+ghost use Rattle.vx_catalog.specs.Loading.{first_fall};
+ghost use Rattle.vx_catalog.specs.KeyNumbers.{number_rows, number_order};
 
 use std::alloc::{AllocError, Global};
 use vx_rows::NumbersRef;
@@ -116,11 +119,7 @@ fn push_chunks(found: &mut Vec<i64>, chunks: &[Chunk], column: usize) -> Result<
 }
 
 /// The numbers that rows have in a column of numbers.
-pub(crate) fn key_numbers(
-    alloc: Global,
-    rows: &Rows,
-    column: usize,
-) -> Result<Vec<i64>, AllocError>
+pub(crate) fn key_numbers(alloc: Global, rows: &Rows, column: usize) -> Result<Vec<i64>, AllocError>
     requires column { column < length rows.now.types }
     requires number { type_at rows.now.types column ≡ kind.Int }
     ensures { IfOk result (λ v. number_rows v.items ≡ map (pick (column ∷ [])) rows.now.rows) }
@@ -128,4 +127,27 @@ pub(crate) fn key_numbers(
     let mut found = Vec::with_capacity(alloc, rows.len())?;
     push_chunks(&mut found, rows.chunks(), column)?;
     Ok(found)
+}
+
+// Whether a number comes before another one.
+fn comes_before(number: i64, other: i64, falling: bool) -> bool
+    ensures { result ≡ is_lt (compare_values falling (num number) (num other)) }
+{
+    if falling {
+        other < number
+    } else {
+        number < other
+    }
+}
+
+/// The first number that comes before the one in front of it.
+pub(crate) fn first_number_fall(numbers: &[i64], falling: bool) -> Option<usize>
+    ensures { result ≡ first_fall (number_order falling) (number_rows numbers.now) }
+{
+    for i in 1..numbers.len() {
+        if comes_before(numbers[i], numbers[i - 1], falling) {
+            return Some(i);
+        }
+    }
+    None
 }

@@ -21,7 +21,7 @@ ghost use Rattle.vx_rows_values.specs.Limits.{max_rows};
 
 use crate::counted::{Lent, LimitedReader, Origin};
 use crate::fault::LoadFault;
-use crate::key_numbers::key_numbers;
+use crate::key_numbers::{first_number_fall, key_numbers};
 use crate::record::{is_header, next_record, read_rows};
 use csv::{ByteRecord, Reader, ReaderBuilder};
 use std::alloc::{AllocError, Global};
@@ -29,7 +29,7 @@ use std::io::Read;
 use std::marker::{Brand, Model};
 use vx_catalog_bytes::ByteIn;
 use vx_catalog_relations::{Catalog, Relation};
-use vx_rows::{Table, compare_on};
+use vx_rows::{NumbersRef, Table, compare_on};
 use vx_rows_values::{ColType, OrderEntry};
 use vx_rows_views::Rows;
 
@@ -83,6 +83,14 @@ fn first_fall(rows: &Table, order: &[OrderEntry]) -> Option<usize>
     requires { AreColumns (length rows.now.types) (order_columns order.now) }
     ensures { result ≡ first_fall order.now rows.now.rows }
 {
+    if let [entry] = order {
+        if let Some(numbers) = rows.numbers(entry.column) {
+            // a table of one column of numbers has them in 64 bits
+            if let NumbersRef::Wide(wide) = numbers.view() {
+                return first_number_fall(&wide[..rows.len()], entry.falling);
+            }
+        }
+    }
     for i in 1..rows.len() {
         if compare_on(order, rows, i, rows, i - 1).is_lt() {
             return Some(i);

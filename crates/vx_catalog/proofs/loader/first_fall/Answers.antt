@@ -1,5 +1,7 @@
-use Rattle.std.proofs.Common.{◌≡◌, ◌-◌, ◌+◌, ◌<◌, ◌≤◌, true, false, length, [], arith, rules, slice_index_or, is_lt}
+use Rattle.std.proofs.Common.{◌≡◌, ◌-◌, ◌+◌, ◌<◌, ◌≤◌, true, false, length, [], arith, rules, slice_index_or, is_lt, sym, ap, ◌∙◌}
 use Rattle.vx_rows_values.specs.Order.{compare_on}
+use Rattle.vx_rows.specs.Numbers.{seen_numbers}
+use Rattle.vx_catalog.proofs.KeyNumberFacts.{numbers-fall}
 use Rattle.vx_catalog.proofs.OrderFacts.{falls_here, falls_later, falls_first, falls_nowhere}
 use Rattle.vx_catalog.proofs.loader.first_fall.Goals as goal
 
@@ -23,3 +25,8 @@ pub returns : goal.returns
 returns c =
     let h : length c.args.rows.now.rows ≤ c.loop-i.i = search rules in
     falls_nowhere c.args.order.now c.args.rows.now.rows c.loop-i.i (slice_index_or c.args.rows.now.rows (c.loop-i.i - 1) []) _ h c.loop-i.invariant
+
+pub returns-in-Wide : goal.returns-in-Wide
+returns-in-Wide c =
+    numbers-fall c.args.order.now _ c.args.rows.now.rows c.in-Some.numbers.now c.in-Wide.wide.now c.len.result _ c.in-len1.len_at_least c.in-len1.len_below c.len.ensures (sym (ap seen_numbers c.in-Wide.is) ∙ c.view.ensures)
+    c.in-Some.ensures.long c.in-Some.ensures.values c.first_number_fall.ensures
