@@ -15,13 +15,23 @@ use std::alloc::{AllocError, Global};
 use vx_rows::NumbersRef;
 use vx_rows_views::{Chunk, Position, PositionsRef, Rows};
 
+// Puts numbers of 32 bits into a slice of as many.
+fn widen(narrow: &[i32], numbers: &mut [i64])
+    requires { length narrow.now ≡ length numbers.old }
+    ensures { numbers.new ≡ narrow.now }
+{
+    for i in 0..numbers.len() {
+        numbers[i] = narrow[i] as i64;
+    }
+}
+
 // Adds numbers of 32 bits to those of 64.
 fn push_widened(found: &mut Vec<i64>, narrow: &[i32]) -> Result<(), AllocError>
     ensures { OnOk result (found.new.items ≡ found.old.items ++ narrow.now) }
 {
-    for n in narrow {
-        found.push(*n as i64)?;
-    }
+    let before = found.len();
+    found.resize(before + narrow.len(), 0)?;
+    widen(narrow, &mut found.as_mut_slice()[before..]);
     Ok(())
 }
 

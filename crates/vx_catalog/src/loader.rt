@@ -85,7 +85,7 @@ fn first_fall(rows: &Table, order: &[OrderEntry]) -> Option<usize>
 {
     if let [entry] = order {
         if let Some(numbers) = rows.numbers(entry.column) {
-            // a table of one column of numbers has them in 64 bits
+            // `columns_of` makes a table of one column of numbers, which it keeps in 64 bits
             if let NumbersRef::Wide(wide) = numbers.view() {
                 return first_number_fall(&wide[..rows.len()], entry.falling);
             }
@@ -105,6 +105,7 @@ fn columns_of(alloc: Global, rows: &Rows, columns: &[usize]) -> Result<Table, Al
     ensures types { IfOk result (λ t. t.types ≡ map (type_at rows.now.types) columns.now) }
     ensures rows { IfOk result (λ t. t.rows ≡ map (pick columns.now) rows.now.rows) }
 {
+    // the numbers of one column are read where they lie, and not copied cell by cell
     if columns.len() == 1 && rows.types()[columns[0]] == ColType::Int {
         return Table::of_numbers(alloc, key_numbers(alloc, rows, columns[0])?);
     }
