@@ -53,7 +53,7 @@ added_full : (types : List ColType) (front : List Row) (fields : List (List ℕ)
 unfolding row_added
 added_full types front fields h = rw (le-ltb (length front) max_rows h) refl
 
-either : (m n : ℕ) → (m < n) ⊎ (n ≤ m)
+pub either : (m n : ℕ) → (m < n) ⊎ (n ≤ m)
 either m n = elim (dec_lt m n) [
   | yes below ↦ inl below
   | no over ↦ inr (omega arith)

@@ -7,3 +7,4 @@ pub mod RoundFacts
 pub mod UnderFacts
 pub mod FrontFacts
 pub mod LoadReported
+pub mod Drawn

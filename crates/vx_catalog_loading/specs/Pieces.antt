@@ -1,5 +1,7 @@
 -- Where a text is cut, and what its pieces are read as.
-use Rattle.std.specs.Prelude.{◌≡◌, ℕ, ◌+◌, ◌-◌, ◌<◌, ◌≤◌, ◌==◌, nat_lt, if◌then◌else◌, List, [], ◌∷◌, ◌++◌, length, drop, slice_index, slice_index_or, slice_range, Option, Some, None, Bool, true, Result, Ok, Err, IfOk}
+use Rattle.std.specs.Prelude.{◌≡◌, ℕ, ◌+◌, ◌-◌, ◌<◌, ◌≤◌, ◌==◌, nat_lt, if◌then◌else◌, List, [], ◌∷◌, ◌++◌, length, drop, slice_index, slice_index_or, slice_range, Option, Some, None, Bool, true, All, Vec, Result, Ok, Err, IfOk}
+use Rattle.std.specs.declared.alloc.Global.{Global}
+use Rattle.std.specs.declared.alloc.AllocError.{AllocError}
 use Rattle.vx_rows_values.specs.Values.{Row}
 use Rattle.vx_rows_values.specs.declared.value.ColType.{ColType}
 use Rattle.vx_rows.specs.View.{RowsView}
@@ -8,6 +10,7 @@ use Rattle.vx_catalog.specs.declared.fault.LoadFault.{LoadFault}
 use Rattle.vx_catalog.specs.declared.fault.LoadFault.TheVariants as fault
 use Rattle.vx_catalog.specs.Loading.{Fails, Gives, records_of, rows_onto}
 use Rattle.vx_catalog_split.specs.Split.{is_unquoted}
+use Rattle.vx_catalog_loading.specs.declared.pieces.PieceRead.{PieceRead}
 use Rattle.vx_rows_values.specs.Limits.{max_rows}
 
 -- an error in a row, where n rows come before; a row past the most that there may be is too many
@@ -65,6 +68,27 @@ piece_at text cuts i = slice_range text (slice_index cuts i) (slice_index cuts (
 abbrev pub IsPieceRead : List ColType → List ℕ → Option (Result RowsView LoadFault) → Type 0
 IsPieceRead types piece None = Unit {0}
 IsPieceRead types piece (Some read) = (is_unquoted piece ≡ true) × IfOk read (λ t. t.types ≡ types) × Gives (λ t. t.rows) read (rows_of_text types [] piece)
+
+-- what a piece of a text that is cut there was read as
+abbrev pub IsDrawn : List ColType → List ℕ → List ℕ → PieceRead → Type 0
+IsDrawn types text cuts drawn = IsPieceRead types (piece_at text cuts drawn.piece) drawn.read
+
+-- what one thread read of such a text
+abbrev pub AreDrawn : List ColType → List ℕ → List ℕ → List PieceRead → Type 0
+AreDrawn types text cuts reads = All (IsDrawn types text cuts) reads
+
+-- the same, or that the thread ran out of memory
+abbrev pub IsShared : List ColType → List ℕ → List ℕ → Result (Vec PieceRead Global) AllocError → Type 0
+IsShared types text cuts share = IfOk share (λ reads. AreDrawn types text cuts reads.items)
+
+-- what all threads read of such a text
+abbrev pub AreShared : List ColType → List ℕ → List ℕ → List (Result (Vec PieceRead Global) AllocError) → Type 0
+AreShared types text cuts shares = All (IsShared types text cuts) shares
+
+-- what each piece of such a text was read as
+abbrev pub ArePartsRead : List ColType → List ℕ → List ℕ → List (Option (Result RowsView LoadFault)) → Type 0
+ArePartsRead types text cuts parts =
+    (i : ℕ) (d : Option (Result RowsView LoadFault)) → i < length parts → IsPieceRead types (piece_at text cuts i) (slice_index_or parts i d)
 
 -- pieces of a text that were read, where this is left of the text before each of them: that piece, and what is left before the next, where the text may be cut
 pub record ArePieces (types : List ColType) (parts : List (Option (Result RowsView LoadFault))) (left : ℕ → List ℕ) : Type 0 where

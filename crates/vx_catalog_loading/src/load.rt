@@ -18,7 +18,7 @@ use vx_rows_values::limits::MAX_THREADS;
 use vx_rows_views::Rows;
 
 // How many bytes each thread gets in a round.
-const BLOCK: usize = 2 << 20;
+const BLOCK: usize = 4 << 20;
 
 // A text of fewer bytes is read by one thread, since starting threads costs more than they save.
 const LEAST: usize = 4 << 20;

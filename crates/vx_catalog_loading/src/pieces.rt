@@ -1,24 +1,29 @@
 //! The rows of the pieces of a text, each read by a thread of its own, behind the rows so far.
 
-ghost use Rattle.std.specs.Prelude.{◌≡◌, ℕ, ◌+◌, ◌-◌, ◌<◌, ◌≤◌, ◌++◌, [], drop, length, true, List, Result, Option, IfErr, IfOk, OnOk, slice_index, slice_index_or, vec_len};
+ghost use Rattle.std.specs.Prelude.{◌≡◌, ℕ, ◌+◌, ◌-◌, ◌<◌, ◌≤◌, ◌++◌, [], drop, length, true, List, Result, Option, None, All, IfErr, IfOk, OnOk, slice_index, slice_index_or, slice_set, vec_len};
 ghost use Rattle.vx_rows.specs.Parts.{rows_of_all, HaveTypes};
 ghost use Rattle.vx_rows_values.specs.Values.{Row};
 ghost use Rattle.vx_rows_values.specs.declared.value.ColType.{ColType as Kind};
 ghost use Rattle.vx_catalog_split.specs.Split.{is_unquoted};
 ghost use Rattle.vx_catalog.specs.Loading.{Fails, Gives};
-ghost use Rattle.vx_catalog_loading.specs.Pieces.{rows_of_text, fault_behind, piece_at, AreCuts, AreLinesRead, LinesFail, IsPieceRead, ArePieces, Joined};
+ghost use Rattle.vx_catalog_loading.specs.Pieces.{rows_of_text, fault_behind, piece_at, AreCuts, AreLinesRead, LinesFail, IsPieceRead, IsDrawn, AreDrawn, AreShared, ArePartsRead, ArePieces, Joined};
 ghost use Rattle.vx_rows_values.specs.Limits.{max_rows};
 
 use crate::cuts::cuts_of;
 use csv::ReaderBuilder;
 use std::alloc::{AllocError, Global};
-use std::thread;
+use std::sync::atomic::{AtomicUsize, Ordering};
 use std::thread::Threads;
+use std::{mem, thread};
 use vx_catalog::{LoadFault, read_rows};
 use vx_rows::Table;
 use vx_rows_values::ColType;
 use vx_rows_values::limits::MAX_ROWS;
 use vx_rows_views::Rows;
+
+// How many pieces there are in a round for each thread. With more of them no thread waits long for the last one, and with fewer there are fewer
+// tables.
+const PIECES: usize = 4;
 
 /// Whether bytes have no quote.
 pub fn is_unquoted(bytes: &[u8]) -> bool
@@ -51,10 +56,102 @@ fn read_unquoted(alloc: Global, types: &[ColType], piece: &[u8]) -> Option<Resul
     }
 }
 
-// What each piece of a text is read as, in threads.
+// What one piece of a text is read as.
+#[derive(Drop)]
+pub(crate) struct PieceRead {
+    piece: usize,
+    read: Option<Result<Table, LoadFault>>,
+}
+
+// Reads the piece with this number.
+fn read_at(alloc: Global, types: &[ColType], text: &[u8], cuts: &[usize], piece: usize) -> PieceRead
+    requires cuts { AreCuts text.now cuts.now (length text.now) }
+    requires near { piece + 1 < length cuts.now }
+    ensures { IsDrawn types.now text.now cuts.now result }
+{
+    let read = read_unquoted(alloc, types, &text[cuts[piece]..cuts[piece + 1]]);
+    PieceRead { piece, read }
+}
+
+// Reads the pieces that this thread draws: each time the next that no thread has drawn, until there is none. So no thread waits for a slower
+// one while there are pieces left.
+fn read_drawn(
+    alloc: Global,
+    types: &[ColType],
+    text: &[u8],
+    cuts: &[usize],
+    next: &AtomicUsize,
+) -> Result<Vec<PieceRead>, AllocError>
+    requires { AreCuts text.now cuts.now (length text.now) }
+    ensures { IfOk result (λ v. AreDrawn types.now text.now cuts.now v.items) }
+{
+    let mut reads = Vec::new(alloc);
+    for _ in 1..cuts.len() {
+        let piece = next.fetch_add(1, Ordering::SeqCst);
+        if piece >= cuts.len() - 1 {
+            break;
+        }
+        let read = read_at(alloc, types, text, cuts, piece);
+        reads.push(read)?;
+    }
+    Ok(reads)
+}
+
+// So many pieces of which nothing is read.
+fn unread(alloc: Global, count: usize) -> Result<Vec<Option<Result<Table, LoadFault>>>, AllocError>
+    ensures len { IfOk result (λ v. vec_len v ≡ count) }
+    ensures none { IfOk result (λ v. All (λ p. p ≡ None) v.items) }
+{
+    let mut parts = Vec::new(alloc);
+    for _ in 0..count {
+        parts.push(None)?;
+    }
+    Ok(parts)
+}
+
+// Puts what a piece was read as where the piece stands, if it does.
+fn place(parts: &mut Vec<Option<Result<Table, LoadFault>>>, drawn: PieceRead)
+    ensures len { vec_len parts.new ≡ vec_len parts.old }
+    ensures there { drawn.piece < length parts.old.items → parts.new.items ≡ slice_set parts.old.items drawn.piece drawn.read }
+    ensures beyond { length parts.old.items ≤ drawn.piece → parts.new.items ≡ parts.old.items }
+{
+    let PieceRead { piece, read } = drawn;
+    if piece < parts.len() {
+        let _unread = mem::replace(&mut parts[piece], read);
+    }
+}
+
+// Puts what one thread read where its pieces stand.
+fn place_reads(parts: &mut Vec<Option<Result<Table, LoadFault>>>, reads: Vec<PieceRead>)
+    ensures len { vec_len parts.new ≡ vec_len parts.old }
+    ensures read { (types : List Kind) (text cuts : List ℕ) → AreDrawn types text cuts reads.items → ArePartsRead types text cuts parts.old.items → ArePartsRead types text cuts parts.new.items }
+{
+    for drawn in reads {
+        place(parts, drawn);
+    }
+}
+
+// What all threads read, in the order of the pieces.
+fn place_shares(
+    alloc: Global,
+    count: usize,
+    shares: Vec<Result<Vec<PieceRead>, AllocError>>,
+) -> Result<Vec<Option<Result<Table, LoadFault>>>, AllocError>
+    ensures len { IfOk result (λ v. vec_len v ≡ count) }
+    ensures read { IfOk result (λ v. (types : List Kind) (text cuts : List ℕ) → AreShared types text cuts shares.items → ArePartsRead types text cuts v.items) }
+{
+    let mut parts = unread(alloc, count)?;
+    for share in shares {
+        place_reads(&mut parts, share?);
+    }
+    Ok(parts)
+}
+
+// What each piece of a text is read as, by threads that draw one piece after the other.
 fn read_pieces<P: Threads + Sync>(
     rt: &P,
     alloc: Global,
+    threads: usize,
     types: &[ColType],
     text: &[u8],
     cuts: &[usize],
@@ -63,15 +160,17 @@ fn read_pieces<P: Threads + Sync>(
     ensures len { IfOk result (λ v. vec_len v ≡ length cuts.now - 1) }
     ensures each { IfOk result (λ v. (i : ℕ) (d : _) → i + 1 < length cuts.now → IsPieceRead types.now (piece_at text.now cuts.now i) (slice_index_or v.items i d)) }
 {
-    thread::map_indices(
+    let next = AtomicUsize::new(0);
+    let shares = thread::map_indices(
         rt,
         alloc,
-        cuts.len() - 1,
-        &|i: usize| -> Option<Result<Table, LoadFault>>
-            requires { (i + 1 < length cuts.now) × (slice_index cuts.now i ≤ slice_index cuts.now (i + 1)) × (slice_index cuts.now (i + 1) ≤ length text.now) }
-            ensures { IsPieceRead types.entry.now (piece_at text.entry.now cuts.entry.now i) result }
-        { read_unquoted(alloc, types, &text[cuts[i]..cuts[i + 1]]) },
-    )
+        threads,
+        &|_thread: usize| -> Result<Vec<PieceRead>, AllocError>
+            requires { AreCuts text.now cuts.now (length text.now) }
+            ensures { IfOk result (λ v. AreDrawn types.entry.now text.entry.now cuts.entry.now v.items) }
+        { read_drawn(alloc, types, text, cuts, &next) },
+    )?;
+    place_shares(alloc, cuts.len() - 1, shares)
 }
 
 /// The error of a piece with `n` rows before it: its row, if it has one, is shifted by `n`. It is `TooLarge` beyond the limit.
@@ -136,7 +235,7 @@ fn append_tables(alloc: Global, rows: &mut Rows, tables: Vec<Table>) -> Result<(
 }
 
 /// Adds the rows of `text` to `rows`, up to the first piece that has a quote, and returns how many bytes were read. The text is
-/// cut into `threads` pieces, and a thread of its own reads each.
+/// cut into some pieces for each of the `threads`, which draw them one after the other.
 pub fn read_round<P: Threads + Sync>(
     rt: &P,
     alloc: Global,
@@ -152,8 +251,9 @@ pub fn read_round<P: Threads + Sync>(
     ensures rows { IfOk result (λ n. AreLinesRead rows.old.types rows.old.rows text.now rows.new.rows (drop n text.now)) }
     ensures err { IfErr result (LinesFail rows.old.types rows.old.rows text.now) }
 {
-    let cuts = cuts_of(alloc, text, threads)?;
-    let parts = read_pieces(rt, alloc, rows.types(), text, cuts.as_slice())?;
+    let pieces = threads.saturating_mul(PIECES).max(1);
+    let cuts = cuts_of(alloc, text, pieces)?;
+    let parts = read_pieces(rt, alloc, threads, rows.types(), text, cuts.as_slice())?;
     let tables = tables_of(alloc, rows.len(), parts)?;
     let read = tables.len();
     append_tables(alloc, rows, tables)?;
