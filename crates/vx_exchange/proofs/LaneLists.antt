@@ -16,7 +16,7 @@ use Rattle.vx_plan_nodes.specs.Streams.{Streams}
 use Rattle.vx_ports.specs.Packets.{Content, PacketView, is_empty}
 use Rattle.vx_exchange_ends.specs.Ship.{Ship}
 use Rattle.vx_exchange.specs.LaneView.{Way, LaneView, empty_outlet, Cuts, CutsRest}
-use Rattle.vx_exchange.specs.Lanes.{IsLane, ways_of, any_closed, are_idle, first_way, ship_of, way_to, kind_of, serves, columns_of, may_close, AreNumbered, AreFresh, SameLanes, CutsEach, GivesPacket, GivesClosing}
+use Rattle.vx_exchange.specs.Lanes.{IsLane, ways_of, any_closed, are_idle, IdleBefore, ClosedBefore, first_way, ship_of, way_to, kind_of, serves, columns_of, may_close, AreNumbered, AreFresh, SameLanes, CutsEach, GivesPacket, GivesClosing}
 use Rattle.vx_exchange.specs.LaneLaws.{element_at, open_at}
 use Rattle.vx_exchange.specs.declared.deal.Deal.{Deal}
 use Rattle.vx_exchange.specs.declared.deal.Deal.TheVariants.{Route, Round, Broadcast, Gather, Concat}
@@ -144,6 +144,17 @@ closed-somewhere [] j o e c = absurd (none-some o e)
 closed-somewhere (x ∷ lanes) zero o e c = ap (λ (z : LaneView). z.closed || any_closed lanes) (same_Some x o e) ∙ ap (λ b. b || any_closed lanes) c
 closed-somewhere (x ∷ lanes) (suc j) o e c = ap (λ b. x.closed || b) (closed-somewhere lanes j o e c) ∙ or-right x.closed
 
+-- before the first lane there is none
+pub closed-first : (lanes : List LaneView) → ClosedBefore 0 lanes
+closed-first lanes = λ j o l. absurd (omega (arith, l))
+
+-- the same lanes have closed
+pub closed-same : (n : ℕ) (old new : List LaneView) → SameLanes old new → ClosedBefore n old → ClosedBefore n new
+closed-same n old new s h = λ j o l e.
+    let b = lane-before old new s j o e in
+    let f : LaneView → Bool = λ z. z.closed in
+    sym (same_Some b.0.closed o.closed (sym (read-map f old j b.0 b.1) ∙ ap (λ (bs : List Bool). slice_get bs j) (sym s.closings) ∙ read-map f new j o e)) ∙ h j b.0 l b.1
+
 -- where nothing waits
 none-waits : (ps : List PacketView) → is_empty ps ≡ true → ps ≡ []
 none-waits [] e = refl
@@ -171,6 +182,14 @@ all-idle lanes i = all-from_lanes (λ o. o.ready ≡ []) lanes (λ j o e. idle-l
 
 pub idle-from_all : (lanes : List LaneView) → All (λ o. o.ready ≡ []) lanes → are_idle lanes ≡ true
 idle-from_all lanes all = idle-from_lanes lanes (all-lanes (λ o. o.ready ≡ []) lanes all)
+
+-- then none waits before any lane
+pub idle-before : (n : ℕ) (lanes : List LaneView) → are_idle lanes ≡ true → IdleBefore n lanes
+idle-before n lanes i = λ j o l e. idle-lane lanes j o i e
+
+-- before the first lane there is none
+pub idle-first : (lanes : List LaneView) → IdleBefore 0 lanes
+idle-first lanes = λ j o l. absurd (omega (arith, l))
 
 -- lanes that were just made
 

@@ -80,6 +80,14 @@ any_closed lanes = list_any (λ b. b) (closings_of lanes)
 abbrev pub are_idle : List LaneView → Bool
 are_idle lanes = list_all (λ o. is_empty o.ready) lanes
 
+-- no packet of rows waits in the lanes before this one
+abbrev pub IdleBefore : ℕ → List LaneView → Type 0
+IdleBefore n lanes = (j : ℕ) (o : LaneView) → j < n → IsLane lanes j o → o.ready ≡ []
+
+-- each lane before this one returned its closing packet
+abbrev pub ClosedBefore : ℕ → List LaneView → Type 0
+ClosedBefore n lanes = (j : ℕ) (o : LaneView) → j < n → IsLane lanes j o → o.closed ≡ true
+
 -- the way of the first lane, which is that of all but for the consumer
 abbrev pub first_way : List Way → Way
 first_way [] = record { exchange = 0; place = 0; consumer = 0; types = []; size = 0 }

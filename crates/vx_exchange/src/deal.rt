@@ -1,12 +1,13 @@
 //! How rows are dealt to the consumers of an exchange, one kind after the other.
 
-ghost use Rattle.std.specs.Prelude.{◌≡◌, ◌<◌, ◌^◌, [], length, map, zip, slice_index_or, false, true, IfOk, OnOk};
+ghost use Rattle.std.specs.Prelude.{◌≡◌, ◌<◌, ◌≤◌, ◌^◌, [], length, map, zip, slice_index_or, slice_range, false, true, IfOk, OnOk};
 ghost use Rattle.std.specs.List.{All, flat_map};
 ghost use Rattle.vx_rows.specs.View.{row, AreColumns, ArePositions};
 ghost use Rattle.vx_plan_nodes.specs.Routes.{Routing};
 ghost use Rattle.vx_plan_nodes.specs.Streams.{bearing};
 ghost use Rattle.vx_exchange_ends.specs.Sending.{KindRoutesAs};
 ghost use Rattle.vx_exchange.specs.Routed.{key_columns, routed_to};
+ghost use Rattle.vx_exchange.specs.LaneView.{Cuts};
 ghost use Rattle.vx_exchange.specs.Lanes.{kind_of, serves, bounds_of, columns_of, in_turn, SameLanes, Deals, CutsEach};
 
 use crate::lane::Lane;
@@ -76,6 +77,29 @@ fn join_places(places: &[Vec<usize>], all: &mut Vec<usize>) -> Result<(), AllocE
     Ok(())
 }
 
+// Adds to a lane the rows of these from position `from` up to `to`. Nothing is done where there are none.
+fn add_part(
+    alloc: Global,
+    lane: &mut Lane,
+    rows: &Rows,
+    from: usize,
+    to: usize,
+) -> Result<(), AllocError>
+    requires ordered { from ≤ to }
+    requires there { to ≤ length rows.now.rows }
+    requires open { lane.old.closed ≡ false }
+    requires types { rows.now.types ≡ lane.old.way.types }
+    ensures ok { OnOk result (Cuts lane.old.way lane.old.current lane.old.ready (slice_range rows.now.rows from to) lane.new.current lane.new.ready) }
+    ensures way { lane.new.way ≡ lane.old.way }
+    ensures closed { lane.new.closed ≡ lane.old.closed }
+{
+    if from == to {
+        return Ok(());
+    }
+    let part = rows.slice(alloc, from, to)?;
+    lane.add(part)
+}
+
 // To each lane the rows at its places. The rows of all lanes are found at once, so that they share one list of positions.
 fn deal_places(
     alloc: Global,
@@ -96,8 +120,7 @@ fn deal_places(
     let mut from = 0;
     for consumer in 0..lanes.len() {
         let to = from + places[consumer].len();
-        let part = sorted.slice(alloc, from, to)?;
-        lanes[consumer].add(part)?;
+        add_part(alloc, &mut lanes[consumer], &sorted, from, to)?;
         from = to;
     }
     Ok(())

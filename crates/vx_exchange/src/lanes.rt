@@ -3,7 +3,7 @@
 ghost use Rattle.std.specs.Prelude.{◌≡◌, ◌≤◌, ◌<◌, ◌^◌, [], length, true, false, IfOk, OnOk, IfSome, IfNone};
 ghost use Rattle.std.specs.List.{All};
 ghost use Rattle.vx_ports.specs.Seen.{ending_content};
-ghost use Rattle.vx_exchange.specs.Lanes.{AreFresh, SameLanes, Finishes, GivesPacket, GivesClosing};
+ghost use Rattle.vx_exchange.specs.Lanes.{AreFresh, SameLanes, Finishes, GivesPacket, GivesClosing, IdleBefore, ClosedBefore};
 ghost use Rattle.vx_rows_values.specs.Limits.{max_packet_rows};
 
 use crate::lane::Lane;
@@ -57,33 +57,47 @@ pub fn clear_lanes(lanes: &mut Vec<Lane>)
     }
 }
 
-/// The next packet of rows that waits, of the first lane that has one.
-pub fn next_packet(lanes: &mut Vec<Lane>) -> Option<(u32, Packet)>
-    requires { length lanes.old.items < 2 ^ 32 }
+/// The next packet of rows that waits, of the first lane that has one. None waits in the lanes before the lane `first`: the search begins there.
+/// Afterwards `first` is the lane where it ended.
+pub fn next_packet(lanes: &mut Vec<Lane>, first: &mut usize) -> Option<(u32, Packet)>
+    requires few { length lanes.old.items < 2 ^ 32 }
+    requires before { IdleBefore first.old lanes.old.items }
     ensures some { IfSome result (λ x. GivesPacket lanes.old.items lanes.new.items x.0 x.1) }
     ensures none { IfNone result (All (λ o. o.ready ≡ []) lanes.old.items) }
     ensures same { IfNone result (lanes.new.items ≡ lanes.old.items) }
+    ensures before { IdleBefore first.new lanes.new.items }
 {
-    for consumer in 0..lanes.len() {
+    for consumer in *first..lanes.len() {
         if let Some(packet) = lanes[consumer].next_packet() {
+            *first = consumer;
             return Some((consumer as u32, packet));
         }
     }
+    *first = lanes.len();
     None
 }
 
-/// The closing packet of the first lane that has not returned it.
-pub fn close_next(lanes: &mut Vec<Lane>, ending: StreamEnd) -> Option<(u32, Packet)>
+/// The closing packet of the first lane that has not returned it. The lanes before the lane `first` have: the search begins there.
+/// Afterwards `first` is the lane where it ended.
+pub fn close_next(
+    lanes: &mut Vec<Lane>,
+    first: &mut usize,
+    ending: StreamEnd,
+) -> Option<(u32, Packet)>
     requires few { length lanes.old.items < 2 ^ 32 }
     requires idle { All (λ o. o.ready ≡ []) lanes.old.items }
+    requires before { ClosedBefore first.old lanes.old.items }
     ensures some { IfSome result (λ x. GivesClosing (ending_content ending) lanes.old.items lanes.new.items x.0 x.1) }
     ensures none { IfNone result (All (λ o. o.closed ≡ true) lanes.old.items) }
     ensures same { IfNone result (lanes.new.items ≡ lanes.old.items) }
+    ensures before { ClosedBefore first.new lanes.new.items }
 {
-    for consumer in 0..lanes.len() {
+    for consumer in *first..lanes.len() {
         if let Some(packet) = lanes[consumer].close(ending) {
+            *first = consumer;
             return Some((consumer as u32, packet));
         }
     }
+    *first = lanes.len();
     None
 }

@@ -2,7 +2,7 @@
 
 ghost use Rattle.std.specs.Prelude.{◌≡◌, ◌<◌, ◌^◌, length, true};
 ghost use Rattle.vx_rows.specs.View.{AreColumns};
-ghost use Rattle.vx_exchange.specs.Lanes.{AreNumbered, ways_of, ship_of, serves, columns_of, may_close, are_idle};
+ghost use Rattle.vx_exchange.specs.Lanes.{AreNumbered, ways_of, ship_of, serves, columns_of, may_close, are_idle, IdleBefore, ClosedBefore};
 ghost use Rattle.vx_rows_values.specs.Limits.{max_packet_rows};
 
 use crate::deal::{Deal, deal_rows};
@@ -32,12 +32,15 @@ pub enum SenderState {
 ///
 /// The sending end of an exchange at one of its producers (Graefe's exchange, its producer half). It deals the rows that come to its lanes,
 /// one for each consumer, and returns their packets; then Last for each consumer, or Fault. The rows of a round robin are counted from its
-/// first one on, over all calls: `next` is the consumer whose turn it is.
+/// first one on, over all calls: `next` is the consumer whose turn it is. No packet waits in the lanes before `first_waiting`, and those
+/// before `first_open` have returned their closing packets, so that no search for the next packet looks at them again.
 pub struct Sender {
     alloc: Global,
     lanes: Vec<Lane>,
     deal: Deal,
     next: u32,
+    first_waiting: usize,
+    first_open: usize,
     stage: SenderState,
     scratch: Scratch,
     ghost numbered: { AreNumbered deal (ways_of lanes.items) },
@@ -46,6 +49,8 @@ pub struct Sender {
     ghost turns: { next < length lanes.items },
     ghost columns: { AreColumns (length (ship_of deal (ways_of lanes.items)).types) (columns_of deal) },
     ghost idle: { may_close stage lanes.items ≡ true → are_idle lanes.items ≡ true },
+    ghost idle_before: { IdleBefore first_waiting lanes.items },
+    ghost closed_before: { ClosedBefore first_open lanes.items },
 }
 
 impl Drop for Sender {
@@ -55,6 +60,8 @@ impl Drop for Sender {
             lanes: _,
             deal: _,
             next: _,
+            first_waiting: _,
+            first_open: _,
             stage: _,
             scratch: _,
         } = self;
@@ -102,6 +109,8 @@ impl Sender {
             lanes,
             deal,
             next: 0,
+            first_waiting: 0,
+            first_open: 0,
             stage: SenderState::Open,
             scratch: Scratch::new(alloc),
         })
@@ -132,6 +141,7 @@ impl Sender {
         match polled {
             Polled::Gave(rows) => {
                 let count = rows.len();
+                self.first_waiting = 0;
                 deal_rows(
                     self.alloc,
                     &self.deal,
@@ -146,6 +156,7 @@ impl Sender {
             }
             Polled::Waiting => return Ok(()),
             Polled::End => {
+                self.first_waiting = 0;
                 finish_lanes(&mut self.lanes)?;
                 self.stage = SenderState::Ending;
                 return Ok(());
@@ -202,14 +213,16 @@ impl Sends for Sender {
 
     fn next(&mut self) -> Option<(u32, Packet)> {
         match self.stage {
-            SenderState::Open => return next_packet(&mut self.lanes),
+            SenderState::Open => return next_packet(&mut self.lanes, &mut self.first_waiting),
             SenderState::Ending => {
-                if let Some((to, packet)) = next_packet(&mut self.lanes) {
+                if let Some((to, packet)) = next_packet(&mut self.lanes, &mut self.first_waiting) {
                     return Some((to, packet));
                 }
-                return close_next(&mut self.lanes, StreamEnd::Last);
+                return close_next(&mut self.lanes, &mut self.first_open, StreamEnd::Last);
             }
-            SenderState::Failing => return close_next(&mut self.lanes, StreamEnd::Fault),
+            SenderState::Failing => {
+                return close_next(&mut self.lanes, &mut self.first_open, StreamEnd::Fault);
+            }
         }
     }
 }

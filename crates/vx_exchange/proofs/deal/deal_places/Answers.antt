@@ -39,8 +39,8 @@ overflow_add-to c =
     let small = all.small in
     omega (arith, within, are, at, c.len.ensures, v.ok.0, ok.0, ok.1, small)
 
-pub slice-requires-clause-there : goal.slice-requires-clause-there
-slice-requires-clause-there c =
+pub add_part-requires-clause-there : goal.add_part-requires-clause-there
+add_part-requires-clause-there c =
     let places = c.args.places.now in
     let k = c.loop-consumer.consumer in
     let v = c.index-places-consumer.result in
@@ -55,8 +55,8 @@ slice-requires-clause-there c =
     let at = c.loop-consumer.invariant.at in
     omega (arith, within, long, at, c.len.ensures, v.ok.0)
 
-pub add-requires-clause-types : goal.add-requires-clause-types
-add-requires-clause-types c =
+pub add_part-requires-clause-types : goal.add_part-requires-clause-types
+add_part-requires-clause-types c =
     let more : Streams = λ j. map (row c.args.rows.now) (get_or (lists c.args.places.now) j []) in
     let old = c.args.lanes.now.items in
     let items = c.loop-consumer.lanes.items in
@@ -66,10 +66,10 @@ add-requires-clause-types c =
     let test = c.loop-consumer-test.true in
     let end = c.len-consumer-end.ensures in
     let within : k < length items = omega (arith, many, test, end) in
-    c.in_ok-part.ensures.types ∙ c.in_ok-sorted.ensures.types ∙ all-lanes (λ z. c.args.rows.now.types ≡ z.way.types) old c.requires.types k o (next-was k more old items o within c.index_mut.ensures.value c.loop-consumer.invariant.cuts)
+    c.in_ok-sorted.ensures.types ∙ all-lanes (λ z. c.args.rows.now.types ≡ z.way.types) old c.requires.types k o (next-was k more old items o within c.index_mut.ensures.value c.loop-consumer.invariant.cuts)
 
-pub add-requires-clause-open : goal.add-requires-clause-open
-add-requires-clause-open c =
+pub add_part-requires-clause-open : goal.add_part-requires-clause-open
+add_part-requires-clause-open c =
     let more : Streams = λ j. map (row c.args.rows.now) (get_or (lists c.args.places.now) j []) in
     let old = c.args.lanes.now.items in
     let items = c.loop-consumer.lanes.items in
@@ -88,12 +88,12 @@ loop-consumer-preserved c =
     let items = c.loop-consumer.lanes.items in
     let k = c.loop-consumer.consumer in
     let o = c.index_mut.result.now in
-    let o' = c.add.new.self in
+    let o' = c.add_part.new.lane in
     let many = same-count old items c.loop-consumer.invariant.cuts.same in
     let test = c.loop-consumer-test.true in
     let end = c.len-consumer-end.ensures in
     let within : k < length items = omega (arith, many, test, end) in
-    let e = c.add.ensures in
+    let e = c.add_part.ensures in
     let P : List Row → Type 0 = λ rows. Cuts o.way o.current o.ready rows o'.current o'.ready in
     let places = c.args.places.now in
     let v = c.index-places-consumer.result in
@@ -104,23 +104,22 @@ loop-consumer-preserved c =
     let g = row c.args.rows.now in
     let n : c.len.result ≡ length v.items = omega (arith, c.len.ensures, v.ok.0) in
     let are : c.in_ok-sorted.sorted.rows ≡ map g (joined places) = c.in_ok-sorted.ensures.rows ∙ ap (map g) (c.as_slice.ensures.value ∙ c.in_ok-join_places.ensures) in
-    let part : c.in_ok-part.part.rows ≡ map g (get_or (lists places) k []) =
-    c.in_ok-part.ensures.rows
-    ∙ (ap (λ (rs : List Row). slice_range rs from (from + c.len.result)) are
+    let part : slice_range c.in_ok-sorted.sorted.rows from (from + c.len.result) ≡ map g (get_or (lists places) k []) =
+    ap (λ (rs : List Row). slice_range rs from (from + c.len.result)) are
     ∙ (ap (λ i. slice_range (map g (joined places)) i (i + c.len.result)) at
-    ∙ (ap (λ i. slice_range (map g (joined places)) (start k places) (start k places + i)) n ∙ part-rows g places k v near c.index-places-consumer.is))) in
+    ∙ (ap (λ i. slice_range (map g (joined places)) (start k places) (start k places + i)) n ∙ part-rows g places k v near c.index-places-consumer.is)) in
     let next = start-next places k v near c.index-places-consumer.is in
     record {
       at = omega (arith, next, at, n);
-      cuts = cuts-more k more old items o o' within c.index_mut.ensures.value e.way e.closed (subst P part c.in_ok-add.ensures.ok) c.loop-consumer.invariant.cuts;
+      cuts = cuts-more k more old items o o' within c.index_mut.ensures.value e.way e.closed (subst P part c.in_ok-add_part.ensures.ok) c.loop-consumer.invariant.cuts;
     }
 
-pub returns-in_err-add-clause-same : goal.returns-in_err-add-clause-same
-returns-in_err-add-clause-same c =
+pub returns-in_err-add_part-clause-same : goal.returns-in_err-add_part-clause-same
+returns-in_err-add_part-clause-same c =
     let old = c.args.lanes.now.items in
     let items = c.loop-consumer.lanes.items in
-    let e = c.add.ensures in
-    same-along old items _ c.loop-consumer.invariant.cuts.same (same-set items c.loop-consumer.consumer c.index_mut.result.now c.add.new.self c.index_mut.ensures.value e.way e.closed)
+    let e = c.add_part.ensures in
+    same-along old items _ c.loop-consumer.invariant.cuts.same (same-set items c.loop-consumer.consumer c.index_mut.result.now c.add_part.new.lane c.index_mut.ensures.value e.way e.closed)
 
 pub returns-clause-ok : goal.returns-clause-ok
 returns-clause-ok c =

@@ -1,5 +1,5 @@
 use Rattle.std.proofs.Common.{refl}
-use Rattle.vx_exchange.proofs.LaneLists.{same-count, numbered-same, served-same, few-same, turn-same, columns-same, idle-from_all}
+use Rattle.vx_exchange.proofs.LaneLists.{same-count, numbered-same, served-same, few-same, turn-same, columns-same, idle-from_all, idle-before, closed-same}
 use Rattle.vx_exchange.proofs.sender.Sender.fail.Goals as goal
 
 pub invariant_of-self : goal.invariant_of-self
@@ -16,4 +16,6 @@ invariant_of-self c =
       turns = turn-same s.next old new count s.turns;
       columns = columns-same s.deal s.deal old new refl same.ways s.columns;
       idle = λ _. idle-from_all new c.clear_lanes.ensures.idle;
+      idle_before = idle-before s.first_waiting new (idle-from_all new c.clear_lanes.ensures.idle);
+      closed_before = closed-same s.first_open old new same s.closed_before;
     }

@@ -6,7 +6,7 @@ use Rattle.vx_exchange_ends.specs.Ship.{Ship}
 use Rattle.vx_exchange.specs.Sender.{SenderAt}
 use Rattle.vx_exchange_ends.specs.Tasks.{sends_by_ship}
 use Rattle.vx_exchange.specs.declared.sender.SenderState.TheVariants.{Open}
-use Rattle.vx_exchange.proofs.LaneLists.{serves-some, fresh-ship, fresh-numbered, fresh-open}
+use Rattle.vx_exchange.proofs.LaneLists.{serves-some, fresh-ship, fresh-numbered, fresh-open, idle-first, closed-first}
 use Rattle.vx_exchange.proofs.Senders.{sender-fresh}
 use Rattle.vx_exchange.proofs.Held.{fresh-held}
 use Rattle.vx_exchange.proofs.sender.Sender.new.Goals as goal
@@ -28,6 +28,8 @@ invariant_of-result c =
       turns = subst T (sym f.count) (serves-some c.args.deal c.args.consumers c.requires.served);
       columns = subst C (sym (fresh-ship c.args.deal s lanes refl (serves-some c.args.deal c.args.consumers c.requires.served) f)) c.requires.columns;
       idle = λ e. absurd (true≢false (sym e ∙ fresh-open (way_to s) lanes f.each));
+      idle_before = idle-first lanes;
+      closed_before = closed-first lanes;
     }
 
 pub returns-clause-stands : goal.returns-clause-stands

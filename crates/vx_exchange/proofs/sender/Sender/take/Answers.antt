@@ -9,7 +9,7 @@ use Rattle.vx_exchange.specs.Lanes.{any_closed, kind_of, bounds_of}
 use Rattle.vx_exchange.specs.declared.sender.SenderState.TheVariants.{Open}
 use Rattle.vx_exchange.proofs.Held.{routes-so, deals-held, finishes-held}
 use Rattle.vx_exchange.specs.Sender.{sender_ship}
-use Rattle.vx_exchange.proofs.LaneLists.{same-ship, same-count, numbered-way, numbered-same, served-same, few-same, turn-same, columns-same, all-open, all-from_lanes, open-idle}
+use Rattle.vx_exchange.proofs.LaneLists.{same-ship, same-count, numbered-way, numbered-same, served-same, few-same, turn-same, columns-same, all-open, all-from_lanes, open-idle, idle-first, closed-same}
 use Rattle.vx_exchange.proofs.Senders.{opened, in-ship, sender-takes, sender-ends, sender-fails}
 use Rattle.vx_exchange.proofs.sender.Sender.take.Goals as goal
 
@@ -80,6 +80,8 @@ invariant_of-self g c =
       turns = turn-same s.next old new count s.turns;
       columns = columns-same s.deal s.deal old new refl same.ways s.columns;
       idle = open-idle s.stage old new is_open.0 is_open.1 same;
+      idle_before = idle-first new;
+      closed_before = closed-same s.first_open old new same s.closed_before;
     }
 
 pub invariant_of-self-in-Gave : goal.invariant_of-self-in-Gave
@@ -103,6 +105,8 @@ invariant_of-self-in-Gave g c =
       turns = omega (arith, below, turn, many);
       columns = columns-same s.deal s.deal old new refl same.ways s.columns;
       idle = open-idle s.stage old new is_open.0 is_open.1 same;
+      idle_before = idle-first new;
+      closed_before = closed-same s.first_open old new same s.closed_before;
     }
 
 pub invariant_of-self-in-Break-branch-2 : goal.invariant_of-self-in-Break-branch-2
@@ -120,6 +124,8 @@ invariant_of-self-in-Break-branch-2 g c =
       turns = turn-same s.next old new count s.turns;
       columns = columns-same s.deal s.deal old new refl same.ways s.columns;
       idle = open-idle s.stage old new is_open.0 is_open.1 same;
+      idle_before = idle-first new;
+      closed_before = closed-same s.first_open old new same s.closed_before;
     }
 
 pub invariant_of-self-in-End : goal.invariant_of-self-in-End
@@ -137,6 +143,8 @@ invariant_of-self-in-End g c =
       turns = turn-same s.next old new count s.turns;
       columns = columns-same s.deal s.deal old new refl same.ways s.columns;
       idle = open-idle Open old new refl is_open.1 same;
+      idle_before = idle-first new;
+      closed_before = closed-same s.first_open old new same s.closed_before;
     }
 
 pub returns-in-Gave-clause-held : goal.returns-in-Gave-clause-held

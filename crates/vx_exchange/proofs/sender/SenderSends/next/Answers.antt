@@ -4,12 +4,12 @@ use Rattle.std.proofs.lemmas.List.{length-map}
 use Rattle.std.proofs.lemmas.Option.{IfSome_then}
 use Rattle.vx_ports.specs.Packets.{PacketView, closes, last, fault}
 use Rattle.vx_exchange.specs.LaneView.{Way, LaneView}
-use Rattle.vx_exchange.specs.Lanes.{ways_of, ship_of, may_close, AreNumbered}
+use Rattle.vx_exchange.specs.Lanes.{ways_of, ship_of, may_close, AreNumbered, ClosedBefore}
 use Rattle.vx_exchange_ends.specs.Ship.{IsShipped, IsCutShort}
 use Rattle.vx_exchange.specs.Sender.{takes_more, SenderAt}
 use Rattle.vx_exchange_ends.specs.Tasks.{sends_by_ship}
 use Rattle.vx_exchange.specs.declared.sender.SenderState.{SenderState}
-use Rattle.vx_exchange.proofs.LaneLists.{ways-count, same-count, same-any, same-ship, numbered-same, served-same, few-same, turn-same, columns-same, all-idle, given-same, given-idle, gives-same, gives-idle, gives-unclosed, closed-ways, closed-idle, closes-somewhere}
+use Rattle.vx_exchange.proofs.LaneLists.{ways-count, same-count, same-any, same-ship, numbered-same, served-same, few-same, turn-same, columns-same, all-idle, given-same, given-idle, gives-same, gives-idle, gives-unclosed, closed-ways, closed-idle, closes-somewhere, idle-before, closed-same}
 use Rattle.vx_exchange_ends.specs.Queued.{IsTakenOut}
 use Rattle.vx_exchange.specs.Queued.{lanes_held, lanes_unclosed}
 use Rattle.vx_exchange.proofs.Held.{gives-taken, closes-taken}
@@ -35,6 +35,8 @@ invariant_of-self c =
       turns = turn-same s.next old new count s.turns;
       columns = columns-same s.deal s.deal old new refl same.ways s.columns;
       idle = given-idle s.stage old new c.next_packet.result (open-not_failing s.stage c.in-Open.is) s.idle e.some e.same;
+      idle_before = e.before;
+      closed_before = closed-same s.first_open old new same s.closed_before;
     }
 
 pub returns-in-Open-clause-some : goal.returns-in-Open-clause-some
@@ -80,6 +82,8 @@ invariant_of-self-in-Some-1 c =
       turns = turn-same s.next old new count s.turns;
       columns = columns-same s.deal s.deal old new refl same.ways s.columns;
       idle = gives-idle s.stage old new _ _ (ending-not_failing s.stage c.in-Ending.is) s.idle x;
+      idle_before = c.next_packet-in-Ending.ensures.before;
+      closed_before = closed-same s.first_open old new same s.closed_before;
     }
 
 pub returns-in-Some-clause-some : goal.returns-in-Some-clause-some
@@ -112,13 +116,16 @@ invariant_of-self-in-Ending c =
     let count = ways-count mid new w ∙ ap (λ (zs : List LaneView). length zs) k in
     let N : List Way → Type 0 = λ ws. AreNumbered s.deal ws in
     let I : List LaneView → Type 0 = λ zs. All (λ o. o.ready ≡ []) zs in
+    let idle = closed-idle last mid new c.close_next.result (subst I (sym k) c.in_default.ensures.none) e.some e.same in
     record {
       numbered = subst N (sym (w ∙ ap ways_of k)) s.numbered;
       served = served-same s.deal old new count s.served;
       few = few-same old new 4294967296 count s.few;
       turns = turn-same s.next old new count s.turns;
       columns = columns-same s.deal s.deal old new refl (w ∙ ap ways_of k) s.columns;
-      idle = λ _. closed-idle last mid new c.close_next.result (subst I (sym k) c.in_default.ensures.none) e.some e.same;
+      idle = λ _. idle;
+      idle_before = idle-before _ new idle;
+      closed_before = e.before;
     }
 
 pub returns-in-Ending-clause-some : goal.returns-in-Ending-clause-some
@@ -156,13 +163,16 @@ invariant_of-self-in-Failing c =
     let count = ways-count old new w in
     let N : List Way → Type 0 = λ ws. AreNumbered s.deal ws in
     let M : SenderState → Type 0 = λ st. may_close st old ≡ true in
+    let idle = closed-idle fault old new c.close_next-in-Failing.result (all-idle old (s.idle (subst M (sym c.in-Failing.is) refl))) e.some e.same in
     record {
       numbered = subst N (sym w) s.numbered;
       served = served-same s.deal old new count s.served;
       few = few-same old new 4294967296 count s.few;
       turns = turn-same s.next old new count s.turns;
       columns = columns-same s.deal s.deal old new refl w s.columns;
-      idle = λ _. closed-idle fault old new c.close_next-in-Failing.result (all-idle old (s.idle (subst M (sym c.in-Failing.is) refl))) e.some e.same;
+      idle = λ _. idle;
+      idle_before = idle-before s.first_waiting new idle;
+      closed_before = e.before;
     }
 
 pub returns-in-Failing-clause-some : goal.returns-in-Failing-clause-some
@@ -230,3 +240,9 @@ pub returns-in-Failing-clause-takes : goal.returns-in-Failing-clause-takes
 returns-in-Failing-clause-takes c =
     let s = c.args.self.now in
     IfSome_then c.close_next-in-Failing.result c.close_next-in-Failing.ensures.some (λ x p. closes-taken fault s.lanes.items c.close_next-in-Failing.new.lanes.items x.0 x.1 refl refl p)
+
+pub close_next-requires-clause-before : goal.close_next-requires-clause-before
+close_next-requires-clause-before c =
+    let s = c.args.self.now in
+    let P : List LaneView → Type 0 = λ zs. ClosedBefore s.first_open zs in
+    subst P (sym c.in_default.ensures.same) s.closed_before
