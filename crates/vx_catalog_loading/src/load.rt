@@ -105,9 +105,9 @@ pub fn load_in_shares<P: Threads + Sync, R: ByteIn>(
 /// Reads the rows of a relation of a catalog from all bytes of `reader`, in up to `threads` threads. It returns what
 /// `Loader::load` returns, which one thread calls.
 ///
-/// A text of less than 4 MB is read by one thread. A longer one is read by rounds of some megabytes, in which the longest line has
-/// room. In a round each thread reads a part of its lines into a table of their rows, while one reads the bytes of the next round. From
-/// the first part with a quote on one thread reads the rest, since a line feed within quotes ends no row.
+/// A text of less than 4 MB is read by one thread. A longer one is read by rounds of 4 MB a thread or more, in which the longest line has
+/// room. In a round threads draw pieces of its lines and read each into a table of its rows, while one reads the bytes of the next round.
+/// From the first piece with a quote on one thread reads the rest, since a line feed within quotes ends no row.
 pub fn load_in_threads<P: Threads + Sync, R: ByteIn>(
     rt: &P,
     alloc: Global,
