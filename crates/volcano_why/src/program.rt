@@ -30,9 +30,10 @@ Example: `--data d`, and the folder d has no file `t.csv`.
 "#;
 
 const V4: &str = r#"V4 WriteFailed
-What happened: standard output failed. In a pipe that nobody reads any more, as in `./volcano gen .. | head`, that is no
-fault: no line is printed, and the status is 4.
-Usual cause, and cure: a full disk.
+What happened: standard output failed; or the file of `-o` could not be made, written or put in its place, and then what
+stood there still stands. In a pipe that nobody reads any more, as in `./volcano gen .. | head`, that is no fault: no
+line is printed, and the status is 4.
+Usual cause, and cure: a full disk, or with `-o` a folder that is not there or that may not be written.
 Example: `./volcano run .. > /dev/full`.
 "#;
 
