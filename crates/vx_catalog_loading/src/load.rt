@@ -17,8 +17,8 @@ use vx_catalog_relations::{Catalog, Relation};
 use vx_rows_values::limits::MAX_THREADS;
 use vx_rows_views::Rows;
 
-// How many bytes each thread gets in a round.
-const BLOCK: usize = 4 << 20;
+// How many bytes a round has, for all threads together. In longer rounds threads wait less for each other, and more bytes are held.
+const ROUND: usize = 16 << 20;
 
 // A text of fewer bytes is read by one thread, since starting threads costs more than they save.
 const LEAST: usize = 4 << 20;
@@ -105,8 +105,8 @@ pub fn load_in_shares<P: Threads + Sync, R: ByteIn>(
 /// Reads the rows of a relation of a catalog from all bytes of `reader`, in up to `threads` threads. It returns what
 /// `Loader::load` returns, which one thread calls.
 ///
-/// A text of less than 4 MB is read by one thread. A longer one is read by rounds of 4 MB a thread or more, in which the longest line has
-/// room. In a round threads draw pieces of its lines and read each into a table of its rows, while one reads the bytes of the next round.
+/// A text of less than 4 MB is read by one thread. A longer one is read by rounds of 16 MB or more, in which the longest line has room.
+/// In a round threads draw pieces of its lines and read each into a table of its rows, while one reads the bytes of the next round.
 /// From the first piece with a quote on one thread reads the rest, since a line feed within quotes ends no row.
 pub fn load_in_threads<P: Threads + Sync, R: ByteIn>(
     rt: &P,
@@ -133,9 +133,10 @@ pub fn load_in_threads<P: Threads + Sync, R: ByteIn>(
     if threads < 2 {
         return Loader::load(alloc, catalog, relation, reader);
     }
+    let threads = threads.min(MAX_THREADS);
     let shares = ReadShares {
-        threads: threads.min(MAX_THREADS),
-        block: BLOCK,
+        threads,
+        block: ROUND / threads,
         least: LEAST,
     };
     load_in_shares(rt, alloc, catalog, relation, shares, reader)
