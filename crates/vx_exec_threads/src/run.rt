@@ -39,8 +39,9 @@ pub struct WorkerPlace {
     pub place: u32,
 }
 
-// How many times a worker that cannot move leaves the processor to other threads before it sleeps.
-const YIELDS: usize = 16;
+// How many steps more a worker that cannot move takes before it sleeps. It yields between none of them: where all processors are busy with
+// other work, each yield would cost a slice of their time.
+const LOOKS: usize = 16;
 
 /// Holds up no one.
 #[derive(Clone, Copy)]
@@ -62,7 +63,7 @@ fn moved_or_waiting(moved: bool) -> StepOutcome
 }
 
 // Rests a worker after a step that did not move, as `waited` steps in a row before it did not, and returns how many these
-// are from now on. It leaves the processor to other threads at first. Then it takes one more step for each producer,
+// are from now on. It takes some steps more at first. Then it takes one more for each producer,
 // since a step may look at one of them only. If none of these moved, the worker can go on only after a partner has put a
 // packet or made room, and sleeps until then: a partner that did so since the first of these steps has left a token, with
 // which the worker does not sleep, or will wake it after some more packets, at the latest before it waits or ends.
@@ -74,16 +75,12 @@ fn rest<T: Wait>(
     waited: usize,
 ) -> usize
     ensures moved { stepped ≡ StepOutcome.Moved → result ≡ 0 }
-    ensures again { result ≡ 0 → (stepped ≡ StepOutcome.Moved) ⊎ (YIELDS + inlets < waited) }
+    ensures again { result ≡ 0 → (stepped ≡ StepOutcome.Moved) ⊎ (LOOKS + inlets < waited) }
 {
     if matches!(stepped, StepOutcome::Moved) {
         return 0;
     }
-    if waited < YIELDS {
-        thread::yield_now();
-        return waited.saturating_add(1);
-    }
-    if waited.saturating_sub(YIELDS) <= inlets {
+    if waited.saturating_sub(LOOKS) <= inlets {
         return waited.saturating_add(1);
     }
     match parker {
