@@ -15,6 +15,10 @@ pub struct Bench {
     pub packet: u32,
     pub morsel: u32,
     pub slack: u32,
+    /// How often each call is made.
+    pub repeats: u64,
+    /// The queries that are measured, and nothing else: bit N for query N. Where there is none, all is measured.
+    pub only: u32,
     pub with_times: bool,
 }
 
@@ -63,8 +67,33 @@ impl Bench {
         Ok(())
     }
 
+    // Takes the numbers of the queries that alone are measured, as in `3,10`.
+    fn choose(&mut self, numbers: &str) -> Result<(), Error> {
+        for number in numbers.split(',') {
+            let bit = 1u32.checked_shl(number.parse::<u32>()?).unwrap_or(0);
+            self.only |= bit;
+        }
+        Ok(())
+    }
+
+    // Takes an argument: `agree`, `only=3,10`, `repeats=3`, or the number at this place. Returns whether it was a number.
+    fn take(&mut self, place: usize, word: &str) -> Result<bool, Error> {
+        if word == "agree" {
+            self.with_times = false;
+            self.repeats = 1;
+        } else if let Some(numbers) = word.strip_prefix("only=") {
+            self.choose(numbers)?;
+        } else if let Some(count) = word.strip_prefix("repeats=") {
+            self.repeats = count.parse::<u64>()?;
+        } else {
+            self.set(place, word)?;
+            return Ok(true);
+        }
+        Ok(false)
+    }
+
     /// What the arguments ask for: a number of rows, of the rows of a packet and of a morsel, of packets that a producer may
-    /// run ahead, and `agree` for no times.
+    /// run ahead; `only` and `repeats`; and `agree` for no times.
     pub fn asked<R: Env + Alloc>(rt: &R, alloc: Global) -> Result<Bench, Error> {
         let mut bench = Bench {
             alloc,
@@ -72,24 +101,22 @@ impl Bench {
             packet: 256,
             morsel: 1024,
             slack: 8,
+            repeats: 11,
+            only: 0,
             with_times: true,
         };
         let mut place = 0usize;
         for word in env::args(rt)?.skip(1) {
-            if word.as_str() == "agree" {
-                bench.with_times = false;
-            } else {
-                bench.set(place, word.as_str())?;
+            if bench.take(place, word.as_str())? {
                 place = place.saturating_add(1);
             }
         }
         Ok(bench)
     }
 
-    /// How often each call is made. The least of its times is shown: on a machine whose processors are shared with others, that is what it takes
-    /// when they are left to it.
-    pub fn repeats(self) -> u64 {
-        if self.with_times { 11 } else { 1 }
+    /// Whether this query is measured.
+    pub fn wants(self, query: u32) -> bool {
+        self.only == 0 || self.only.checked_shr(query).unwrap_or(0) % 2 == 1
     }
 
     /// Shows the head of the table.

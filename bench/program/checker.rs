@@ -94,7 +94,7 @@ impl Bench {
         let plan = Plan::read(self.alloc, plan.as_bytes())?;
         let mut nanos = None;
         let mut found = "refused";
-        for _ in 0..self.repeats() {
+        for _ in 0..self.repeats {
             let typed = resolve(self.alloc, &plan, &catalog)?;
             let start = Instant::now(rt)?;
             let answer = check(self.alloc, typed);

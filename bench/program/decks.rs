@@ -97,7 +97,7 @@ impl Bench {
         seats: u32,
     ) -> Result<Option<u64>, Error> {
         let mut nanos = None;
-        for _ in 0..self.repeats() {
+        for _ in 0..self.repeats {
             nanos = least(nanos, self.deal(rt, numbers, seats)?);
         }
         Ok(nanos)

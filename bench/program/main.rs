@@ -4,7 +4,8 @@
 //!
 //! Its arguments are the number of rows of the two largest relations, 1,000,000 where none is said, those of a packet and of
 //! a morsel, 256 and 1,024 by default, and how many packets a producer may run ahead, 8 by default. With the argument
-//! `agree` it shows no times, but what is the same in each run. It fails where two ways give different rows, a
+//! `agree` it shows no times, but what is the same in each run; with `only=3,10` it measures these queries and the loading alone, and with
+//! `repeats=3` it makes each call so often (11 times by default). It fails where two ways give different rows, a
 //! ring other packets than were put, or a deck a number not once.
 #![tactic(auto)]
 
@@ -29,11 +30,16 @@ fn main(rt: HostRuntime) -> Result<(), Error> {
     bench.show_head(&rt)?;
     let database = bench.measure_loading(&rt)?;
     let tenk1 = table_of(bench.alloc, &database, TENK1)?;
-    bench.measure_key(&rt, &tenk1, "key unique1", 0)?;
-    bench.measure_key(&rt, &tenk1, "key stringu1", 13)?;
-    bench.measure_writing(&rt, &database)?;
+    if bench.only == 0 {
+        bench.measure_key(&rt, &tenk1, "key unique1", 0)?;
+        bench.measure_key(&rt, &tenk1, "key stringu1", 13)?;
+        bench.measure_writing(&rt, &database)?;
+    }
     let columns = Columns::of(bench.alloc, &database, &tenk1)?;
     bench.measure_queries(&rt, &database, &columns)?;
+    if bench.only != 0 {
+        return bench.measure_processors(&rt);
+    }
     bench.measure_checker(&rt)?;
     bench.measure_ring(&rt)?;
     bench.measure_deck(&rt)?;

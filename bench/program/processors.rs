@@ -60,7 +60,7 @@ impl Bench {
         threads: usize,
     ) -> Result<Option<u64>, Error> {
         let mut nanos = None;
-        for _ in 0..self.repeats() {
+        for _ in 0..self.repeats {
             nanos = least(nanos, self.loop_in(rt, steps, threads)?);
         }
         Ok(nanos)

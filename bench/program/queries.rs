@@ -267,7 +267,7 @@ impl Bench {
         wanted: Digest,
     ) -> Result<Option<u64>, Error> {
         let mut nanos = None;
-        for _ in 0..self.repeats() {
+        for _ in 0..self.repeats {
             let (digest, took) = query.once(rt, self.alloc, way)?;
             if !digest.agrees(wanted, query.plan.is_total()) {
                 let name = query.subject.name(self.alloc)?;
@@ -333,9 +333,8 @@ impl Bench {
         )
     }
 
-    /// Selections of a hundredth and of all of tenk1, functions, and the queries of the benchmark. It fails where one way gives
-    /// other rows.
-    pub fn measure_queries<R: Print + Clock + Threads + Wait + Sync>(
+    // Selections of a hundredth and of all of tenk1, and functions.
+    fn measure_selections<R: Print + Clock + Threads + Wait + Sync>(
         self,
         rt: &R,
         database: &Database,
@@ -346,9 +345,24 @@ impl Bench {
         self.measure_query(rt, database, columns, Subject::Compared(self.rows / 100))?;
         self.measure_query(rt, database, columns, Subject::Compared(self.rows))?;
         self.measure_query(rt, database, columns, Subject::Sums)?;
-        self.measure_query(rt, database, columns, Subject::Starting)?;
+        self.measure_query(rt, database, columns, Subject::Starting)
+    }
+
+    /// Selections of a hundredth and of all of tenk1, functions, and the queries of the benchmark; or those queries alone that were asked for. It
+    /// fails where one way gives other rows.
+    pub fn measure_queries<R: Print + Clock + Threads + Wait + Sync>(
+        self,
+        rt: &R,
+        database: &Database,
+        columns: &Columns<'_>,
+    ) -> Result<(), Error> {
+        if self.only == 0 {
+            self.measure_selections(rt, database, columns)?;
+        }
         for number in 1..14 {
-            self.measure_query(rt, database, columns, Subject::Query(number))?;
+            if self.wants(number) {
+                self.measure_query(rt, database, columns, Subject::Query(number))?;
+            }
         }
         Ok(())
     }

@@ -199,7 +199,7 @@ impl Bench {
         ends: Ends,
     ) -> Result<Option<u64>, Error> {
         let mut nanos = None;
-        for _ in 0..self.repeats() {
+        for _ in 0..self.repeats {
             nanos = least(nanos, self.pass(rt, base, count, ends)?);
         }
         Ok(nanos)
