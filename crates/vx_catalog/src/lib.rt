@@ -16,7 +16,7 @@ pub use database::Database;
 pub use fault::{LoadFault, WriteFault};
 pub use folder::path_in;
 pub use loader::{Loaded, Loader, read_text, test_rows, texts_are_loaded_exactly};
-pub use record::{is_header, next_record, read_rows};
+pub use record::{is_header, next_record, read_rows, read_sized_rows};
 pub use vx_catalog_relations::{
     Catalog, CatalogFault, Relation, catalogs_are_read_exactly, find_name,
 };

@@ -16,13 +16,16 @@ ghost use Rattle.vx_rows_values.specs.Limits.{max_rows};
 use crate::fault::LoadFault;
 use crate::number::number_of;
 use csv::{ByteRecord, Reader};
-use std::alloc::Global;
+use std::alloc::{AllocError, Global};
 use std::io::Read;
 use std::str;
 use std::str::Utf8Error;
 use vx_rows::{OpenRows, Table};
 use vx_rows_values::limits::MAX_ROWS;
 use vx_rows_values::{Cell, ColType};
+
+// How many rows are read before room is reserved for the rest of a text.
+const SAMPLE: usize = 32;
 
 // A field as a text, if it is UTF-8. Most texts are ASCII, which is tested faster.
 #[tactic(auto, using(crate::proofs::RowFacts::ascii_is_utf8))]
@@ -121,6 +124,38 @@ fn push_record(rows: &mut OpenRows, line: &ByteRecord) -> Result<(), LoadFault>
     Ok(())
 }
 
+// Reserves room for the rest of a text of `size` bytes, of which `read` were read: it takes as much for each byte as the rows so far, and
+// a little more.
+fn reserve_rest(rows: &mut OpenRows, read: u64, size: usize) -> Result<(), AllocError>
+    ensures { rows.new ≡ rows.old }
+{
+    let left = (size as u64).saturating_sub(read);
+    if left == 0 {
+        return Ok(());
+    }
+    let times = left.saturating_add(left / 64) / read.max(1);
+    rows.reserve_times((times as usize).saturating_add(1))
+}
+
+// Adds the row of a record of a text of `size` bytes, of which `read` were read. Room for the rest is reserved once there are some rows.
+fn push_sized_record(
+    rows: &mut OpenRows,
+    line: &ByteRecord,
+    read: u64,
+    size: usize,
+) -> Result<(), LoadFault>
+    requires { rows.old.front ≡ [] }
+    ensures types { rows.new.types ≡ rows.old.types }
+    ensures front { OnOk result (rows.new.front ≡ []) }
+    ensures rows { Gives (λ _. rows.new.rows) result (row_added rows.old.types rows.old.rows (fields_of line.now)) }
+{
+    push_record(rows, line)?;
+    if rows.len() == SAMPLE {
+        reserve_rest(rows, read, size)?;
+    }
+    Ok(())
+}
+
 /// Reads the next record, if there is one. An error may be of the source underneath, which its owner asks.
 pub fn next_record<S: Read>(
     reader: &mut Reader<S>,
@@ -151,13 +186,33 @@ pub fn read_rows<S: Read>(
     ensures known { (result ≡ Err LoadFault.NoMemory) ⊎ StaysKnown (source_of S.remaining reader.old) (source_of S.remaining reader.new) }
     ensures own { IfErr result (λ e. e ≢ LoadFault.ReadFailed) }
 {
+    read_sized_rows(alloc, types, reader, 0)
+}
+
+/// `read_rows`, where the reader has yet to begin a text of about `size` bytes, so that room for all rows is reserved early. The rows
+/// take no more memory than they need.
+pub fn read_sized_rows<S: Read>(
+    alloc: Global,
+    types: &[ColType],
+    reader: &mut Reader<S>,
+    size: usize,
+) -> Result<Table, LoadFault>
+    requires { IsPlain reader.old }
+    ensures types { IfOk result (λ r. r.types ≡ types.now) }
+    ensures fit { IfOk result (λ r. AllByRecursion (Fits r.types) r.rows) }
+    ensures rows { IfSome (rest_of S.remaining reader.old) (λ records. Gives (λ r. r.rows) result (rows_onto types.now [] records)) }
+    ensures few { IfOk result (λ r. length r.rows ≤ max_rows) }
+    ensures known { (result ≡ Err LoadFault.NoMemory) ⊎ StaysKnown (source_of S.remaining reader.old) (source_of S.remaining reader.new) }
+    ensures own { IfErr result (λ e. e ≢ LoadFault.ReadFailed) }
+{
     let mut rows = OpenRows::new(alloc, types)?;
     let mut line = ByteRecord::new(alloc);
     for _ in 0..MAX_ROWS + 1 {
         if !next_record(reader, &mut line)? {
+            rows.shrink();
             return Ok(rows.into_rows());
         }
-        push_record(&mut rows, &line)?;
+        push_sized_record(&mut rows, &line, reader.position().byte, size)?;
     }
     unreachable!()
 }

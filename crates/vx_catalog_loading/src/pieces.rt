@@ -15,7 +15,7 @@ use std::alloc::{AllocError, Global};
 use std::sync::atomic::{AtomicUsize, Ordering};
 use std::thread::Threads;
 use std::{mem, thread};
-use vx_catalog::{LoadFault, read_rows};
+use vx_catalog::{LoadFault, read_sized_rows};
 use vx_rows::Table;
 use vx_rows_values::ColType;
 use vx_rows_values::limits::MAX_ROWS;
@@ -42,7 +42,7 @@ pub fn read_piece(alloc: Global, types: &[ColType], piece: &[u8]) -> Result<Tabl
         .has_headers(false)
         .flexible(true)
         .from_reader(alloc, piece);
-    read_rows(alloc, types, &mut reader)
+    read_sized_rows(alloc, types, &mut reader, piece.len())
 }
 
 // What a piece is read as; none if it has a quote, since then it may end within a field.

@@ -93,6 +93,7 @@ impl Column {
     }
 
     /// Leaves the first `at` values, and adds one.
+    #[inline(always)]
     pub fn put(&mut self, at: usize, cell: Cell<'_>) -> Result<(), AllocError>
         requires room { at ≤ size self.old }
         requires kind { type_of (cell_val cell) ≡ column_type self.old }
@@ -175,6 +176,26 @@ impl Column {
                 v.reserve(additional)
             }
             Column::Text(t) => t.reserve(additional),
+        }
+    }
+
+    /// Reserves room for `times` times as many more values as there are.
+    pub fn reserve_times(&mut self, times: usize) -> Result<(), AllocError>
+        ensures { self.new ≡ self.old }
+    {
+        match self {
+            Column::Int(v) => v.reserve(v.len().saturating_mul(times)),
+            Column::Text(t) => t.reserve_times(times),
+        }
+    }
+
+    /// Gives back the memory in which no value lies.
+    pub fn shrink(&mut self)
+        ensures { self.new ≡ self.old }
+    {
+        match self {
+            Column::Int(v) => v.shrink(),
+            Column::Text(t) => t.shrink(),
         }
     }
 }

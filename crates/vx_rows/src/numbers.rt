@@ -184,7 +184,18 @@ impl NumberWidth {
         }
     }
 
+    // Gives back the memory in which no number lies.
+    fn shrink(&mut self)
+        ensures { kept_numbers self.new ≡ kept_numbers self.old }
+    {
+        match self {
+            NumberWidth::Narrow(v) => v.shrink_to_fit(),
+            NumberWidth::Wide(v) => v.shrink_to_fit(),
+        }
+    }
+
     // Adds a number.
+    #[inline(always)]
     fn push(&mut self, n: i64) -> Result<(), AllocError>
         ensures ok { OnOk result (kept_numbers self.new ≡ kept_numbers self.old ++ n ∷ []) }
         ensures err { OnErr result (kept_numbers self.new ≡ kept_numbers self.old) }
@@ -313,7 +324,15 @@ impl Numbers {
         self.width.reserve(additional)
     }
 
+    /// Gives back the memory in which no number lies.
+    pub(crate) fn shrink(&mut self)
+        ensures { self.new ≡ self.old }
+    {
+        self.width.shrink();
+    }
+
     /// Adds a number.
+    #[inline(always)]
     pub(crate) fn push(&mut self, n: i64) -> Result<(), AllocError>
         ensures ok { OnOk result (self.new ≡ self.old ++ n ∷ []) }
         ensures err { OnErr result (self.new ≡ self.old) }

@@ -7,7 +7,7 @@ ghost use Rattle.vx_rows_values.specs.Types.{type_of, type_at, Fits};
 
 use crate::column::Column;
 use crate::table::Table;
-use crate::writes::{empty_columns, put_cell};
+use crate::writes::{empty_columns, put_cell, reserve_times, shrink_columns};
 use std::alloc::{AllocError, Global};
 use std::marker::Model;
 use vx_rows_values::{Cell, ColType};
@@ -67,6 +67,7 @@ impl OpenRows {
     }
 
     /// Adds a value to the row that is being filled. After an `Err` nothing has changed.
+    #[inline(always)]
     pub fn push_cell(&mut self, cell: Cell<'_>) -> Result<(), AllocError>
         requires room { length self.old.front < length self.old.types }
         requires kind { type_of (cell_val cell) ≡ type_at self.old.types (length self.old.front) }
@@ -95,6 +96,20 @@ impl OpenRows {
         self.count = count;
         self.filled = 0;
         Ok(())
+    }
+
+    /// Reserves room for `times` times as many more rows as there are, whose texts are as long.
+    pub fn reserve_times(&mut self, times: usize) -> Result<(), AllocError>
+        ensures { self.new ≡ self.old }
+    {
+        reserve_times(&mut self.columns, times)
+    }
+
+    /// Gives back the memory in which no value lies.
+    pub fn shrink(&mut self)
+        ensures { self.new ≡ self.old }
+    {
+        shrink_columns(&mut self.columns);
     }
 
     /// The whole rows. A row that was not ended is dropped.

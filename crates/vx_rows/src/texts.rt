@@ -231,4 +231,20 @@ impl Texts {
     {
         self.cuts.reserve(additional)
     }
+
+    /// Reserves room for `times` times as many more texts as there are, and `times` times their bytes.
+    pub(crate) fn reserve_times(&mut self, times: usize) -> Result<(), AllocError>
+        ensures { self.new ≡ self.old }
+    {
+        self.cuts.reserve(self.cuts.len().saturating_mul(times))?;
+        self.bytes.reserve(self.bytes.len().saturating_mul(times))
+    }
+
+    /// Gives back the memory in which no text lies.
+    pub(crate) fn shrink(&mut self)
+        ensures { self.new ≡ self.old }
+    {
+        self.bytes.shrink_to_fit();
+        self.cuts.shrink_to_fit();
+    }
 }

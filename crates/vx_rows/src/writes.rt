@@ -13,6 +13,7 @@ use std::alloc::{AllocError, Global};
 use vx_rows_values::{Cell, ColType, Value};
 
 /// Puts a value into a column, past the first `at` rows.
+#[inline(always)]
 pub fn put_cell(
     columns: &mut Vec<Column>,
     j: usize,
@@ -176,6 +177,47 @@ pub fn reserve_rows(
         reserve_part(columns, j, at, additional)?;
     }
     Ok(())
+}
+
+// Reserves room in column `j` for `times` times as many more values as it has.
+fn reserve_part_times(
+    columns: &mut Vec<Column>,
+    j: usize,
+    times: usize,
+) -> Result<(), AllocError>
+    requires { j < length columns.old.items }
+    ensures { columns.new.items ≡ columns.old.items }
+{
+    let column = &mut columns[j];
+    column.reserve_times(times)
+}
+
+/// Reserves room in each column for `times` times as many more values as it has.
+pub fn reserve_times(columns: &mut Vec<Column>, times: usize) -> Result<(), AllocError>
+    ensures { columns.new.items ≡ columns.old.items }
+{
+    for j in 0..columns.len() {
+        reserve_part_times(columns, j, times)?;
+    }
+    Ok(())
+}
+
+// Gives back the memory of column `j` in which no value lies.
+fn shrink_part(columns: &mut Vec<Column>, j: usize)
+    requires { j < length columns.old.items }
+    ensures { columns.new.items ≡ columns.old.items }
+{
+    let column = &mut columns[j];
+    column.shrink();
+}
+
+/// Gives back the memory of columns in which no value lies.
+pub fn shrink_columns(columns: &mut Vec<Column>)
+    ensures { columns.new.items ≡ columns.old.items }
+{
+    for j in 0..columns.len() {
+        shrink_part(columns, j);
+    }
 }
 
 /// Columns of these types, with no values.

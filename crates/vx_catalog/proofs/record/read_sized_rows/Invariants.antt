@@ -3,7 +3,7 @@ use Rattle.csv.specs.Reading.{source_of}
 use Rattle.vx_catalog.specs.Counting.{StaysKnown}
 use Rattle.vx_catalog.specs.Records.{IsPlain, rest_of}
 use Rattle.vx_catalog.proofs.RowsReported.{RowsSoFar}
-use Rattle.vx_catalog.proofs.record.read_rows.Given as goal
+use Rattle.vx_catalog.proofs.record.read_sized_rows.Given as goal
 use Rattle.vx_rows_values.specs.Limits.{max_rows}
 
 abbrev pub invariant-loop : goal.invariant-loop
