@@ -21,10 +21,6 @@ use vx_rows_values::ColType;
 use vx_rows_values::limits::MAX_ROWS;
 use vx_rows_views::Rows;
 
-// How many pieces there are in a round for each thread. With more of them no thread waits long for the last one, and with fewer there are fewer
-// tables.
-const PIECES: usize = 4;
-
 /// Whether bytes have no quote.
 pub fn is_unquoted(bytes: &[u8]) -> bool
     ensures { result ≡ is_unquoted bytes.now }
@@ -235,7 +231,7 @@ fn append_tables(alloc: Global, rows: &mut Rows, tables: Vec<Table>) -> Result<(
 }
 
 /// Adds the rows of `text` to `rows`, up to the first piece that has a quote, and returns how many bytes were read. The text is
-/// cut into some pieces for each of the `threads`, which draw them one after the other.
+/// cut into pieces, which the `threads` draw one after the other.
 pub fn read_round<P: Threads + Sync>(
     rt: &P,
     alloc: Global,
@@ -251,8 +247,7 @@ pub fn read_round<P: Threads + Sync>(
     ensures rows { IfOk result (λ n. AreLinesRead rows.old.types rows.old.rows text.now rows.new.rows (drop n text.now)) }
     ensures err { IfErr result (LinesFail rows.old.types rows.old.rows text.now) }
 {
-    let pieces = threads.saturating_mul(PIECES).max(1);
-    let cuts = cuts_of(alloc, text, pieces)?;
+    let cuts = cuts_of(alloc, text, threads)?;
     let parts = read_pieces(rt, alloc, threads, rows.types(), text, cuts.as_slice())?;
     let tables = tables_of(alloc, rows.len(), parts)?;
     let read = tables.len();

@@ -180,11 +180,7 @@ pub fn reserve_rows(
 }
 
 // Reserves room in column `j` for `times` times as many more values as it has.
-fn reserve_part_times(
-    columns: &mut Vec<Column>,
-    j: usize,
-    times: usize,
-) -> Result<(), AllocError>
+fn reserve_part_times(columns: &mut Vec<Column>, j: usize, times: usize) -> Result<(), AllocError>
     requires { j < length columns.old.items }
     ensures { columns.new.items ≡ columns.old.items }
 {
