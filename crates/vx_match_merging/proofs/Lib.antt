@@ -5,3 +5,4 @@ pub mod MergeTurns
 pub mod MergeCalls
 pub mod BesideFacts
 pub mod GoesOn
+pub mod NumberTurns

@@ -1,3 +1,4 @@
 pub mod Merged
 pub mod AtHand
 pub mod Keys
+pub mod Numbers

@@ -3,6 +3,7 @@
 
 mod key_run;
 mod merging;
+mod numbers;
 mod side_by_side;
 
 pub use merging::{MergeFault, MergeNeed, MergeRows, merge_join};

@@ -1,6 +1,6 @@
 //! The merge join: inputs that are in order on their columns are gone through once, side by side (Blasgen and Eswaran, 1977).
 
-ghost use Rattle.std.specs.Prelude.{◌≡◌, ◌<◌, ◌≤◌, ◌+◌, ◌++◌, ◌&&◌, [], ℕ, List, length, map, cond, true, false, OnOk, IfOk, IfErr};
+ghost use Rattle.std.specs.Prelude.{◌≡◌, ◌⊎◌, ◌<◌, ◌≤◌, ◌+◌, ◌++◌, ◌&&◌, [], ℕ, List, length, map, cond, true, false, OnOk, IfOk, IfErr};
 ghost use Rattle.std.specs.Ordering.{is_lt, is_le};
 ghost use Rattle.vx_rows_values.specs.Values.{Row as Cells};
 ghost use Rattle.vx_rows_values.specs.Order.{order_columns, sorted};
@@ -13,6 +13,7 @@ ghost use Rattle.vx_match_merging.specs.AtHand.{lefts_at_hand, rights_at_hand, r
 ghost use Rattle.vx_match_merging.specs.Merged.{HasJoined, IsMerged, HasSameInputs, HasSameShape, HoldsRun, MergeBlame, last_key, merge_need, rows_at, run_rows};
 
 use crate::key_run::{KeyRun, compare_rows, rise_across, run_of};
+use crate::numbers::{MergePlace, join_numbers, read_keys};
 use crate::side_by_side::{MatchedPositions, add_pairs, pair_rows};
 use std::alloc::{AllocError, Global};
 use std::cmp::Ordering;
@@ -20,6 +21,9 @@ use std::marker::Model;
 use vx_match_keys::rises;
 use vx_rows_values::{ColType, OrderEntry};
 use vx_rows_views::Rows;
+
+// How many numbers of each input are read at once.
+const BLOCK: usize = 128;
 
 /// Why a merge stops.
 #[derive(Clone, Copy, PartialEq, Eq)]
@@ -250,10 +254,77 @@ impl MergeRows {
             left: Vec::new(self.alloc),
             right: Vec::new(self.alloc),
         };
+        self.join_blocks(&mut pairs, most)?;
         while self.join_next(&mut pairs, most)? {
             self.skip_unmatched();
+            self.join_blocks(&mut pairs, most)?;
         }
         Ok(pair_rows(self.alloc, &self.left, &self.right, &pairs)?)
+    }
+
+    // Joins rows at hand by their numbers, where their keys are that, until fewer than two left rows or no right row of the
+    // chunks in which they lie are left, or `most` pairs or more were made.
+    fn join_blocks(&mut self, pairs: &mut MatchedPositions, most: usize) -> Result<(), AllocError>
+        requires many { length pairs.old.left.items ≡ length pairs.old.right.items }
+        requires left { ArePositions (length self.old.left.rows) pairs.old.left.items }
+        requires right { ArePositions (length self.old.right.rows) pairs.old.right.items }
+        ensures inputs { HasSameInputs self.old self.new }
+        ensures many { OnOk result (length pairs.new.left.items ≡ length pairs.new.right.items) }
+        ensures left { OnOk result (ArePositions (length self.old.left.rows) pairs.new.left.items) }
+        ensures right { OnOk result (ArePositions (length self.old.right.rows) pairs.new.right.items) }
+        ensures next { self.old.next ≤ self.new.next }
+        ensures end { self.old.end ≤ self.new.end }
+        ensures begun { OnOk result ((rows_at_hand self.new < rows_at_hand self.old) ⊎ ((self.new ≡ self.old) × (pairs.new ≡ pairs.old))) }
+        ensures fewer { OnOk result (pairs_at_hand self.new + length pairs.new.left.items ≤ pairs_at_hand self.old + length pairs.old.left.items) }
+        ensures joined { OnOk result ((earlier passed ys : List Cells) → IsMerged self.old earlier passed (ys ++ rows_at self.old.left self.old.right pairs.old.left.items pairs.old.right.items)
+            → IsMerged self.new earlier passed (ys ++ rows_at self.old.left self.old.right pairs.new.left.items pairs.new.right.items)) }
+    {
+        let mut lefts = [0; BLOCK];
+        let mut rights = [0; BLOCK];
+        while self.join_block(pairs, most, &mut lefts, &mut rights)? {}
+        Ok(())
+    }
+
+    // Joins the rows of which the numbers are read at once, and returns whether it went on behind any row.
+    fn join_block(
+        &mut self,
+        pairs: &mut MatchedPositions,
+        most: usize,
+        lefts: &mut [i64],
+        rights: &mut [i64],
+    ) -> Result<bool, AllocError>
+        requires many { length pairs.old.left.items ≡ length pairs.old.right.items }
+        requires left { ArePositions (length self.old.left.rows) pairs.old.left.items }
+        requires right { ArePositions (length self.old.right.rows) pairs.old.right.items }
+        ensures inputs { HasSameInputs self.old self.new }
+        ensures many { OnOk result (length pairs.new.left.items ≡ length pairs.new.right.items) }
+        ensures left { OnOk result (ArePositions (length self.old.left.rows) pairs.new.left.items) }
+        ensures right { OnOk result (ArePositions (length self.old.right.rows) pairs.new.right.items) }
+        ensures next { self.old.next ≤ self.new.next }
+        ensures end { self.old.end ≤ self.new.end }
+        ensures moved { IfOk result (λ b. b ≡ true → rows_at_hand self.new < rows_at_hand self.old) }
+        ensures still { IfOk result (λ b. b ≡ false → (self.new ≡ self.old) × (pairs.new ≡ pairs.old)) }
+        ensures fewer { OnOk result (pairs_at_hand self.new + length pairs.new.left.items ≤ pairs_at_hand self.old + length pairs.old.left.items) }
+        ensures joined { OnOk result ((earlier passed ys : List Cells) → IsMerged self.old earlier passed (ys ++ rows_at self.old.left self.old.right pairs.old.left.items pairs.old.right.items)
+            → IsMerged self.new earlier passed (ys ++ rows_at self.old.left self.old.right pairs.new.left.items pairs.new.right.items)) }
+    {
+        if self.left_order.len() != 1 {
+            return Ok(false);
+        }
+        let falling = self.left_order[0].falling;
+        let left_count = read_keys(&self.left, &self.left_order, self.next, lefts);
+        let right_count = read_keys(&self.right, &self.right_order, self.end, rights);
+        let from = MergePlace {
+            next: self.next,
+            start: self.start,
+            end: self.end,
+        };
+        let (lefts, rights) = (&lefts[..left_count], &rights[..right_count]);
+        let to = join_numbers(pairs, most, lefts, rights, falling, from)?;
+        self.next = to.next;
+        self.start = to.start;
+        self.end = to.end;
+        Ok(from.next < to.next || from.end < to.end)
     }
 
     // Joins the next left row with its run, where that is at hand as a whole and fewer than `most` pairs were made, and
@@ -447,3 +518,4 @@ pub fn merge_join(
         _ => Err(MergeFault::NoMemory),
     }
 }
+
