@@ -1,6 +1,6 @@
 //! What one operator makes of the rows of its inputs.
 
-ghost use Rattle.std.specs.Prelude.{◌≡◌, ◌++◌, true, Some, length, map, take, IfOk, IfErr};
+ghost use Rattle.std.specs.Prelude.{◌≡◌, ◌<◌, ◌++◌, ◌∷◌, [], true, Some, length, map, take, IfOk, IfSome, IfErr};
 ghost use Rattle.std.specs.List.{list_all};
 ghost use Rattle.vx_rows_values.specs.Types.{type_at};
 ghost use Rattle.vx_rows_values.specs.Values.{pick};
@@ -21,12 +21,13 @@ use vx_exec_setup::EvalFault;
 use vx_match_grouping::{GroupFault, grouped};
 use vx_match_join::{Matching, hash_join, semi_join};
 use vx_match_keys::Seen;
+use vx_match_merging::{MergeFault, merge_join};
 use vx_ops_computing::{ComputeFault, filtered, projected};
 use vx_ops_kernels::{kept_columns, left_columns, right_columns, sorted_chunks};
 use vx_plan_nodes::{
     Aggregate, Binary, Condition, Entry, Filter, PlanFunctions, Unary, copied_conditions,
 };
-use vx_rows_values::KeySeed;
+use vx_rows_values::{ColType, KeySeed, OrderEntry};
 use vx_rows_views::Rows;
 
 // The most rows of one grouping.
@@ -173,6 +174,60 @@ fn joined(
     hash_join(alloc, seed, left, left_keys.as_slice(), right, right_keys)
 }
 
+// The left rows joined with the right rows that agree with them on a pair of columns, by going through both side by side;
+// none where one of them is not in order.
+fn merged(
+    alloc: Global,
+    left: &Rows,
+    right: &Rows,
+    pair: (usize, usize),
+    falling: bool,
+) -> Result<Option<Rows>, AllocError>
+    requires left { pair.0 < length left.now.types }
+    requires right { pair.1 < length right.now.types }
+    ensures types { IfOk result (λ o. IfSome o (λ t. t.types ≡ left.now.types ++ right.now.types)) }
+    ensures rows { IfOk result (λ o. IfSome o (λ t. t.rows ≡ join_rows (pair ∷ []) left.now.rows right.now.rows)) }
+{
+    let left_order = [OrderEntry {
+        column: pair.0,
+        falling,
+    }];
+    let right_order = [OrderEntry {
+        column: pair.1,
+        falling,
+    }];
+    match merge_join(alloc, left, &left_order, right, &right_order) {
+        Ok(rows) => Ok(Some(rows)),
+        Err(MergeFault::Falls) => Ok(None),
+        Err(MergeFault::NoMemory) => Err(AllocError),
+    }
+}
+
+// The same rows as by hashing, where the inputs should be in order on these columns. A plan that the checker did not see may
+// have them in another. Numbers are compared at less than a hash takes, other keys are not.
+fn joined_in_order(
+    alloc: Global,
+    seed: KeySeed,
+    left: Rows,
+    right: &Rows,
+    on: &[(usize, usize)],
+    falls: &[bool],
+) -> Result<Rows, AllocError>
+    requires { list_all (is_pair left.types right.now.types) on.now ≡ true }
+    ensures types { IfOk result (λ t. t.types ≡ left.types ++ right.now.types) }
+    ensures rows { IfOk result (λ t. t.rows ≡ join_rows on.now left.rows right.now.rows) }
+{
+    if on.len() == 1 && falls.len() == 1 {
+        let pair = on[0];
+        if matches!(left.types()[pair.0], ColType::Int) {
+            if let Some(rows) = merged(alloc, &left, right, pair, falls[0])? {
+                return Ok(rows);
+            }
+        }
+    }
+    joined(alloc, seed, left, right, on)
+}
+
 // The left rows that some right row matches, or, where `matched` is false, those that none does.
 fn semi_joined(
     alloc: Global,
@@ -224,7 +279,10 @@ pub fn binary_rows(
     match binary {
         Binary::Union => united(left, right),
         Binary::HashJoin(on) => joined(alloc, seed, left, &right, on.as_slice()),
-        Binary::MergeJoin(on, _) => joined(alloc, seed, left, &right, on.as_slice()),
+        Binary::MergeJoin(on, falls) => {
+            let falls = falls.as_slice();
+            joined_in_order(alloc, seed, left, &right, on.as_slice(), falls)
+        }
         Binary::SemiJoin(on, conditions) => {
             let conditions = conditions.as_slice();
             semi_joined(alloc, seed, true, &left, right, on.as_slice(), conditions)
