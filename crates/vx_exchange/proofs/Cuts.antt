@@ -1,19 +1,32 @@
 -- Rows that go into packets.
-use Rattle.std.proofs.Common.{ℕ, ◌≡◌, ◌≤◌, ◌<◌, ◌+◌, ◌-◌, List, [], ◌∷◌, ◌++◌, length, take, map, sym, ap, ◌∙◌, arith, append_assoc, append-nil, length-append}
+use Rattle.std.proofs.Common.{ℕ, ◌≡◌, ◌≤◌, ◌<◌, ◌+◌, ◌-◌, List, [], ◌∷◌, ◌++◌, length, take, drop, take_all, map, sym, ap, ◌∙◌, arith, append_assoc, append-nil, length-append}
 use Rattle.std.specs.List.{AllByRecursion}
 use Rattle.std.specs.Prelude.{slice_range}
-use Rattle.std.proofs.lemmas.List.{map-append, take-append-drop, take-take}
+use Rattle.std.proofs.Math.Seq.{take-add}
+use Rattle.std.proofs.lemmas.List.{map-append, drop-drop}
 use Rattle.std.proofs.lemmas.List.Edits.{length-between}
-use Rattle.std.proofs.lemmas.Slice.{between_is}
+use Rattle.std.proofs.lemmas.Slice.{between_from_start}
 use Rattle.vx_rows_values.specs.Values.{Row}
 use Rattle.vx_ports.specs.Packets.{PacketView}
 use Rattle.vx_exchange_ends.specs.Ship.{end_to_end}
 use Rattle.vx_exchange.specs.LaneView.{Way, parcel_at, Cuts, CutsRest}
 use Rattle.vx_exchange_ends.specs.Beginnings.{end_to_end-append}
 
--- the first rows, and then a range of them
-pub take-range : {X : Type 0} (a b : ℕ) (xs : List X) → a ≤ b → take a xs ++ slice_range xs a b ≡ take b xs
-take-range a b xs le = ap (λ ys. ys ++ slice_range xs a b) (sym (take-take a b xs le)) ∙ ap (λ ys. take a (take b xs) ++ ys) (between_is xs a b) ∙ take-append-drop a (take b xs)
+-- a range of rows, and then the next one
+pub range-next : {X : Type 0} (a b e : ℕ) (xs : List X) → a ≤ b → b ≤ e → slice_range xs a b ++ slice_range xs b e ≡ slice_range xs a e
+range-next a b e xs low high =
+    let n = b - a in
+    let m = e - b in
+    let rest : drop n (drop a xs) ≡ drop b xs = drop-drop n a xs ∙ ap (λ k. drop k xs) (omega arith) in
+    ap (λ ys. take n (drop a xs) ++ take m ys) (sym rest) ∙ sym (take-add n m (drop a xs)) ∙ ap (λ k. take k (drop a xs)) (omega arith)
+
+-- an empty range
+pub range-none : {X : Type 0} (a : ℕ) (xs : List X) → slice_range xs a a ≡ []
+range-none a xs = let none : a - a ≡ 0 = omega arith in ap (λ k. take k (drop a xs)) none
+
+-- the range of all
+pub range-all : {X : Type 0} (n : ℕ) (xs : List X) → n ≡ length xs → slice_range xs 0 n ≡ xs
+range-all n xs e = between_from_start xs n ∙ take_all n xs (omega (arith, e))
 
 pub all-append : {X : Type 0} (P : X → Type 0) (xs ys : List X) → AllByRecursion P xs → AllByRecursion P ys → AllByRecursion P (xs ++ ys)
 all-append P [] ys h k = k

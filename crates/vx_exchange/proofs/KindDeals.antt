@@ -1,5 +1,5 @@
 -- What each kind of exchange deals to the lanes.
-use Rattle.std.proofs.Common.{ℕ, ◌<◌, List, [], ◌∷◌, length, map, refl, arith, All, string_bytes}
+use Rattle.std.proofs.Common.{ℕ, suc, ◌≡◌, ◌==◌, ◌<◌, ◌∙◌, List, [], ◌∷◌, length, map, cond, refl, sym, ap, arith, All, string_bytes}
 use Rattle.std.specs.Prelude.{zip}
 use Rattle.std.specs.List.{AllByRecursion}
 use Rattle.vx_rows_values.specs.Values.{Row, pick}
@@ -13,6 +13,7 @@ use Rattle.vx_exchange.specs.Routed.{key_route, key_columns, key_bounds, routed_
 use Rattle.vx_exchange.specs.Lanes.{in_turn, Deals, CutsEach}
 use Rattle.vx_exchange.specs.declared.routes.KeyRoute.{KeyRoute}
 use Rattle.vx_exchange.specs.declared.routes.KeyRoute.TheVariants.{Hash, Range}
+use Rattle.vx_exchange.proofs.LaneLists.{cuts-same}
 use Rattle.vx_exchange.proofs.Turns.{turns-dealt, filter-bearing}
 
 pub route-deals : (hash : List ℕ → Row → ℕ → ℕ) (goes : Routing) (z : Size) (r : KeyRoute) (next : ℕ) (rows : List Row) (old new : List LaneView) → 0 < length old
@@ -63,3 +64,22 @@ each-below f n (x ∷ xs) h = (h x, each-below f n xs h)
 
 pub map-below : (f : Row → ℕ) (n : ℕ) (rows : List Row) → ((x : Row) → f x < n) → All (λ k. k < n) (map f rows)
 map-below f n rows h = all_at (λ k. k < n) (map f rows) (each-below f n rows h)
+
+-- where there is one consumer, it gets all rows
+pub all-to-one : (ks : List ℕ) (rows : List Row) → length ks ≡ length rows → All (λ k. k < 1) ks → bearing 0 (zip ks rows) ≡ rows
+all-to-one [] [] long all = refl
+all-to-one [] (x ∷ rows) long all = absurd (omega (arith, long))
+all-to-one (k ∷ ks) [] long all = absurd (omega (arith, long))
+all-to-one (k ∷ ks) (x ∷ rows) long all =
+    let small = all 0 0 (omega arith) in
+    let zero : k ≡ 0 = omega (arith, small) in
+    let rest = bearing 0 (zip ks rows) in
+    ap (λ i. cond (i == 0) (x ∷ rest) rest) zero ∙ ap (λ xs. x ∷ xs) (all-to-one ks rows (omega (arith, long)) (λ i d l. all (suc i) d (omega (arith, l))))
+
+-- so all rows to the one lane are what was dealt to it
+pub cuts-one_lane : (ks : List ℕ) (rows : List Row) (old new : List LaneView) → length old ≡ 1 → length ks ≡ length rows → All (λ k. k < 1) ks → CutsEach (λ j. rows) old new
+    → CutsEach (λ j. bearing j (zip ks rows)) old new
+cuts-one_lane ks rows old new one long all cuts =
+    cuts-same (λ j. rows) (λ j. bearing j (zip ks rows)) old new (λ j l.
+    let zero : 0 ≡ j = omega (arith, l, one) in
+    sym (all-to-one ks rows long all) ∙ ap (λ i. bearing i (zip ks rows)) zero) cuts

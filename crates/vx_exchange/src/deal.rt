@@ -77,29 +77,6 @@ fn join_places(places: &[Vec<usize>], all: &mut Vec<usize>) -> Result<(), AllocE
     Ok(())
 }
 
-// Adds to a lane the rows of these from position `from` up to `to`. Nothing is done where there are none.
-fn add_part(
-    alloc: Global,
-    lane: &mut Lane,
-    rows: &Rows,
-    from: usize,
-    to: usize,
-) -> Result<(), AllocError>
-    requires ordered { from ≤ to }
-    requires there { to ≤ length rows.now.rows }
-    requires open { lane.old.closed ≡ false }
-    requires types { rows.now.types ≡ lane.old.way.types }
-    ensures ok { OnOk result (Cuts lane.old.way lane.old.current lane.old.ready (slice_range rows.now.rows from to) lane.new.current lane.new.ready) }
-    ensures way { lane.new.way ≡ lane.old.way }
-    ensures closed { lane.new.closed ≡ lane.old.closed }
-{
-    if from == to {
-        return Ok(());
-    }
-    let part = rows.slice(alloc, from, to)?;
-    lane.add(part)
-}
-
 // To each lane the rows at its places. The rows of all lanes are found at once, so that they share one list of positions.
 fn deal_places(
     alloc: Global,
@@ -120,7 +97,7 @@ fn deal_places(
     let mut from = 0;
     for consumer in 0..lanes.len() {
         let to = from + places[consumer].len();
-        add_part(alloc, &mut lanes[consumer], &sorted, from, to)?;
+        lanes[consumer].add_part(&sorted, from, to)?;
         from = to;
     }
     Ok(())
@@ -161,48 +138,52 @@ fn deal_in_turn(
     alloc: Global,
     next: u32,
     lanes: &mut Vec<Lane>,
-    rows: &Rows,
+    rows: Rows,
     scratch: &mut Scratch,
 ) -> Result<(), AllocError>
     requires few { length lanes.old.items < 2 ^ 32 }
     requires next { next < length lanes.old.items }
     requires open { All (λ o. o.closed ≡ false) lanes.old.items }
-    requires types { All (λ o. rows.now.types ≡ o.way.types) lanes.old.items }
-    ensures ok { OnOk result (CutsEach (λ j. bearing j (in_turn (length lanes.old.items) next rows.now.rows)) lanes.old.items lanes.new.items) }
+    requires types { All (λ o. rows.types ≡ o.way.types) lanes.old.items }
+    ensures ok { OnOk result (CutsEach (λ j. bearing j (in_turn (length lanes.old.items) next rows.rows)) lanes.old.items lanes.new.items) }
     ensures same { SameLanes lanes.old.items lanes.new.items }
 {
+    if lanes.len() == 1 {
+        return deal_to_one(lanes, rows);
+    }
     turns(next, rows.len(), lanes.len() as u32, &mut scratch.consumers)?;
-    deal_by_consumer(alloc, lanes, rows, scratch)?;
-    Ok(())
+    deal_by_consumer(alloc, lanes, &rows, scratch)
 }
 
-// Each row to the lane to which the route sends it.
+// Each row to the lane to which the route sends it. One lane gets all, whatever the route is.
 fn deal_by_route<R: Router>(
     alloc: Global,
     route: &KeyRoute,
     lanes: &mut Vec<Lane>,
     router: &R,
-    rows: &Rows,
+    rows: Rows,
     scratch: &mut Scratch,
 ) -> Result<(), AllocError>
     requires some { 0 < length lanes.old.items }
     requires few { length lanes.old.items < 2 ^ 32 }
-    requires columns { AreColumns (length rows.now.types) (key_columns route.now) }
+    requires columns { AreColumns (length rows.types) (key_columns route.now) }
     requires open { All (λ o. o.closed ≡ false) lanes.old.items }
-    requires types { All (λ o. rows.now.types ≡ o.way.types) lanes.old.items }
-    ensures ok { OnOk result (CutsEach (λ j. bearing j (zip (map (routed_to (R.route_of router.now) route.now (length lanes.old.items)) rows.now.rows) rows.now.rows)) lanes.old.items lanes.new.items) }
+    requires types { All (λ o. rows.types ≡ o.way.types) lanes.old.items }
+    ensures ok { OnOk result (CutsEach (λ j. bearing j (zip (map (routed_to (R.route_of router.now) route.now (length lanes.old.items)) rows.rows) rows.rows)) lanes.old.items lanes.new.items) }
     ensures same { SameLanes lanes.old.items lanes.new.items }
 {
+    if lanes.len() == 1 {
+        return deal_to_one(lanes, rows);
+    }
     consumers_of(
         alloc,
         route,
         router,
-        rows,
+        &rows,
         lanes.len() as u32,
         &mut scratch.consumers,
     )?;
-    deal_by_consumer(alloc, lanes, rows, scratch)?;
-    Ok(())
+    deal_by_consumer(alloc, lanes, &rows, scratch)
 }
 
 /// Deals rows to the lanes; those of a round robin from the consumer `next` on. After an `Err` some of them may be lost.
@@ -227,11 +208,11 @@ pub fn deal_rows<R: Router>(
 {
     match deal {
         Deal::Route(_, route) => {
-            deal_by_route(alloc, route, lanes, router, &rows, scratch)?;
+            deal_by_route(alloc, route, lanes, router, rows, scratch)?;
             return Ok(());
         }
         Deal::Round(_) => {
-            deal_in_turn(alloc, next, lanes, &rows, scratch)?;
+            deal_in_turn(alloc, next, lanes, rows, scratch)?;
             return Ok(());
         }
         Deal::Broadcast(_) => {

@@ -111,23 +111,24 @@ impl Lane {
         }
     }
 
-    // Adds rows of `chunk` from position `from` on: all of them, or as many as fill the current packet, which is then ready.
+    // Adds rows of `chunk` from position `from` up to `end`: all of them, or as many as fill the current packet, which is then ready.
     // Returns the position of the first row that is left.
-    fn fill(&mut self, chunk: &Chunk, from: usize) -> Result<usize, AllocError>
+    fn fill(&mut self, chunk: &Chunk, from: usize, end: usize) -> Result<usize, AllocError>
         requires types { chunk.now.types ≡ self.old.way.types }
         requires open { self.old.closed ≡ false }
-        requires some { from < length chunk.now.rows }
+        requires some { from < end }
+        requires there { end ≤ length chunk.now.rows }
         ensures next { IfOk result (λ to. from < to) }
-        ensures within { IfOk result (λ to. to ≤ length chunk.now.rows) }
+        ensures within { IfOk result (λ to. to ≤ end) }
         ensures ok { IfOk result (λ to. Cuts self.old.way self.old.current self.old.ready (slice_range chunk.now.rows from to) self.new.current self.new.ready) }
         ensures way { self.new.way ≡ self.old.way }
         ensures closed { self.new.closed ≡ self.old.closed }
     {
         let room = self.size - self.current.len();
-        if chunk.len() - from < room {
-            let rest = chunk.slice(self.alloc, from, chunk.len())?;
+        if end - from < room {
+            let rest = chunk.slice(self.alloc, from, end)?;
             self.current.push(rest)?;
-            return Ok(chunk.len());
+            return Ok(end);
         }
         let to = from + room;
         let part = chunk.slice(self.alloc, from, to)?;
@@ -137,17 +138,19 @@ impl Lane {
         Ok(to)
     }
 
-    // Adds all rows of a chunk.
-    fn fill_all(&mut self, chunk: &Chunk) -> Result<(), AllocError>
+    // Adds the rows of a chunk from position `start` up to `end`.
+    fn fill_part(&mut self, chunk: &Chunk, start: usize, end: usize) -> Result<(), AllocError>
         requires types { chunk.now.types ≡ self.old.way.types }
         requires open { self.old.closed ≡ false }
-        ensures ok { OnOk result (Cuts self.old.way self.old.current self.old.ready chunk.now.rows self.new.current self.new.ready) }
+        requires order { start ≤ end }
+        requires there { end ≤ length chunk.now.rows }
+        ensures ok { OnOk result (Cuts self.old.way self.old.current self.old.ready (slice_range chunk.now.rows start end) self.new.current self.new.ready) }
         ensures way { self.new.way ≡ self.old.way }
         ensures closed { self.new.closed ≡ self.old.closed }
     {
-        let mut from = 0;
-        while from < chunk.len() {
-            from = self.fill(chunk, from)?;
+        let mut from = start;
+        while from < end {
+            from = self.fill(chunk, from, end)?;
         }
         Ok(())
     }
@@ -161,7 +164,8 @@ impl Lane {
         ensures closed { self.new.closed ≡ self.old.closed }
     {
         for i in 0..chunks.len() {
-            self.fill_all(&chunks[i])?;
+            let chunk = &chunks[i];
+            self.fill_part(chunk, 0, chunk.len())?;
         }
         Ok(())
     }
@@ -183,6 +187,25 @@ impl Lane {
             return Ok(());
         }
         self.fill_each(rows.chunks())
+    }
+
+    /// Adds the rows of these from position `from` up to `to`; no cell is copied. After an `Err` some of them may be lost.
+    pub fn add_part(&mut self, rows: &Rows, from: usize, to: usize) -> Result<(), AllocError>
+        requires order { from ≤ to }
+        requires there { to ≤ length rows.now.rows }
+        requires types { rows.now.types ≡ self.old.way.types }
+        requires open { self.old.closed ≡ false }
+        ensures ok { OnOk result (Cuts self.old.way self.old.current self.old.ready (slice_range rows.now.rows from to) self.new.current self.new.ready) }
+        ensures way { self.new.way ≡ self.old.way }
+        ensures closed { self.new.closed ≡ self.old.closed }
+    {
+        let chunks = rows.chunks();
+        if chunks.len() == 1 {
+            // mostly so: the rows are those of the chunk, and are cut once
+            return self.fill_part(&chunks[0], from, to);
+        }
+        let part = rows.slice(self.alloc, from, to)?;
+        self.add(part)
     }
 
     /// Makes a packet of the rows at hand, if there are any.

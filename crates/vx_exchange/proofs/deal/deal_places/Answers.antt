@@ -88,7 +88,7 @@ loop-consumer-preserved c =
     let items = c.loop-consumer.lanes.items in
     let k = c.loop-consumer.consumer in
     let o = c.index_mut.result.now in
-    let o' = c.add_part.new.lane in
+    let o' = c.add_part.new.self in
     let many = same-count old items c.loop-consumer.invariant.cuts.same in
     let test = c.loop-consumer-test.true in
     let end = c.len-consumer-end.ensures in
@@ -119,7 +119,7 @@ returns-in_err-add_part-clause-same c =
     let old = c.args.lanes.now.items in
     let items = c.loop-consumer.lanes.items in
     let e = c.add_part.ensures in
-    same-along old items _ c.loop-consumer.invariant.cuts.same (same-set items c.loop-consumer.consumer c.index_mut.result.now c.add_part.new.lane c.index_mut.ensures.value e.way e.closed)
+    same-along old items _ c.loop-consumer.invariant.cuts.same (same-set items c.loop-consumer.consumer c.index_mut.result.now c.add_part.new.self c.index_mut.ensures.value e.way e.closed)
 
 pub returns-clause-ok : goal.returns-clause-ok
 returns-clause-ok c =
