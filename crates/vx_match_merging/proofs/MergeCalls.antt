@@ -1,6 +1,6 @@
 -- A merge whose inputs come in batches, as its calls see it.
 use Rattle.std.specs.Bool.{IsTrue}
-use Rattle.std.proofs.Common.{◌≡◌, ◌↔◌, ℕ, zero, suc, ◌+◌, ◌-◌, ◌<◌, ◌≤◌, Bool, true, false, cond, List, [], ◌∷◌, ◌++◌, length, take, drop, flat_map, map, ◌&&◌, slice_range, refl, sym, ap, ◌∙◌, subst, arith, true≢false, append_assoc, append-nil, inl, inr, is_le, is_lt, Ordering, Less}
+use Rattle.std.proofs.Common.{Result, Ok, Err, IfOk, OnOk, ◌≡◌, ◌↔◌, ℕ, zero, suc, ◌+◌, ◌-◌, ◌<◌, ◌≤◌, Bool, true, false, cond, List, [], ◌∷◌, ◌++◌, length, take, drop, flat_map, map, ◌&&◌, slice_range, refl, sym, ap, ◌∙◌, subst, arith, true≢false, append_assoc, append-nil, inl, inr, is_le, is_lt, Ordering, Less}
 use Rattle.std.proofs.lemmas.Bool.{cases_lt}
 use Rattle.std.proofs.lemmas.List.{take_all, take-append-drop}
 use Rattle.std.proofs.Math.Seq.{take-append_seam, drop-append_seam}
@@ -278,3 +278,8 @@ blame-left NoMemory a b h = tt
 pub blame-right : (x : MergeFault) (a b : Bool) → MergeBlame x b → MergeBlame x (a && b)
 blame-right Falls a b h = right-falls a b h
 blame-right NoMemory a b h = tt
+
+-- what follows for a value from what holds wherever there is one
+pub if-ok-on : {T E : Type 0} (r : Result T E) (A : Type 0) (P Q : T → Type 0) → ((x : T) → A → P x → Q x) → OnOk r A → IfOk r P → IfOk r Q
+if-ok-on (Ok x) A P Q f a h = f x a h
+if-ok-on (Err y) A P Q f a h = tt

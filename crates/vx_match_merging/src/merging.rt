@@ -22,6 +22,9 @@ use vx_match_keys::rises;
 use vx_rows_values::{ColType, OrderEntry};
 use vx_rows_views::Rows;
 
+// All rows at hand are joined `MOST` at a time.
+const MOST: usize = 8192;
+
 // How many numbers of each input are read at once.
 const BLOCK: usize = 128;
 
@@ -260,6 +263,22 @@ impl MergeRows {
             self.join_blocks(&mut pairs, most)?;
         }
         Ok(pair_rows(self.alloc, &self.left, &self.right, &pairs)?)
+    }
+
+    // Joins all left rows at hand, where the right input has ended: some at a time, which takes less memory at once.
+    fn join_all(&mut self) -> Result<Rows, MergeFault>
+        requires { self.old.right_ended ≡ true }
+        ensures inputs { HasSameInputs self.old self.new }
+        ensures all { OnOk result (length self.new.left.rows ≤ self.new.next) }
+        ensures types { IfOk result (λ r. r.types ≡ self.old.left.types ++ self.old.right.types) }
+        ensures joined { IfOk result (λ r. (ls rs ys : List Cells) → HasJoined self.old ls rs ys → HasJoined self.new ls rs (ys ++ r.rows)) }
+        ensures err { IfErr result (λ e. (ls rs ys : List Cells) → HasJoined self.old ls rs ys → MergeBlame e (sorted self.old.lefts ls)) }
+    {
+        let mut joined = self.join_some(MOST)?;
+        while self.needs() == MergeNeed::Nothing {
+            joined.append(self.join_some(MOST)?)?;
+        }
+        Ok(joined)
     }
 
     // Joins rows at hand by their numbers, where their keys are that, until fewer than two left rows or no right row of the
@@ -510,12 +529,5 @@ pub fn merge_join(
     merge.take_left(left.slice(alloc, 0, left.len())?)?;
     merge.take_right(right.slice(alloc, 0, right.len())?)?;
     merge.end_right();
-    let joined = merge.join_some(usize::MAX)?;
-    match merge.needs() {
-        // all left rows were joined
-        MergeNeed::Left => Ok(joined),
-        // more rows than there are places
-        _ => Err(MergeFault::NoMemory),
-    }
+    merge.join_all()
 }
-
