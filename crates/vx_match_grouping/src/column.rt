@@ -14,7 +14,7 @@ use crate::fold::add_rows;
 use crate::folds::{
     Count, End, ExtremeValues, GreatestNumbers, LeastNumbers, SumOfNumbers, SumOfValues,
 };
-use crate::operands::{CellOperand, NumberOperand};
+use crate::operands::{CellOperand, NumberOperand, read_numbers};
 use crate::sum::WideSum;
 use std::alloc::{AllocError, Global};
 use vx_plan_nodes::Aggregate;
@@ -72,6 +72,7 @@ fn add_extremes(
     fold: ExtremeValues<'_>,
     extremes: &mut Extremes,
     numbers: &[usize],
+    room: &mut Vec<i64>,
 ) -> Result<(), GroupFault>
     requires { length numbers.now ≡ length fold.operand.chunk.now.rows }
     ensures taken { OnOk result (Takes (aggregate_at fold.entry.end fold.entry.operand.column) fold.entry.operand.chunk.now.rows numbers.now (extremes_held (aggregate_at fold.entry.end fold.entry.operand.column) extremes.old) (extremes_held (aggregate_at fold.entry.end fold.entry.operand.column) extremes.new)) }
@@ -81,7 +82,12 @@ fn add_extremes(
     match extremes {
         Extremes::Values(entries) => add_rows(&fold, entries, numbers),
         Extremes::Numbers(entries) => {
-            if let Some(operand) = NumberOperand::of(fold.alloc, chunk, column)? {
+            if read_numbers(chunk, column, room)? {
+                let operand = NumberOperand {
+                    chunk,
+                    column,
+                    numbers: room.as_slice(),
+                };
                 return match fold.end {
                     End::Least => add_rows(&LeastNumbers { operand }, entries, numbers),
                     End::Greatest => add_rows(&GreatestNumbers { operand }, entries, numbers),
@@ -97,19 +103,25 @@ fn add_extremes(
 
 // Adds the rows of a chunk to the sums of a column.
 fn add_sums(
-    alloc: Global,
     operand: CellOperand<'_>,
     sums: &mut Vec<WideSum>,
     numbers: &[usize],
+    room: &mut Vec<i64>,
 ) -> Result<(), GroupFault>
     requires { length numbers.now ≡ length operand.chunk.now.rows }
     ensures taken { OnOk result (Takes (sum operand.entry.column) operand.entry.chunk.now.rows numbers.now (map (sum_held operand.entry.column) sums.old.items) (map (sum_held operand.entry.column) sums.new.items)) }
     ensures err { IfErr result (λ e. TakesNot e (sum operand.entry.column) operand.entry.chunk.now.rows numbers.now (map (sum_held operand.entry.column) sums.old.items)) }
 {
-    match NumberOperand::of(alloc, operand.chunk, operand.column)? {
-        Some(operand) => add_rows(&SumOfNumbers { operand }, sums, numbers),
-        None => add_rows(&SumOfValues { operand }, sums, numbers),
+    let CellOperand { chunk, column } = operand;
+    if read_numbers(chunk, column, room)? {
+        let operand = NumberOperand {
+            chunk,
+            column,
+            numbers: room.as_slice(),
+        };
+        return add_rows(&SumOfNumbers { operand }, sums, numbers);
     }
+    add_rows(&SumOfValues { operand }, sums, numbers)
 }
 
 impl AggregateColumn {
@@ -143,8 +155,14 @@ impl AggregateColumn {
     }
 
     /// Adds the rows of a chunk, each to the group of its key's number, or as the first of the next group. After an `Err` some
-    /// groups may have some of them.
-    pub fn add(&mut self, alloc: Global, chunk: &Chunk, numbers: &[usize]) -> Result<(), GroupFault>
+    /// groups may have some of them. `room` is for the numbers of a column, whatever stands there.
+    pub fn add(
+        &mut self,
+        alloc: Global,
+        chunk: &Chunk,
+        numbers: &[usize],
+        room: &mut Vec<i64>,
+    ) -> Result<(), GroupFault>
         requires { length numbers.now ≡ length chunk.now.rows }
         ensures aggregate { aggregate_in self.new ≡ aggregate_in self.old }
         ensures taken { OnOk result (Takes (aggregate_in self.old) chunk.now.rows numbers.now (column_held self.old) (column_held self.new)) }
@@ -165,6 +183,7 @@ impl AggregateColumn {
                     },
                     extremes,
                     numbers,
+                    room,
                 )
             }
             AggregateColumn::Sum(column, sums) => {
@@ -172,7 +191,7 @@ impl AggregateColumn {
                     chunk,
                     column: *column,
                 };
-                add_sums(alloc, operand, sums, numbers)
+                add_sums(operand, sums, numbers, room)
             }
             AggregateColumn::CountRows(counts) => add_rows(&Count { chunk }, counts, numbers),
         }

@@ -34,15 +34,9 @@ impl End {
 }
 
 /// The least number of a column.
+#[derive(Clone, Copy)]
 pub(crate) struct LeastNumbers<'a> {
     pub operand: NumberOperand<'a>,
-}
-
-// By hand, so that the drop of the operand is made and proved here once.
-impl Drop for LeastNumbers<'_> {
-    fn drop(self) {
-        let LeastNumbers { operand: _ } = self;
-    }
 }
 
 impl Fold for LeastNumbers<'_> {
@@ -72,15 +66,9 @@ impl Fold for LeastNumbers<'_> {
 }
 
 /// The greatest number of a column.
+#[derive(Clone, Copy)]
 pub(crate) struct GreatestNumbers<'a> {
     pub operand: NumberOperand<'a>,
-}
-
-// By hand, so that the drop of the operand is made and proved here once.
-impl Drop for GreatestNumbers<'_> {
-    fn drop(self) {
-        let GreatestNumbers { operand: _ } = self;
-    }
 }
 
 impl Fold for GreatestNumbers<'_> {
@@ -158,15 +146,9 @@ fn add_number(sum: &mut WideSum, number: i64) -> Result<(), GroupFault>
 }
 
 /// The sum of the numbers of a column.
+#[derive(Clone, Copy)]
 pub(crate) struct SumOfNumbers<'a> {
     pub operand: NumberOperand<'a>,
-}
-
-// By hand, so that the drop of the operand is made and proved here once.
-impl Drop for SumOfNumbers<'_> {
-    fn drop(self) {
-        let SumOfNumbers { operand: _ } = self;
-    }
 }
 
 impl Fold for SumOfNumbers<'_> {

@@ -38,6 +38,9 @@ pub struct Grouping {
     keys: Keys,
     columns: Vec<AggregateColumn>,
     failed: Option<GroupFault>,
+    // Room for the numbers of the keys of a block, and for those of a column, whatever stands there: a batch that needs no more allocates none.
+    numbers: Vec<usize>,
+    room: Vec<i64>,
     alloc: Global,
 }
 
@@ -49,6 +52,8 @@ impl Drop for Grouping {
             keys: _,
             columns: _,
             failed: _,
+            numbers: _,
+            room: _,
             alloc: _,
         } = self;
     }
@@ -68,11 +73,13 @@ impl Model for Grouping {
 }
 
 // Adds the rows of a chunk to each aggregate, whose groups have these numbers. After an `Err` some groups may have some of them.
+// `room` is for the numbers of a column, whatever stands there.
 fn add_columns(
     alloc: Global,
     columns: &mut Vec<AggregateColumn>,
     chunk: &Chunk,
     numbers: &[usize],
+    room: &mut Vec<i64>,
 ) -> Result<(), GroupFault>
     requires { length numbers.now ≡ length chunk.now.rows }
     ensures aggregates { map aggregate_in columns.new.items ≡ map aggregate_in columns.old.items }
@@ -80,7 +87,7 @@ fn add_columns(
     ensures err { IfErr result (λ e. (by : List ℕ) (xs : List Cells) → numbers.now ≡ numbers_of (group_keys by xs) (map (pick by) chunk.now.rows) → map column_held columns.old.items ≡ map (column_of by xs) (map aggregate_in columns.old.items) → TakeBlame e (xs ++ chunk.now.rows)) }
 {
     for place in 0..columns.len() {
-        columns[place].add(alloc, chunk, numbers)?;
+        columns[place].add(alloc, chunk, numbers, room)?;
     }
     Ok(())
 }
@@ -172,13 +179,14 @@ impl Grouping {
             keys: Keys::new(alloc, seed),
             columns: empty_columns(alloc, aggregates)?,
             failed: None,
+            numbers: Vec::new(alloc),
+            room: Vec::new(alloc),
             alloc,
         })
     }
 
-    // Adds the rows of a block behind those that were added, and lists the numbers of their keys. After an `Err` some
-    // aggregates may have some of them.
-    fn add_block(&mut self, block: &Chunk, numbers: &mut Vec<usize>) -> Result<(), GroupFault>
+    // Adds the rows of a block behind those that were added. After an `Err` some aggregates may have some of them.
+    fn add_block(&mut self, block: &Chunk) -> Result<(), GroupFault>
         requires types { block.now.types ≡ self.old.types }
         ensures types { self.new.types ≡ self.old.types }
         ensures by { self.new.by ≡ self.old.by }
@@ -189,9 +197,15 @@ impl Grouping {
     {
         // each row fits the types
         let _types = block.types();
-        numbers.clear();
-        self.keys.number_chunk(block, &self.by, numbers)?;
-        add_columns(self.alloc, &mut self.columns, block, numbers.as_slice())
+        self.numbers.clear();
+        self.keys.number_chunk(block, &self.by, &mut self.numbers)?;
+        add_columns(
+            self.alloc,
+            &mut self.columns,
+            block,
+            self.numbers.as_slice(),
+            &mut self.room,
+        )
     }
 
     // Adds the rows of a chunk behind those that were added. After an `Err` some aggregates may have some of them.
@@ -205,15 +219,14 @@ impl Grouping {
         ensures err { IfErr result (λ e. (xs : List Cells) → HasTaken self.old xs → TakeBlame e (xs ++ chunk.now.rows)) }
     {
         let count = chunk.len();
-        let mut numbers = Vec::with_capacity(self.alloc, count.min(BLOCK))?;
         if count <= BLOCK {
-            return self.add_block(chunk, &mut numbers);
+            return self.add_block(chunk);
         }
         let mut from = 0;
         while from < count {
             let most = BLOCK.min(count - from);
             let block = chunk.slice(self.alloc, from, from + most)?;
-            self.add_block(&block, &mut numbers)?;
+            self.add_block(&block)?;
             from += most;
         }
         Ok(())

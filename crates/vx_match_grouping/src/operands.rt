@@ -1,6 +1,6 @@
 //! The values that aggregates take from the rows of a chunk, read where they lie.
 
-ghost use Rattle.std.specs.Prelude.{◌≡◌, ◌<◌, ◌∷◌, [], length, map, IfSome, IfOk};
+ghost use Rattle.std.specs.Prelude.{◌≡◌, ◌<◌, ◌∷◌, [], length, map, true, IfOk};
 ghost use Rattle.vx_rows_values.specs.Values.{num, pick, value_at};
 ghost use Rattle.vx_rows_values.specs.ValueView.{val_of, cell_val};
 ghost use Rattle.vx_rows.specs.View.{row};
@@ -13,52 +13,36 @@ use vx_ops_kernels::cell_or_zero;
 use vx_rows_values::{Cell, Value};
 use vx_rows_views::Chunk;
 
-/// A column of a chunk that has numbers. They are read once, in one loop for each way in which a column may lie, so that no
-/// aggregate asks that of each row.
-pub(crate) struct NumberOperand<'a> {
-    chunk: &'a Chunk,
+/// Puts the numbers of a column into a list, whatever stood there, and returns whether there is such a column with numbers.
+pub(crate) fn read_numbers(
+    chunk: &Chunk,
     column: usize,
-    numbers: Vec<i64>,
-    ghost same: { map number_key numbers.items ≡ map (pick (column ∷ [])) chunk.now.rows },
+    numbers: &mut Vec<i64>,
+) -> Result<bool, AllocError>
+    ensures { IfOk result (λ b. b ≡ true → map number_key numbers.new.items ≡ map (pick (column ∷ [])) chunk.now.rows) }
+{
+    if column >= chunk.types().len() {
+        return Ok(false);
+    }
+    let Some(view) = IntColumn::of(chunk, &[column]) else {
+        return Ok(false);
+    };
+    numbers.resize(chunk.len(), 0)?;
+    view.read(0, numbers.as_mut_slice());
+    Ok(true)
 }
 
-// By hand, so that the drop of the numbers is made and proved here once.
-impl Drop for NumberOperand<'_> {
-    fn drop(self) {
-        let NumberOperand {
-            chunk: _,
-            column: _,
-            numbers: _,
-        } = self;
-    }
+/// A column of a chunk that has numbers. They were read once, in one loop for each way in which a column may lie, so that no
+/// aggregate asks that of each row.
+#[derive(Clone, Copy)]
+pub(crate) struct NumberOperand<'a> {
+    pub chunk: &'a Chunk,
+    pub column: usize,
+    pub numbers: &'a [i64],
+    ghost same: { map number_key numbers.now ≡ map (pick (column ∷ [])) chunk.now.rows },
 }
 
 impl<'a> NumberOperand<'a> {
-    /// That column, if there is one with numbers.
-    pub fn of(
-        alloc: Global,
-        chunk: &'a Chunk,
-        column: usize,
-    ) -> Result<Option<NumberOperand<'a>>, AllocError>
-        ensures chunk { IfOk result (λ o. IfSome o (λ x. x.chunk.now ≡ chunk.now)) }
-        ensures column { IfOk result (λ o. IfSome o (λ x. x.column ≡ column)) }
-    {
-        if column >= chunk.types().len() {
-            return Ok(None);
-        }
-        let Some(view) = IntColumn::of(chunk, &[column]) else {
-            return Ok(None);
-        };
-        let mut numbers = Vec::new(alloc);
-        numbers.resize(chunk.len(), 0)?;
-        view.read(0, numbers.as_mut_slice());
-        Ok(Some(NumberOperand {
-            chunk,
-            column,
-            numbers,
-        }))
-    }
-
     /// The number of row i.
     #[inline(always)]
     pub fn get(&self, i: usize) -> i64

@@ -1,4 +1,4 @@
-use Rattle.std.proofs.Common.{◌≡◌, ◌<◌, ◌≤◌, ◌+◌, ◌++◌, ◌∙◌, sym, subst, arith, length, take, take_all, List}
+use Rattle.std.proofs.Common.{◌+◌, ◌++◌, ◌∙◌, sym, subst, arith, take, take_all, List}
 use Rattle.vx_rows_values.specs.Values.{Row}
 use Rattle.vx_match_grouping.specs.Groups.{HasTaken}
 use Rattle.vx_match_grouping.specs.GroupFaults.{TakeBlame}
