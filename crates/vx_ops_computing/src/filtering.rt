@@ -200,14 +200,11 @@ fn chosen_in_turn(alloc: Global, filters: &[Filter], chunk: Chunk) -> Result<Chu
     Ok(found)
 }
 
-// The rows of a chunk of which the comparisons hold. Those of one column that make an interval are asked as one, and two others in one loop.
+// The rows of a chunk of which the comparisons hold. Two are asked in one loop.
 fn chosen_compared(alloc: Global, filters: &[Filter], chunk: Chunk) -> Result<Chunk, AllocError>
     ensures types { IfOk result (λ c. c.types ≡ chunk.types) }
     ensures rows { IfOk result (λ c. (given : Functions) → c.rows ≡ filter (comparisons_hold (map (filter_by given) filters.now)) chunk.rows) }
 {
-    if let Some(interval) = interval_of(filters, chunk.types()) {
-        return within(alloc, &interval, chunk);
-    }
     if let [first, second] = filters
         && let Filter::Compared(first) = first
         && let Filter::Compared(second) = second
@@ -217,7 +214,7 @@ fn chosen_compared(alloc: Global, filters: &[Filter], chunk: Chunk) -> Result<Ch
     chosen_in_turn(alloc, filters, chunk)
 }
 
-// What a selection makes of the rows of a chunk.
+// What a selection makes of the rows of a chunk. Comparisons of one column that make an interval are asked as one.
 fn filtered_chunk<F: PlanFunctions>(
     alloc: Global,
     functions: &F,
@@ -229,6 +226,11 @@ fn filtered_chunk<F: PlanFunctions>(
     ensures rows { IfOk result (λ c. unary_rows (select (map (filter_by (F.functions functions.now)) filters.now)) chunk.now.rows ≡ Some c.rows) }
     ensures fault { IfErr result (ComputeBlame (unary_rows (select (map (filter_by (F.functions functions.now)) filters.now)) chunk.now.rows)) }
 {
+    if !has_computed(filters)
+        && let Some(interval) = interval_of(filters, chunk.types())
+    {
+        return Ok(within(alloc, &interval, chunk)?);
+    }
     let found = chosen_computed(alloc, functions, filters, chunk)?;
     Ok(chosen_compared(alloc, filters, found)?)
 }
@@ -266,7 +268,8 @@ pub fn filtered<F: PlanFunctions>(
     ensures rows { IfOk result (λ r. unary_rows (unary_under (F.functions functions.now) (select (map filter_of filters.now))) rows.now.rows ≡ Some r.rows) }
     ensures fault { IfErr result (ComputeBlame (unary_rows (unary_under (F.functions functions.now) (select (map filter_of filters.now))) rows.now.rows)) }
 {
-    let mut found = Rows::new(alloc, rows.types())?;
+    // none yet, which share the list of types
+    let mut found = rows.slice(alloc, 0, 0)?;
     add_filtered(alloc, functions, &mut found, filters, rows.chunks())?;
     Ok(found)
 }

@@ -103,14 +103,14 @@ pub(crate) fn interval_of(filters: &[Filter], types: &[ColType]) -> Option<Inter
 }
 
 /// The rows of a chunk whose number in the column of an interval lies in it.
-pub(crate) fn within(alloc: Global, interval: &Interval, chunk: Chunk) -> Result<Chunk, AllocError>
-    requires column { interval.now.column < length chunk.types }
-    requires kind { type_at chunk.types interval.now.column ≡ kind.Int }
-    ensures types { IfOk result (λ c. c.types ≡ chunk.types) }
-    ensures rows { IfOk result (λ c. c.rows ≡ filter (lies_in interval.now) chunk.rows) }
+pub(crate) fn within(alloc: Global, interval: &Interval, chunk: &Chunk) -> Result<Chunk, AllocError>
+    requires column { interval.now.column < length chunk.now.types }
+    requires kind { type_at chunk.now.types interval.now.column ≡ kind.Int }
+    ensures types { IfOk result (λ c. c.types ≡ chunk.now.types) }
+    ensures rows { IfOk result (λ c. c.rows ≡ filter (lies_in interval.now) chunk.now.rows) }
 {
     let Some(places) = chunk.places_where(alloc, interval.column, interval)? else {
-        return Ok(chunk);
+        return Ok(chunk.share(alloc)?);
     };
     places_are_a_filter();
     Ok(chunk.at(alloc, places.as_slice())?)

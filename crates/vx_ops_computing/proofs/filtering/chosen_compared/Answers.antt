@@ -1,8 +1,5 @@
-use Rattle.std.proofs.Common.{◌≡◌, ◌&&◌, List, [], map, take, take_all, filter, refl, sym, subst, ap, ◌∙◌, arith}
+use Rattle.std.proofs.Common.{◌≡◌, ◌&&◌, List, [], map, take, take_all, filter, refl, sym, ap, ◌∙◌, arith}
 use Rattle.std.proofs.lemmas.Result.{IfOk-weaker}
-use Rattle.std.specs.List.{AllByRecursion}
-use Rattle.vx_rows_values.specs.declared.value.ColType.{ColType}
-use Rattle.vx_rows_values.specs.Types.{Fits}
 use Rattle.vx_plan_nodes.specs.Functions.{Functions}
 use Rattle.vx_plan_nodes.specs.Outline.{condition_of}
 use Rattle.vx_plan_nodes.specs.Plan.{Filter, comparing}
@@ -10,10 +7,8 @@ use Rattle.vx_ops_kernels.specs.Holds.{holds_of}
 use Rattle.vx_ops_kernels.proofs.Conditions.{filter-both, keeps-all}
 use Rattle.vx_ops_computing.specs.Computed.{comparisons_hold}
 use Rattle.vx_ops_computing.specs.Given.{filter_by}
-use Rattle.vx_ops_computing.specs.Intervals.{lies_in}
 use Rattle.vx_ops_computing.proofs.Choosing.{compared-more}
 use Rattle.vx_ops_computing.proofs.Entries.{next-of}
-use Rattle.vx_ops_computing.proofs.IntervalFacts.{interval-rows}
 use Rattle.vx_ops_computing.proofs.filtering.chosen_compared.Goals as goal
 
 pub returns-clause-rows : goal.returns-clause-rows
@@ -37,16 +32,3 @@ returns-clause-rows c =
     ∙ (ap (λ gs. filter (comparisons_hold gs) xs) (sym (next-of (filter_by given) fs 1 c.second-item.result (comparing (condition_of second)) (omega (arith, c.in-len2.len_at_least)) c.second-item.is (ap (filter_by given) c.in-Compared-second.is)))
     ∙ ap (λ hs. filter (comparisons_hold (map (filter_by given) hs)) xs) (take_all 2 fs (omega (arith, c.in-len2.len_below))))))))
     c.kept_both.ensures.rows
-
-pub returns-in-Some-clause-rows : goal.returns-in-Some-clause-rows
-returns-in-Some-clause-rows c =
-    let xs = c.args.chunk.rows in
-    let fs = c.args.filters.now in
-    let interval = c.in-Some.interval in
-    let found = c.in-Some.ensures in
-    let fit = subst (λ (ts : List ColType). AllByRecursion (Fits ts) xs) (sym c.types.ensures.types) c.types.ensures.fit in
-    IfOk-weaker c.within.result
-    (λ x. x.rows ≡ filter (lies_in interval) xs)
-    (λ x. (given : Functions) → x.rows ≡ filter (comparisons_hold (map (filter_by given) fs)) xs)
-    (λ x e given. e ∙ interval-rows interval (comparisons_hold (map (filter_by given) fs)) c.types.result.now xs found.column found.kind fit (found.same given))
-    c.within.ensures.rows

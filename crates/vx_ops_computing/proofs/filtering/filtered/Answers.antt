@@ -12,7 +12,7 @@ use Rattle.vx_ops_computing.proofs.filtering.filtered.Goals as goal
 pub add_filtered-requires-clause-known : goal.add_filtered-requires-clause-known
 add_filtered-requires-clause-known g c =
     let given : Functions = g.F.PlanFunctions.functions c.args.functions.now in
-    ap₂ (λ ts op. unary_known ts op) (c.in_ok-found.ensures.types ∙ c.types.ensures.types) (sym (filters-by given c.args.filters.now)) ∙ c.requires
+    ap₂ (λ ts op. unary_known ts op) c.in_ok-found.ensures.types (sym (filters-by given c.args.filters.now)) ∙ c.requires
 
 pub returns-in_err-add_filtered-clause-fault : goal.returns-in_err-add_filtered-clause-fault
 returns-in_err-add_filtered-clause-fault g c =
