@@ -1,12 +1,11 @@
 -- Keys that are found by their hashes.
-use Rattle.std.proofs.Common.{◌≡◌, ℕ, suc, zero, pos, ◌+◌, ◌<◌, ◌≤◌, Bool, true, false, cond, not, ◌||◌, List, [], ◌∷◌, ◌++◌, map, take, length, get_or, refl, sym, ap, ◌∙◌, subst, arith, true≢false, nat_eq, is_eq}
+use Rattle.std.proofs.Common.{◌≡◌, ℕ, suc, zero, pos, ◌+◌, ◌<◌, ◌≤◌, Bool, true, false, cond, not, ◌||◌, List, [], ◌∷◌, map, take, length, get_or, refl, sym, ap, ◌∙◌, subst, arith, true≢false, nat_eq, is_eq}
 use Rattle.std.specs.Prelude.{All, position, None}
 use Rattle.std.specs.List.{list_any, AllByRecursion, IsDistinct, position_or_len}
 use Rattle.std.proofs.lemmas.Cmp.{eq_by_cmp_equiv, nat_eq_equiv}
 use Rattle.std.proofs.lemmas.List.{take_more_same, take_all, length-map, get_or-map}
 use Rattle.std.proofs.lemmas.Bool.Decides.{Decides-eqb}
 use Rattle.std.proofs.lemmas.Map.Keys.{IsDistinct-cons, IsDistinct-head, IsDistinct-tail}
-use Rattle.indexmap.specs.IndexSet.{insert_key}
 use Rattle.vx_rows_values.specs.declared.value.ColType.{ColType}
 use Rattle.vx_rows_values.specs.Types.{type_of, type_at, Fits}
 use Rattle.vx_rows_values.specs.declared.value.Cell.{Cell}
@@ -16,7 +15,7 @@ use Rattle.vx_rows_values.specs.Equality.{row_eq-same, val_cmp-same, val_cmp_tot
 use Rattle.vx_rows.specs.View.{HasTypes, RowsView}
 use Rattle.vx_rows.proofs.Below.{all_at, all_here}
 use Rattle.vx_match_keys.proofs.KeyFacts.{row_eq-refl, none-distinct}
-use Rattle.vx_match_keys.proofs.NumberFacts.{missing-number, number-most, key-new}
+use Rattle.vx_match_keys.proofs.NumberFacts.{missing-number}
 
 -- rows are equal where they are as long and each value is the same
 pub long-apart : (a b : Row) → (length a ≡ length b → ⊥) → row_eq a b ≡ false
@@ -187,18 +186,6 @@ module _ (f : Row → ℕ) (key : Row) (rows rs : List Row) (hs : List ℕ) (h :
   new-here none =
       let past = none-past (nat_eq h) hs none in
       number-missing f key rows (omega (arith, past, place, long))
-
-  pub new-number : (n : ℕ) → n ≡ position_or_len (nat_eq h) hs → list_any (nat_eq h) hs ≡ false → n ≡ position_or_len (row_eq key) rows
-  new-number n at none =
-      let past = none-past (nat_eq h) hs none in
-      let most = number-most (nat_eq h) hs in
-      let new = new-here none in
-      omega (arith, at, past, most, long, new)
-
-  pub new-keys : list_any (nat_eq h) hs ≡ false → rs ++ key ∷ [] ≡ insert_key row_eq rows key
-  new-keys none =
-      let new = new-here none in
-      ap (λ l. l ++ key ∷ []) same ∙ sym (key-new rows key (omega (arith, new)))
 
 -- the place of what passes
 pub any-before : {X : Type 0} (p : X → Bool) (xs : List X) → list_any p xs ≡ true → position_or_len p xs < length xs

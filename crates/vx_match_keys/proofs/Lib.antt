@@ -9,3 +9,4 @@ pub mod ErrorFacts
 pub mod DirectFacts
 pub mod BlockFacts
 pub mod RiseFacts
+pub mod FoundFacts

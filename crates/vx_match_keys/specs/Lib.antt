@@ -7,3 +7,4 @@ pub mod Kept
 pub mod Direct
 pub mod Found
 pub mod Rising
+pub mod Values

@@ -1,6 +1,6 @@
 //! Keys of several values, kept by columns.
 
-ghost use Rattle.std.specs.Prelude.{◌≡◌, ◌<◌, ◌≤◌, ◌++◌, ◌∷◌, [], length, map, take, fold, All, OnOk, OnErr, IfOk, IfSome, IfNone, IsTrue, slice_get, Some};
+ghost use Rattle.std.specs.Prelude.{nat_eq, ◌≡◌, ◌+◌, ◌<◌, ◌≤◌, ◌++◌, ◌∷◌, [], length, map, take, fold, All, OnOk, OnErr, IfOk, IfSome, IfNone, IsTrue, true, false, slice_get, slice_range, Some};
 ghost use Rattle.std.specs.List.{position_or_len, IsDistinct};
 ghost use Rattle.std.specs.Ordering.{is_eq};
 ghost use Rattle.vx_rows_values.specs.Types.{type_at};
@@ -12,6 +12,8 @@ ghost use Rattle.indexmap.specs.IndexSet.{insert_key, insert_all};
 ghost use Rattle.vx_match_keys.specs.Hashed.{key_hash};
 ghost use Rattle.vx_match_keys.specs.Numbers.{numbers_of};
 
+use crate::key_hashes::{BLOCK, hash_keys};
+use crate::key_matches::have_keys;
 use indexmap::IndexSet;
 use std::alloc::{AllocError, Global};
 use std::hash::{BuildHasher, Hash, Hasher};
@@ -19,6 +21,9 @@ use std::marker::Model;
 use vx_rows::Table;
 use vx_rows_values::{Cell, ColType, KeySeed};
 use vx_rows_views::Chunk;
+
+// Room is reserved for at most so many times the keys that are there.
+const GROWTH: usize = 16;
 
 /// Keys of one list of types, kept by columns, and beside them the hash of each. No two have the same hash: where a new key
 /// has that of another one, it is refused.
@@ -136,21 +141,46 @@ fn have_types(chunk: &Chunk, columns: &[usize], types: &[ColType]) -> bool
     true
 }
 
-// Adds a key whose hash stands there already. If memory runs out, its hash goes again.
-fn push_hashed(
+// The number of a hash, or how many there are where it is new.
+fn hash_or_next(hashes: &IndexSet<u64, KeySeed>, hash: u64) -> usize
+    ensures { result ≡ position_or_len (nat_eq hash) hashes.now.keys }
+{
+    let Some(number) = hashes.get_index_of(&hash) else {
+        return hashes.len();
+    };
+    number
+}
+
+// Puts the number of each hash into a slice, or how many there are where it is new.
+fn find_hashes(hashes: &IndexSet<u64, KeySeed>, wanted: &[u64], found: &mut [usize])
+    requires { length wanted.now ≡ length found.old }
+    ensures { found.new ≡ map (λ h. position_or_len (nat_eq h) hashes.now.keys) wanted.now }
+{
+    for i in 0..found.len() {
+        found[i] = hash_or_next(hashes, wanted[i]);
+    }
+}
+
+// Adds the key of a row, whose hash stands there already. If memory runs out, its hash goes again.
+fn push_key<'a>(
     keys: &mut Table,
     hashes: &mut IndexSet<u64, KeySeed>,
-    cells: &[Cell<'_>],
+    chunk: &'a Chunk,
+    i: usize,
+    columns: &[usize],
+    cells: &mut Vec<Cell<'a>>,
 ) -> Result<(), AllocError>
-    requires { HasTypes keys.old.types (map cell_val cells.now) }
+    requires row { i < length chunk.now.rows }
+    requires columns { AreColumns (length chunk.now.types) columns.now }
+    requires types { HasTypes keys.old.types (pick columns.now (row chunk.now i)) }
     ensures types { keys.new.types ≡ keys.old.types }
-    ensures keys { OnOk result (keys.new.rows ≡ keys.old.rows ++ map cell_val cells.now ∷ []) }
+    ensures keys { OnOk result (keys.new.rows ≡ keys.old.rows ++ pick columns.now (row chunk.now i) ∷ []) }
     ensures hashes { OnOk result (hashes.new.keys ≡ hashes.old.keys) }
     ensures err_keys { OnErr result (keys.new.rows ≡ keys.old.rows) }
     ensures err_hashes { OnErr result (hashes.new.keys ≡ take (length keys.old.rows) hashes.old.keys) }
 {
     let count = keys.len();
-    if keys.push_cells(cells).is_err() {
+    if read_cells(chunk, i, columns, cells).is_err() || keys.push_cells(cells.as_slice()).is_err() {
         hashes.truncate(count);
         return Err(AllocError);
     }
@@ -210,29 +240,78 @@ impl ColumnKeys {
         true
     }
 
-    // The number of a key, which is added if it is new. A new one whose hash another key has is refused, and nothing changes.
-    fn number(&mut self, cells: &[Cell<'_>]) -> Result<Option<usize>, AllocError>
-        requires { HasTypes self.old.types (map cell_val cells.now) }
-        ensures types { self.new.types ≡ self.old.types }
-        ensures number { IfOk result (λ o. IfSome o (λ n. n ≡ position_or_len (row_eq (map cell_val cells.now)) self.old.rows)) }
-        ensures keys { IfOk result (λ o. IfSome o (λ _. self.new.rows ≡ insert_key row_eq self.old.rows (map cell_val cells.now))) }
-        ensures refused { IfOk result (λ o. IfNone o (self.new.rows ≡ self.old.rows)) }
+    // Reserves room for keys of the `rest` rows of a chunk that are still to come, where there is none for a block, and more
+    // than half of the `done` rows before them had new keys. It is for speed alone: where memory is refused here, the keys
+    // that come ask for it again.
+    fn make_room(&mut self, added: usize, done: usize, rest: usize)
+        ensures { self.new ≡ self.old }
     {
-        let hash = hash_of(self.seed, cells);
-        let (number, added) = self.hashes.insert_full(hash)?;
-        if added {
-            push_hashed(&mut self.keys, &mut self.hashes, cells)?;
-            return Ok(Some(number));
+        let known = self.hashes.len();
+        if self.hashes.capacity() - known >= BLOCK || added <= done / 2 {
+            return;
         }
-        if self.is_key(number, cells) {
-            return Ok(Some(number));
+        let room = known.saturating_mul(GROWTH).min(rest);
+        let _ = self.hashes.reserve(room);
+        let _ = self.keys.reserve(room);
+    }
+
+    // Puts the numbers of the keys that the rows from one on have in these columns into a slice, and adds keys that are new.
+    // It returns `false`, and adds none, where one is refused. All hashes are looked up before new ones are added, so that
+    // the look-ups need not wait for one another, and the keys that were found are compared at the end, column by column.
+    fn number_block<'a>(
+        &mut self,
+        chunk: &'a Chunk,
+        columns: &[usize],
+        from: usize,
+        found: &mut [usize],
+        cells: &mut Vec<Cell<'a>>,
+    ) -> Result<bool, AllocError>
+        requires columns { AreColumns (length chunk.now.types) columns.now }
+        requires there { from + length found.old ≤ length chunk.now.rows }
+        requires block { length found.old ≤ BLOCK }
+        requires types { All (λ r. HasTypes self.old.types (pick columns.now r)) chunk.now.rows }
+        ensures types { self.new.types ≡ self.old.types }
+        ensures len { length found.new ≡ length found.old }
+        ensures numbers { IfOk result (λ all. all ≡ true → found.new ≡ numbers_of self.old.rows (slice_range (map (pick columns.now) chunk.now.rows) from (from + length found.old))) }
+        ensures keys { IfOk result (λ all. all ≡ true → self.new.rows ≡ insert_all row_eq self.old.rows (slice_range (map (pick columns.now) chunk.now.rows) from (from + length found.old))) }
+        ensures refused { IfOk result (λ all. all ≡ false → self.new.rows ≡ self.old.rows) }
+    {
+        let known = self.hashes.len();
+        // no row is above this
+        let _count = chunk.len();
+        let mut block = [0; BLOCK];
+        let hashes = &mut block[..found.len()];
+        hash_keys(self.seed, chunk, columns, from, hashes);
+        find_hashes(&self.hashes, hashes, found);
+        for i in 0..found.len() {
+            if found[i] != known {
+                continue;
+            }
+            let (number, added) = self.hashes.insert_full(hashes[i])?;
+            found[i] = number;
+            if !added {
+                continue;
+            }
+            push_key(
+                &mut self.keys,
+                &mut self.hashes,
+                chunk,
+                from + i,
+                columns,
+                cells,
+            )?;
         }
-        Ok(None)
+        if have_keys(&self.keys, found, chunk, columns, from) {
+            return Ok(true);
+        }
+        self.keys.truncate(known);
+        self.hashes.truncate(known);
+        Ok(false)
     }
 
     /// Adds the numbers of the keys that the rows of a chunk have in these columns. Keys that are new are added. It returns
-    /// how many rows it took: none where the columns have other types than these keys, and else those before the first row
-    /// whose key is refused.
+    /// how many rows it took: none where the columns have other types than these keys, and else all, or those of the blocks
+    /// before the first one that has a key which is refused.
     pub fn number_all(
         &mut self,
         chunk: &Chunk,
@@ -247,14 +326,19 @@ impl ColumnKeys {
         if !have_types(chunk, columns, self.keys.types()) {
             return Ok(0);
         }
-        let mut cells = Vec::with_capacity(self.alloc, columns.len())?;
         let count = chunk.len();
-        for i in 0..count {
-            read_cells(chunk, i, columns, &mut cells)?;
-            let Some(number) = self.number(cells.as_slice())? else {
-                return Ok(i);
-            };
-            numbers.push(number)?;
+        let before = self.keys.len();
+        let mut cells = Vec::with_capacity(self.alloc, columns.len())?;
+        let mut found = [0; BLOCK];
+        let mut from = 0;
+        while from < count {
+            let block = BLOCK.min(count - from);
+            self.make_room(self.len().saturating_sub(before), from, count - from);
+            if !self.number_block(chunk, columns, from, &mut found[..block], &mut cells)? {
+                return Ok(from);
+            }
+            numbers.extend_from_slice(&found[..block])?;
+            from += block;
         }
         Ok(count)
     }

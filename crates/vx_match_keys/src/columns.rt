@@ -1,6 +1,6 @@
 //! Columns whose values are keys by themselves, read where they lie.
 
-ghost use Rattle.std.specs.Prelude.{◌≡◌, ◌+◌, ◌^◌, ◌<◌, ◌≤◌, [], pos, length, map, slice_index, slice_index_or, slice_range, All, IfSome};
+ghost use Rattle.std.specs.Prelude.{◌≡◌, ◌+◌, ◌^◌, ◌<◌, ◌≤◌, ◌∷◌, [], pos, length, map, slice_index, slice_index_or, slice_range, All, IfSome};
 ghost use Rattle.vx_rows_values.specs.Values.{pick};
 ghost use Rattle.vx_rows.specs.View.{AreColumns};
 ghost use Rattle.vx_rows.specs.Numbers.{seen_numbers};
@@ -246,5 +246,33 @@ impl<'a> TextColumn<'a> {
         // no position is above this
         let _count = self.texts.len();
         self.texts.get(position_at(self.at, k))
+    }
+}
+
+/// The keys of rows, where each is one value.
+#[derive(Drop)]
+pub(crate) enum ValueColumn<'a> {
+    Ints(IntColumn<'a>),
+    Texts(TextColumn<'a>),
+}
+
+impl<'a> ValueColumn<'a> {
+    ghost use Rattle.vx_match_keys.specs.Values.{value_keys};
+
+    /// The values that the rows of a chunk have in a column.
+    pub fn of(chunk: &'a Chunk, column: usize) -> ValueColumn<'a>
+        requires { column < length chunk.now.types }
+        ensures { value_keys result ≡ map (pick (column ∷ [])) chunk.now.rows }
+    {
+        match chunk.numbers(column) {
+            Some((numbers, at)) => ValueColumn::Ints(IntColumn {
+                numbers: numbers.view(),
+                at,
+            }),
+            None => match chunk.texts(column) {
+                Some((texts, at)) => ValueColumn::Texts(TextColumn { texts, at }),
+                None => unreachable!(),
+            },
+        }
     }
 }

@@ -144,8 +144,8 @@ impl CompositeKeys {
         Ok(rows)
     }
 
-    // Does what `number_all` does with the first rows of the chunk, and returns how many: all of them, or those before the
-    // first whose key cannot be kept with these.
+    // Does what `number_all` does with the first rows of the chunk, and returns how many: all of them, or some of those before
+    // the first whose key cannot be kept with these.
     fn number_first(
         &mut self,
         chunk: &Chunk,

@@ -8,6 +8,8 @@ mod composite_keys;
 mod direct_keys;
 mod hashed_keys;
 mod int_keys;
+mod key_hashes;
+mod key_matches;
 mod keys;
 mod rising;
 mod row_keys;
