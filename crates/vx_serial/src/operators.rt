@@ -203,8 +203,8 @@ fn merged(
     }
 }
 
-// The same rows as by hashing, where the inputs should be in order on these columns. A plan that the checker did not see may
-// have them in another. Numbers are compared at less than a hash takes, other keys are not.
+// The same rows, where both inputs should be in order on these columns: in a plan that the checker did not accept they may not
+// be. Numbers are compared in less time than they are hashed. Keys of other kinds are hashed.
 fn joined_in_order(
     alloc: Global,
     seed: KeySeed,

@@ -63,14 +63,14 @@ loop-pairs-preserved c =
       next = let a = inv.next in let b = next.next in let d = on.next in let e = blocks.next in omega (arith, a, b, d, e);
       end = let a = inv.end in let b = next.end in let d = on.end in let e = blocks.end in omega (arith, a, b, d, e);
       begun = inl (
-        let a = inv.next in let b = on.next in let d = blocks.next in let e = inv.end in let f = next.end in let g = on.end in let k = blocks.end in
-        let left : length last.left.rows ≡ length now.left.rows = ap (λ t. length t.rows) still.left in
-        let right : length last.right.rows ≡ length now.right.rows = ap (λ t. length t.rows) still.right in
-        let first : length was.left.rows ≡ length now.left.rows = ap (λ t. length t.rows) inv.inputs.left in
-        let up = step.0 in
-        let within = step.1 in
-        omega (arith, a, b, d, e, f, g, k, left, right, first, up, within)
-      );
+          let a = inv.next in let b = on.next in let d = blocks.next in let e = inv.end in let f = next.end in let g = on.end in let k = blocks.end in
+          let left : length last.left.rows ≡ length now.left.rows = ap (λ t. length t.rows) still.left in
+          let right : length last.right.rows ≡ length now.right.rows = ap (λ t. length t.rows) still.right in
+          let first : length was.left.rows ≡ length now.left.rows = ap (λ t. length t.rows) inv.inputs.left in
+          let up = step.0 in
+          let within = step.1 in
+          omega (arith, a, b, d, e, f, g, k, left, right, first, up, within)
+          );
       fewer = let a = inv.fewer in let b = next.fewer in let d = pairs-left joined skipped on.inputs on.next in let e = blocks.fewer in omega (arith, a, b, d, e);
       many = blocks.many;
       left = subst (λ (n : ℕ). ArePositions n all.left.items) (ap (λ t. length t.rows) same.left) blocks.left;
