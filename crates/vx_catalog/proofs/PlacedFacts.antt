@@ -1,5 +1,5 @@
 -- Some columns of rows, each at the place at which it was named: keys and orders say of them what they say of the rows.
-use Rattle.std.proofs.Common.{◌≡◌, ℕ, ◌+◌, ◌<◌, slice_index_or, List, [], ◌∷◌, ◌++◌, Bool, cond, Option, Some, refl, sym, ap, ◌∙◌, length, map, arith, is_lt}
+use Rattle.std.proofs.Common.{◌≡◌, ℕ, ◌+◌, ◌<◌, slice_index_or, List, [], ◌∷◌, ◌++◌, refl, sym, ap, ◌∙◌, length, map, arith}
 use Rattle.std.specs.Prelude.{position, pos}
 use Rattle.std.specs.List.{range_with_len}
 use Rattle.std.specs.Ordering.{ordering_then}

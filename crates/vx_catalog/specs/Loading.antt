@@ -1,5 +1,5 @@
 -- The rows that a text holds of a relation, or the first reason why it holds none. The records are those that `csv` reads.
-use Rattle.std.specs.Prelude.{◌≡◌, ℕ, ℤ, ◌+◌, ◌==◌, List, [], ◌∷◌, ◌++◌, length, Option, Some, None, Result, Ok, Err, nat_lt, if◌then◌else◌, Bool, true, false, ◌&&◌, ◌^◌, bytes_eq}
+use Rattle.std.specs.Prelude.{◌≡◌, ℕ, ℤ, ◌+◌, ◌==◌, List, [], ◌∷◌, ◌++◌, length, Option, Some, None, Result, Ok, Err, nat_lt, if◌then◌else◌, Bool, true, false, ◌&&◌, bytes_eq}
 use Rattle.std.specs.Ordering.{is_lt}
 use Rattle.std.specs.Str.{is_utf8}
 use Rattle.csv.specs.Reading.{records, default_config, strip_bom}

@@ -1,4 +1,4 @@
-use Rattle.std.proofs.Common.{◌≡◌, ◌++◌, ◌∷◌, [], ◌∙◌, ap, sym}
+use Rattle.std.proofs.Common.{◌++◌, ◌∷◌, [], ◌∙◌, ap, sym}
 use Rattle.vx_catalog.proofs.PlacedFacts.{place-next}
 use Rattle.vx_catalog.proofs.loader.places_of.Goals as goal
 

@@ -1,4 +1,4 @@
-use Rattle.std.proofs.Common.{◌≡◌, ◌∙◌, ap, sym, Some, None, Option, ℕ}
+use Rattle.std.proofs.Common.{◌≡◌, ◌∙◌, ap, sym}
 use Rattle.vx_rows_values.specs.Types.{type_at}
 use Rattle.vx_catalog.specs.Loading.{first_fall, no_fall}
 use Rattle.vx_catalog.proofs.PlacedFacts.{first-fall-placed, order-there}

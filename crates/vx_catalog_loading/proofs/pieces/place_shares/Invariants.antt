@@ -1,7 +1,7 @@
-use Rattle.std.proofs.Common.{◌≡◌, ℕ, List, Result, All, IfOk, vec_len}
+use Rattle.std.proofs.Common.{◌≡◌, ℕ, List, vec_len}
 use Rattle.std.specs.Vec.Iter.{into_iter_items}
 use Rattle.vx_rows_values.specs.declared.value.ColType.{ColType}
-use Rattle.vx_catalog_loading.specs.Pieces.{AreDrawn, AreShared, ArePartsRead}
+use Rattle.vx_catalog_loading.specs.Pieces.{AreShared, ArePartsRead}
 use Rattle.vx_catalog_loading.proofs.pieces.place_shares.Given as goal
 
 abbrev pub invariant-loop-share : goal.invariant-loop-share

@@ -1,4 +1,4 @@
-use Rattle.std.proofs.Common.{◌≡◌, ℕ, ◌<◌, length, arith}
+use Rattle.std.proofs.Common.{◌<◌, length, arith}
 use Rattle.vx_catalog_loading.specs.Pieces.{AreShared}
 use Rattle.vx_catalog_loading.proofs.Drawn.{both_ok}
 use Rattle.vx_catalog_loading.proofs.pieces.read_pieces.Goals as goal

@@ -1,11 +1,9 @@
-use Rattle.std.proofs.Common.{◌≡◌, ℕ, ℤ, zero, suc, ◌<◌, ◌≤◌, ◌∷◌, ◌++◌, [], List, length, map, get_or, pos, true, refl, sym, ap, ◌∙◌, subst, arith}
+use Rattle.std.proofs.Common.{◌≡◌, ℕ, ℤ, zero, suc, ◌<◌, ◌≤◌, ◌∷◌, ◌++◌, [], List, length, map, get_or, pos, true, refl, sym, ap, ◌∙◌, arith}
 use Rattle.std.specs.Prelude.{slice_index_or}
 use Rattle.vx_rows_values.specs.Values.{num, Row}
 use Rattle.vx_rows_values.specs.Types.{fits_64}
 use Rattle.vx_rows_values.specs.declared.value.ColType.TheVariants as kind
-use Rattle.vx_rows.specs.Lists.{each_below}
-use Rattle.vx_rows.specs.Columns.{AreRows, rows_of, row_of}
-use Rattle.vx_rows.specs.declared.column.Column.{Column}
+use Rattle.vx_rows.specs.Columns.{AreRows, rows_of}
 use Rattle.vx_rows.specs.declared.column.Column.TheVariants as column
 use Rattle.vx_rows.proofs.Below.{map-each_below, each_below-is}
 use Rattle.vx_rows.proofs.table.Table.of_numbers.Goals as goal
