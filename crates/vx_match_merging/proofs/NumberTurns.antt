@@ -6,10 +6,8 @@ use Rattle.std.proofs.Math.Nat.{suc-mul}
 use Rattle.vx_rows_values.specs.declared.order.OrderEntry.{OrderEntry}
 use Rattle.vx_rows_values.specs.Values.{Row, num, pick}
 use Rattle.vx_rows_values.specs.Order.{compare_values, sorted}
-use Rattle.vx_rows.specs.View.{RowsView, row}
-use Rattle.vx_rows_views.specs.Chunks.{all_rows}
+use Rattle.vx_rows.specs.View.{row}
 use Rattle.vx_rows_views.proofs.Facts.{get_or-slice}
-use Rattle.vx_rows_views.proofs.Whole.{spot-row}
 use Rattle.vx_match_keys.specs.Columns.{number_key}
 use Rattle.vx_match_merging.specs.Keys.{directions, key_of, key_cmp}
 use Rattle.vx_match_merging.specs.Merged.{MergeView, HasMerged, state_at, last_key, joined_rows, IsMerged, HoldsRun, run_rows, rows_at}
@@ -107,21 +105,19 @@ one-entry [] d one = absurd (omega (arith, one))
 one-entry (x ∷ []) d one = refl
 one-entry (x ∷ y ∷ ys) d one = absurd (omega (arith, one))
 
--- the keys of the rows of a table are those of rows in which it stands, and these are numbers that were read from a row on
-pub read-key : (order : List OrderEntry) (ts : List RowsView) (rows : List Row) → all_rows ts ≡ rows → (i at from : ℕ) (t : RowsView) → i < length ts → t ≡ get_or ts i t → at ≡ length (all_rows (take i ts)) → at ≤ from
-    → (d : OrderEntry) → length order ≡ 1 → (keys : List Row) → keys ≡ map (pick ((get_or order 0 d).column ∷ [])) t.rows
-    → (numbers : List ℤ) (n : ℕ) → n ≤ length numbers → (from - at) + n ≤ length keys → map number_key (take n numbers) ≡ slice_range keys (from - at) ((from - at) + n)
+-- the keys of the rows of a chunk are those of rows that are the same from a row on, and these are numbers that were read from there on
+pub read-key : (order : List OrderEntry) (rows part : List Row) (from place : ℕ) → ((k : ℕ) → place + k < length part → get_or rows (from + k) [] ≡ get_or part (place + k) [])
+    → (d : OrderEntry) → length order ≡ 1 → (keys : List Row) → keys ≡ map (pick ((get_or order 0 d).column ∷ [])) part
+    → (numbers : List ℤ) (n : ℕ) → n ≤ length numbers → place + n ≤ length keys → map number_key (take n numbers) ≡ slice_range keys place (place + n)
     → (k : ℕ) → k < n → key_of order (get_or rows (from + k) []) ≡ number_key (get_or numbers k (pos 0))
-read-key order ts rows whole i at from t near is place low d one keys columns numbers n room within read k small =
-    let long : length keys ≡ length t.rows = ap length columns ∙ length-map t.rows (pick ((get_or order 0 d).column ∷ [])) in
-    let spot : from + k ≡ length (all_rows (take i ts)) + ((from - at) + k) = omega (arith, place, low) in
-    let there : (from - at) + k < length t.rows = omega (arith, within, long, small) in
-    let row-is : get_or rows (from + k) [] ≡ get_or t.rows ((from - at) + k) [] = ap (λ xs. get_or xs (from + k) []) (sym whole) ∙ spot-row ts (from + k) i ((from - at) + k) t near is there spot in
-    let count : k < ((from - at) + n) - (from - at) = omega (arith, small) in
+read-key order rows part from place alike d one keys columns numbers n room within read k small =
+    let long : length keys ≡ length part = ap length columns ∙ length-map part (pick ((get_or order 0 d).column ∷ [])) in
+    let there : place + k < length part = omega (arith, within, long, small) in
+    let count : k < (place + n) - place = omega (arith, small) in
     let taken = length-take-le n numbers room in
-    (λ j. key_of (one-entry order d one j) (row-is j))
-    ∙ (sym (ap (λ ks. get_or ks ((from - at) + k) []) columns ∙ get_or-map (pick ((get_or order 0 d).column ∷ [])) t.rows ((from - at) + k) [] [] there)
-    ∙ (sym (ap (λ ks. get_or ks k []) read ∙ get_or-slice keys (from - at) ((from - at) + n) k [] count)
+    (λ j. key_of (one-entry order d one j) (alike k there j))
+    ∙ (sym (ap (λ ks. get_or ks (place + k) []) columns ∙ get_or-map (pick ((get_or order 0 d).column ∷ [])) part (place + k) [] [] there)
+    ∙ (sym (ap (λ ks. get_or ks k []) read ∙ get_or-slice keys place (place + n) k [] count)
     ∙ (get_or-map number_key (take n numbers) k (pos 0) [] (omega (arith, taken, small)) ∙ ap number_key (get_or-take n numbers k (pos 0) small))))
 
 -- a left row was passed, which made as many pairs as its run has rows

@@ -44,26 +44,14 @@ pub(crate) fn read_keys(
     ensures room { from + result < 2 ^ 64 }
     ensures keys { AreKeysFrom order.now rows.now.rows from numbers.new result }
 {
-    if order.len() != 1 {
+    if order.len() != 1 || from == rows.len() {
         return 0;
     }
-    let entry = order[0];
-    // no chunk ends above this
-    let _count = rows.len();
-    let chunks = rows.chunks();
-    let mut at = 0;
-    for i in 0..chunks.len() {
-        let chunk = &chunks[i];
-        let end = at + chunk.len();
-        if from < end {
-            return match IntColumn::of(chunk, &[entry.column]) {
-                Some(column) => read_part(&column, from - at, numbers),
-                None => 0,
-            };
-        }
-        at = end;
+    let (chunk, place) = rows.chunk_at(from);
+    match IntColumn::of(chunk, &[order[0].column]) {
+        Some(column) => read_part(&column, place, numbers),
+        None => 0,
     }
-    0
 }
 
 // Compares two numbers, in a falling column the other way round.

@@ -9,3 +9,4 @@ pub mod Own
 pub mod Joined
 pub mod Whole
 pub mod Maybe
+pub mod Marked

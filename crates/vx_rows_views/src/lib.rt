@@ -24,6 +24,7 @@
 mod chunk;
 mod copied;
 mod laws;
+mod marks;
 mod places;
 mod positions;
 mod rows;

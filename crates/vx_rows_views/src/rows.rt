@@ -8,8 +8,10 @@ ghost use Rattle.vx_rows_values.specs.ValueView.{cell_val};
 ghost use Rattle.vx_rows_values.specs.Types.{type_at, Fits};
 ghost use Rattle.vx_rows.specs.View.{row, AreColumns, ArePositions};
 ghost use Rattle.vx_rows_views.specs.Chunks.{all_rows, rows_in};
+ghost use Rattle.vx_rows_views.specs.Marks.{IsMark};
 
 use crate::chunk::{Chunk, types_at};
+use crate::marks::{Mark, Marks, add_marks, chunks_toward, mark_end};
 use std::alloc::{AllocError, Global};
 use std::marker::Model;
 use std::mem;
@@ -17,11 +19,13 @@ use std::sync::{Arc, ArcSlice};
 use vx_rows::Table;
 use vx_rows_values::{Cell, ColType};
 
-/// Rows in chunks, one behind the other. To add rows copies none. The list of types is shared by the rows that are cut from these.
+/// Rows in chunks, one behind the other. To add rows copies none. The list of types is shared by the rows that are cut from these. Where there are
+/// many chunks, some marks say where they begin.
 pub struct Rows {
     types: ArcSlice<ColType>,
     chunks: Vec<Chunk>,
     count: usize,
+    marks: Marks,
 }
 
 impl Drop for Rows {
@@ -30,6 +34,7 @@ impl Drop for Rows {
             types: _,
             chunks: _,
             count: _,
+            marks: _,
         } = self;
     }
 }
@@ -41,12 +46,13 @@ impl Model for Rows {
     ghost use Rattle.vx_rows_values.specs.Types.{Fits};
     ghost use Rattle.vx_rows.specs.View.{RowsView};
     ghost use Rattle.vx_rows_views.specs.Chunks.{all_rows};
+    ghost use Rattle.vx_rows_views.specs.Marks.{IsMark};
 
     ghost Value = { RowsView };
 
     ghost view = { λ r. record { types = arc_slice_items r.types; rows = all_rows r.chunks.items } };
 
-    ghost invariant = { λ r. (r.count ≡ length (all_rows r.chunks.items)) × All (λ c. c.types ≡ arc_slice_items r.types) r.chunks.items × AllByRecursion (Fits (arc_slice_items r.types)) (all_rows r.chunks.items) };
+    ghost invariant = { λ r. (r.count ≡ length (all_rows r.chunks.items)) × All (λ c. c.types ≡ arc_slice_items r.types) r.chunks.items × AllByRecursion (Fits (arc_slice_items r.types)) (all_rows r.chunks.items) × All (IsMark r.chunks.items) r.marks };
 }
 
 impl Rows {
@@ -59,6 +65,7 @@ impl Rows {
             types: ArcSlice::from_slice(alloc, types)?,
             chunks: Vec::new(alloc),
             count: 0,
+            marks: Marks::new(),
         })
     }
 
@@ -71,6 +78,7 @@ impl Rows {
             types: self.types.clone()?,
             chunks: Vec::new(alloc),
             count: 0,
+            marks: Marks::new(),
         })
     }
 
@@ -126,19 +134,31 @@ impl Rows {
         self.chunks.as_slice()
     }
 
+    /// The chunk in which a row lies, and at which place there. The rows behind it in the chunk are those behind it here.
+    pub fn chunk_at(&self, i: usize) -> (&Chunk, usize)
+        requires { i < length self.now.rows }
+        ensures types { result.0.now.types ≡ self.now.types }
+        ensures there { result.1 < length result.0.now.rows }
+        ensures within { i + (length result.0.now.rows - result.1) ≤ length self.now.rows }
+        ensures alike { (k : ℕ) → result.1 + k < length result.0.now.rows → row self.now (i + k) ≡ row result.0.now (result.1 + k) }
+    {
+        // mostly there is one chunk
+        let first = &self.chunks[0];
+        if i < first.len() {
+            return (first, i);
+        }
+        let spot = spot_near(self.chunks.as_slice(), self.marks.as_slice(), i);
+        (&self.chunks[spot.chunk], spot.place)
+    }
+
     /// The value of a row in a column.
     pub fn cell(&self, i: usize, column: usize) -> Cell<'_>
         requires row { i < length self.now.rows }
         requires column { column < length self.now.types }
         ensures { cell_val result ≡ value_at (row self.now i) column }
     {
-        // mostly there is one chunk
-        let first = &self.chunks[0];
-        if i < first.len() {
-            return first.cell(i, column);
-        }
-        let spot = spot_of(self.chunks.as_slice(), i);
-        self.chunks[spot.chunk].cell(spot.place, column)
+        let (chunk, place) = self.chunk_at(i);
+        chunk.cell(place, column)
     }
 
     /// Adds rows behind those that it has. A chunk of no rows is not kept. After an `Err` these are as before.
@@ -156,6 +176,8 @@ impl Rows {
         };
         // its rows fit its types
         let _types = chunk.types();
+        let alloc = *self.chunks.allocator();
+        mark_end(alloc, &mut self.marks, self.chunks.as_slice(), self.count)?;
         self.chunks.push(chunk)?;
         self.count = count;
         Ok(())
@@ -172,11 +194,16 @@ impl Rows {
             types: _,
             mut chunks,
             count: more,
+            marks,
         } = others;
         let Some(count) = self.count.checked_add(more) else {
             return Err(AllocError);
         };
+        let (before, rows) = (self.chunks.len(), self.count);
+        let alloc = *self.chunks.allocator();
+        mark_end(alloc, &mut self.marks, self.chunks.as_slice(), rows)?;
         self.chunks.append(&mut chunks)?;
+        add_marks(alloc, &mut self.marks, marks.as_slice(), before, rows);
         self.count = count;
         Ok(())
     }
@@ -199,6 +226,7 @@ impl Rows {
     {
         self.chunks.clear();
         self.count = 0;
+        self.marks = Marks::new();
     }
 
     /// The rows from `from` up to `to`.
@@ -209,7 +237,8 @@ impl Rows {
         ensures rows { IfOk result (λ r. r.rows ≡ slice_range self.now.rows from to) }
     {
         let mut found = self.none_alike(alloc)?;
-        add_part(alloc, &mut found, self.chunks.as_slice(), from, to - from)?;
+        let (chunks, before) = chunks_toward(self.chunks.as_slice(), self.marks.as_slice(), from);
+        add_part(alloc, &mut found, chunks, from - before, to - from)?;
         Ok(found)
     }
 
@@ -220,7 +249,13 @@ impl Rows {
         ensures rows { IfOk result (λ r. r.rows ≡ map (row self.now) places.now) }
     {
         let mut found = self.none_alike(alloc)?;
-        add_at(alloc, &mut found, self.chunks.as_slice(), places)?;
+        add_at(
+            alloc,
+            &mut found,
+            self.chunks.as_slice(),
+            self.marks.as_slice(),
+            places,
+        )?;
         Ok(found)
     }
 
@@ -271,6 +306,22 @@ fn spot_of(chunks: &[Chunk], i: usize) -> RowPosition
     unreachable!()
 }
 
+// The same, found from the last mark before the row on.
+fn spot_near(chunks: &[Chunk], marks: &[Mark], i: usize) -> RowPosition
+    requires row { i < length (all_rows chunks.now) }
+    requires marks { All (IsMark chunks.now) marks.now }
+    ensures chunk { result.chunk < length chunks.now }
+    ensures place { i ≡ length (all_rows (take result.chunk chunks.now)) + result.place }
+    ensures there { result.place < length (rows_in chunks.now result.chunk) }
+{
+    let (rest, before) = chunks_toward(chunks, marks, i);
+    let spot = spot_of(rest, i - before);
+    RowPosition {
+        chunk: chunks.len() - rest.len() + spot.chunk,
+        place: spot.place,
+    }
+}
+
 // Adds up to `count` rows of `chunks`, after skipping the first `skip` rows.
 fn add_part(
     alloc: Global,
@@ -286,6 +337,9 @@ fn add_part(
     let mut ahead = skip;
     let mut wanted = count;
     for i in 0..chunks.len() {
+        if wanted == 0 {
+            return Ok(());
+        }
         let rows = chunks[i].len();
         let from = ahead.min(rows);
         let more = wanted.min(rows - from);
@@ -352,9 +406,11 @@ fn add_at(
     alloc: Global,
     found: &mut Rows,
     chunks: &[Chunk],
+    marks: &[Mark],
     places: &[usize],
 ) -> Result<(), AllocError>
     requires types { All (λ c. c.types ≡ found.old.types) chunks.now }
+    requires marks { All (IsMark chunks.now) marks.now }
     requires there { ArePositions (length (all_rows chunks.now)) places.now }
     ensures types { found.new.types ≡ found.old.types }
     ensures ok { OnOk result (found.new.rows ≡ found.old.rows ++ map (λ i. slice_index_or (all_rows chunks.now) i []) places.now) }
@@ -365,7 +421,7 @@ fn add_at(
     }
     let mut from = 0;
     'runs: while from < places.len() {
-        from = add_run(alloc, found, chunks, places, from)?;
+        from = add_run(alloc, found, chunks, marks, places, from)?;
     }
     Ok(())
 }
@@ -375,10 +431,12 @@ fn add_run(
     alloc: Global,
     found: &mut Rows,
     chunks: &[Chunk],
+    marks: &[Mark],
     places: &[usize],
     from: usize,
 ) -> Result<usize, AllocError>
     requires types { All (λ c. c.types ≡ found.old.types) chunks.now }
+    requires marks { All (IsMark chunks.now) marks.now }
     requires there { ArePositions (length (all_rows chunks.now)) places.now }
     requires first { from < length places.now }
     ensures types { found.new.types ≡ found.old.types }
@@ -386,7 +444,7 @@ fn add_run(
     ensures end { IfOk result (λ to. to ≤ length places.now) }
     ensures rows { IfOk result (λ to. found.new.rows ≡ found.old.rows ++ map (λ i. slice_index_or (all_rows chunks.now) i []) (slice_range places.now from to)) }
 {
-    let spot = spot_of(chunks, places[from]);
+    let spot = spot_near(chunks, marks, places[from]);
     let start = places[from] - spot.place;
     let to = run_end(places, from, start, chunks[spot.chunk].len());
     let here = moved_back(alloc, &places[from..to], start)?;
