@@ -1,9 +1,9 @@
 -- Rows rise where their keys do, and where each chunk does and none begins in front of where the one before it ends.
-use Rattle.std.proofs.Common.{◌≡◌, ℕ, ℤ, pos, suc, ◌+◌, ◌-◌, ◌<◌, ◌≤◌, Bool, true, false, List, [], ◌∷◌, refl, sym, ap, ap₂, ◌∙◌, length, map, take, get_or, inl, inr, arith, tests, true≢false, not, is_lt, is_le}
-use Rattle.std.specs.List.{slice_range, IsAllAdjacentAnswer}
+use Rattle.std.proofs.Common.{◌≡◌, ℕ, ℤ, pos, suc, ◌+◌, ◌-◌, ◌<◌, ◌≤◌, Bool, true, false, List, [], ◌∷◌, refl, sym, ap, ap₂, ◌∙◌, length, map, take, drop, get_or, subst, ◌&&◌, inl, inr, arith, tests, true≢false, not, is_lt, is_le}
+use Rattle.std.specs.List.{slice_range}
 use Rattle.std.specs.Ordering.{int_cmp}
 use Rattle.std.proofs.lemmas.Bool.{cases_lt}
-use Rattle.std.proofs.lemmas.List.{get_or-map, length-map, length-append}
+use Rattle.std.proofs.lemmas.List.{get_or-map, get_or-take, get_or-drop, get_or_default, length-map, length-append}
 use Rattle.std.proofs.lemmas.List.Folds.{length-flat_map-take}
 use Rattle.vx_rows_values.specs.declared.order.OrderEntry.{OrderEntry}
 use Rattle.vx_rows_values.specs.Values.{Row, num, pick}
@@ -14,7 +14,7 @@ use Rattle.vx_rows_views.specs.Chunks.{all_rows}
 use Rattle.vx_rows_views.proofs.Facts.{length-slice, get_or-slice}
 use Rattle.vx_rows_views.proofs.Whole.{next-rows, spot-row}
 use Rattle.vx_match_keys.specs.Columns.{number_key}
-use Rattle.vx_match_keys.specs.Rising.{IsRiseAnswer}
+use Rattle.vx_match_keys.specs.Rising.{IsRiseAnswer, AtMostAnswer}
 
 -- one column in this direction
 abbrev pub one_column : ℕ → (falling : Bool) → List OrderEntry
@@ -29,10 +29,38 @@ fall-key : (falling : Bool) (x y : ℤ) → is_lt (compare_on (one_column 0 fall
 fall-key false x y = grind (arith, tests)
 fall-key true x y = grind (arith, tests)
 
--- the answer of `is_sorted_by` for a test
-pub turned : (numbers : List ℤ) (r : Bool) → IsAllAdjacentAnswer (λ x y b. b ≡ is_le (int_cmp y x)) numbers r → IsRiseAnswer true numbers r
-turned numbers true h = λ k d l. sym (h k d l)
-turned numbers false h = (h.0, h.1, λ d. sym (h.2 d))
+-- one place more
+pub at-most-next : (lower upper : List ℤ) (i : ℕ) (all b : Bool) → b ≡ is_le (int_cmp (get_or lower i (pos 0)) (get_or upper i (pos 0))) → AtMostAnswer lower upper i all → AtMostAnswer lower upper (i + 1) (all && b)
+at-most-next lower upper i false b e h = (h.0, omega (arith, h.1), h.2)
+at-most-next lower upper i true false e h = (i, omega arith, sym e)
+at-most-next lower upper i true true e h = λ k l. elim (cases_lt k i) [
+  | inl near ↦ h k near
+  | inr far ↦ let here : k ≡ i = omega (arith, l, far) in
+      subst (λ (j : ℕ). is_le (int_cmp (get_or lower j (pos 0)) (get_or upper j (pos 0))) ≡ true) (sym here) (sym e)
+]
+
+-- numbers and those behind them
+module _ (numbers : List ℤ) (last : ℕ) (long : last + 1 ≡ length numbers) where
+  before : (k : ℕ) (d : ℤ) → k < last → get_or (take last numbers) k (pos 0) ≡ get_or numbers k d
+  before k d l = get_or-take last numbers k (pos 0) l ∙ get_or_default numbers k (pos 0) d (omega (arith, l, long))
+
+  behind : (k : ℕ) (d : ℤ) → k < last → get_or (take last (drop 1 numbers)) k (pos 0) ≡ get_or numbers (k + 1) d
+  behind k d l =
+      let n : 1 + k ≡ k + 1 = omega arith in
+      get_or-take last (drop 1 numbers) k (pos 0) l
+      ∙ (get_or-drop 1 numbers k (pos 0) ∙ (ap (λ j. get_or numbers j (pos 0)) n ∙ get_or_default numbers (k + 1) (pos 0) d (omega (arith, l, long))))
+
+  pub rise-answer : (count : ℕ) → count ≡ last → (r : Bool) → AtMostAnswer (take last numbers) (take last (drop 1 numbers)) count r → IsRiseAnswer false numbers r
+  rise-answer count m true h = λ k d l. let near : k < last = omega (arith, l, long) in
+      ap is_le (sym (ap₂ int_cmp (before k d near) (behind k d near))) ∙ h k (omega (arith, near, m))
+  rise-answer count m false h = let near : h.0 < last = omega (arith, h.1, m) in
+      (h.0, omega (arith, near, long), λ d. ap is_le (sym (ap₂ int_cmp (before h.0 d near) (behind h.0 d near))) ∙ h.2)
+
+  pub fall-answer : (count : ℕ) → count ≡ last → (r : Bool) → AtMostAnswer (take last (drop 1 numbers)) (take last numbers) count r → IsRiseAnswer true numbers r
+  fall-answer count m true h = λ k d l. let near : k < last = omega (arith, l, long) in
+      ap is_le (sym (ap₂ int_cmp (behind k d near) (before k d near))) ∙ h k (omega (arith, near, m))
+  fall-answer count m false h = let near : h.0 < last = omega (arith, h.1, m) in
+      (h.0, omega (arith, near, long), λ d. ap is_le (sym (ap₂ int_cmp (behind h.0 d near) (before h.0 d near))) ∙ h.2)
 
 -- the keys of rows are as these
 module _ (c : ℕ) (falling : Bool) (rows keys : List Row) (e : keys ≡ map (pick (c ∷ [])) rows) where

@@ -5,7 +5,7 @@ ghost use Rattle.std.specs.Ordering.{is_lt, is_le, int_cmp};
 ghost use Rattle.vx_rows_values.specs.Values.{Row as Cells, pick};
 ghost use Rattle.vx_rows_values.specs.Order.{order_columns, compare_on, sorted};
 ghost use Rattle.vx_rows.specs.View.{row, AreColumns};
-ghost use Rattle.vx_match_keys.specs.Rising.{IsRiseAnswer};
+ghost use Rattle.vx_match_keys.specs.Rising.{IsRiseAnswer, AtMostAnswer};
 
 use crate::columns::IntColumn;
 use std::cmp::Ordering;
@@ -15,18 +15,31 @@ use vx_rows_views::{Chunk, Rows};
 // How many numbers are read and compared at once.
 const BLOCK: usize = 64;
 
+// Whether each of some numbers is at most the one at its place in another list. No branch stops it at one that is not, so that several are compared
+// at once.
+fn are_at_most(lower: &[i64], upper: &[i64]) -> bool
+    requires { length lower.now ≡ length upper.now }
+    ensures { AtMostAnswer lower.now upper.now (length lower.now) result }
+{
+    let mut all = true;
+    for i in 0..lower.len() {
+        all &= lower[i].cmp(&upper[i]).is_le();
+    }
+    all
+}
+
 // Whether none of these numbers is less than the one before it, or where they are to fall, greater.
 fn block_rises(numbers: &[i64], falling: bool) -> bool
     ensures { IsRiseAnswer falling numbers.now result }
 {
+    let Some(last) = numbers.len().checked_sub(1) else {
+        return true;
+    };
+    let (before, behind) = (&numbers[..last], &numbers[1..]);
     if falling {
-        numbers.is_sorted_by(
-            |a: &i64, b: &i64| -> bool
-                ensures { result ≡ is_le (int_cmp b.now a.now) }
-            { b <= a },
-        )
+        are_at_most(behind, before)
     } else {
-        numbers.is_sorted()
+        are_at_most(before, behind)
     }
 }
 
