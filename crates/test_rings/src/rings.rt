@@ -42,13 +42,9 @@ fn take(input: &mut RingIn, told: &mut String) -> Result<(), AllocError>
     }
 }
 
-// Adds to `told` whether the ring is half free.
+// Adds to `told` how many packets were seen to wait.
 fn look(input: &RingIn, told: &mut String) -> Result<(), AllocError> {
-    told.push_str(if input.is_half_free() {
-        " half-free"
-    } else {
-        " fuller"
-    })
+    write!(told, " seen({})", input.seen())
 }
 
 // Makes the step of a `word`, and adds to `told` what came of it.

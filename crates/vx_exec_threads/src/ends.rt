@@ -111,8 +111,7 @@ impl Ends {
         None
     }
 
-    /// Takes the next packet of a producer, from the queue or the ring. It takes no memory. A producer half of whose ring is
-    /// free now is woken.
+    /// Takes the next packet of a producer, from the queue or the ring. A producer whose ring was emptied is woken.
     pub fn take(&mut self, exchange: u32, from: u32, parkers: &[Parker]) -> Option<Packet>
         ensures does { Does self.old (took_one exchange from result) self.new }
         ensures draws { self.new.draws ≡ self.old.draws }

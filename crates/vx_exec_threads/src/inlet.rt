@@ -54,15 +54,14 @@ impl Inlet {
         self.exchange == exchange && self.from == from
     }
 
-    // Wakes the producer once half of the ring is free. One that found no place free put more packets than that before it slept,
-    // and sleeps only until half of them were taken.
+    // Wakes the producer once all packets were taken that were seen to wait, since it may have found the ring full.
     fn wake_producer(&self, parkers: &[Parker]) {
-        if self.ring.is_half_free() {
+        if self.ring.seen() == 0 {
             wake(parkers, self.producer);
         }
     }
 
-    // Takes the next packet of the ring. Its producer is woken, if half of the ring is free now.
+    // Takes the next packet of the ring. Its producer is woken, if it was the last that was seen to wait.
     fn pop(&mut self, parkers: &[Parker]) -> Option<Packet>
         ensures some { IfSome result (λ p. TakesFromRing self.old.ring p self.new.ring) }
         ensures none { IfNone result (FindsNone self.old.ring self.new.ring) }
@@ -96,8 +95,20 @@ impl Inlet {
         }
     }
 
+    // Moves the packets that are seen to wait in the ring to the queue, as far as there is memory for them: so their producer has all places
+    // of the ring again, after one look, and is woken once.
+    fn empty_ring(&mut self, parkers: &[Parker])
+        ensures { KeepsIn self.old self.new }
+    {
+        for _ in 0..self.ring.seen() {
+            let Ok(true) = self.look(parkers) else {
+                return;
+            };
+        }
+    }
+
     /// Moves what waits in the ring to the queue, and returns whether anything did. Where memory for the queue is
-    /// refused, what is left stays in the ring. The producer is woken, if half of the ring is free now.
+    /// refused, what is left stays in the ring. The producer is woken once all that was seen to wait was moved.
     pub fn gather(&mut self, parkers: &[Parker]) -> Result<bool, AllocError>
         ensures keeps { KeepsIn self.old self.new }
         ensures gathered { IfOk result (λ _. IsGathered self.new) }
@@ -112,7 +123,8 @@ impl Inlet {
         Ok(true)
     }
 
-    /// The next packet: of the queue, and where that is empty of the ring. It takes no memory.
+    /// The next packet: of the queue, and where that is empty of the ring, from which the others go to the queue then. Where memory for them is
+    /// refused, they stay in the ring.
     pub fn take(&mut self, parkers: &[Parker]) -> Option<Packet>
         ensures some { IfSome result (λ p. TakesIn self.old p self.new) }
         ensures none { IfNone result (FindsNoneIn self.old self.new) }
@@ -120,7 +132,9 @@ impl Inlet {
         if let Some(packet) = self.queue.pop_front() {
             return Some(packet);
         }
-        self.pop(parkers)
+        let packet = self.pop(parkers)?;
+        self.empty_ring(parkers);
+        Some(packet)
     }
 
     /// Brings the ring's two ends together, once no thread holds either: then what was put flowed to what was taken.

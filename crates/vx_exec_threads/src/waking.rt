@@ -2,8 +2,8 @@
 //!
 //! To wake a worker that sleeps is a call of the system, which takes longer than to pass a small packet on. So not every packet wakes its
 //! consumer, and not every place that becomes free wakes the producer. A producer wakes its consumers once some small packets or a large one
-//! wait for them, when it closes a ring, and before it waits itself. A consumer wakes a producer once half of the ring is free, and before it waits itself it
-//! takes all that is in its rings. So no worker sleeps on while its partner waits too.
+//! wait for them, when it closes a ring, and before it waits itself. A consumer that looks into a ring takes all that waits there
+//! and then wakes the producer once, and before it waits itself it does so with all its rings. So no worker sleeps on while its partner waits too.
 
 use std::thread::Parker;
 use vx_ports::Put;

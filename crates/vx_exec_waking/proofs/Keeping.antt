@@ -1,5 +1,5 @@
 -- What stands, event by event.
-use Rattle.std.proofs.Common.{ℕ, Bool, true, false, ◌≡◌, ◌+◌, ◌-◌, ◌*◌, ◌<◌, ◌≤◌, ◌⊎◌, ◌==◌, ◌&&◌, ◌||◌, refl, sym, subst, ap, ◌∙◌, inl, inr, arith, true≢false, List, [], ◌∷◌}
+use Rattle.std.proofs.Common.{ℕ, Bool, true, false, ◌≡◌, ◌+◌, ◌-◌, ◌<◌, ◌≤◌, ◌⊎◌, ◌==◌, ◌&&◌, ◌||◌, refl, sym, subst, ap, ◌∙◌, inl, inr, arith, true≢false, List, [], ◌∷◌}
 use Rattle.std.proofs.lemmas.Bool.Decides.{eqb_tells, leb_tells}
 use Rattle.vx_exec_waking.specs.Crew.{Crew, Phase, working, closing, draining, Want, place_at, packet_of, Doing, going, waking, waiting, asleep, ended}
 use Rattle.vx_exec_waking.specs.Crew.{WorkerState, RingState, World, on_worker, on_ring, WaitsFor, IsAsleep, IsUp, Reads}
@@ -265,8 +265,8 @@ keeps-moved C v c p st some busy tells =
       consumer = h.consumer;
     })
 
-move-cases : (C : Crew) (p : ℕ) (r : RingState) → (after_move all_duties C p r ≡ waking p) ⊎ ((after_move all_duties C p r ≡ going) × (0 < r.seen - 1))
-move-cases C p r = elim (leb_tells (2 * (r.seen - 1)) C.slack) [
+move-cases : (p : ℕ) (r : RingState) → (after_move all_duties p r ≡ waking p) ⊎ ((after_move all_duties p r ≡ going) × (0 < r.seen - 1))
+move-cases p r = elim (leb_tells r.seen 1) [
   | inl e ↦ inl (rw e.0 refl)
   | inr e ↦ let l = e.1 in inr (rw e.0 refl, omega (arith, l))
 ]
@@ -379,7 +379,7 @@ keeps C w (closes p c) st m = keeps-closes C w p c st m.1 m.3
 keeps C w (finds_full p c) st m = keeps-finds_full C w p c st m.0 m.1 m.2 m.3
 keeps C w (wakes_consumer p c) st m = keeps-wakes_consumer C w p c st
 keeps C w (looks c p) st m = keeps-looks C w c p st m.0 m.1
-keeps C w (moves c p) st m = keeps-moves C w c p st m.1 m.2 (after_move all_duties C p (w.ring p c)) (move-cases C p (w.ring p c))
+keeps C w (moves c p) st m = keeps-moves C w c p st m.1 m.2 (after_move all_duties p (w.ring p c)) (move-cases p (w.ring p c))
 keeps C w (wakes_producer c p) st m = keeps-wakes_producer C w c p st m.0 m.1
 keeps C w (reads c p) st m = keeps-reads C w c p st m.1 m.3
 keeps C w (finds_none c p) st m = keeps-finds_none C w c p st m.0 m.1 m.2 m.3 m.4 m.5

@@ -1,6 +1,6 @@
 -- What the workers of a run do, one event after another, in any order of the threads (our own). Each event is one access to a word that threads share,
 -- or to none: a store or a load of a ring's end, or an exchange on a parker. All are in one order, since each of them is sequentially consistent.
-use Rattle.std.specs.Prelude.{ℕ, Bool, true, false, cond, ◌≡◌, ◌-◌, ◌*◌, ◌<◌, ◌≤◌, ◌⊎◌, ◌&&◌, List, [], ◌∷◌, nat_le}
+use Rattle.std.specs.Prelude.{ℕ, Bool, true, false, cond, ◌≡◌, ◌<◌, ◌≤◌, ◌⊎◌, ◌&&◌, List, [], ◌∷◌, nat_le}
 use Rattle.vx_exec_waking.specs.Crew.{Crew, working, closing, draining, Want, place_at, packet_of, Doing, going, waking, waiting, asleep, ended}
 use Rattle.vx_exec_waking.specs.Crew.{WorkerState, RingState, World, on_worker, on_ring, IsUp, Reads}
 use Rattle.vx_exec_waking.specs.Crew.{now, in_phase, given_token, awake, to_wake, has_woken, has_looked, lacking}
@@ -26,7 +26,7 @@ pub data Event : Type 0 where
   ends : (a : ℕ) → Event
 
 -- What a worker does for its partners, and what may be left out to see what it is for: before it sleeps it wakes the consumers that have packets;
--- before it sleeps it looks into all its rings; and it wakes a producer once at most half of the places in its ring are taken
+-- before it sleeps it looks into all its rings; and it wakes a producer once it knows of no packet more in the ring
 pub record Duties : Type 0 where
   pub wakes_consumers : Bool
   pub gathers : Bool
@@ -79,10 +79,9 @@ May D C w (ends a) =
     ((w.worker a).doing ≡ going) × ((w.worker a).phase ≡ draining) × HasWoken C a (w.worker a)
     × ((p : ℕ) → C.feeds p a ≡ true → (w.ring p a).over ≡ true)
 
--- what a worker is about once it has taken a packet out of the ring: it wakes the producer if the packets of which it still knows take at most half
--- of the places
-abbrev pub after_move : Duties → Crew → ℕ → RingState → Doing
-after_move D C p r = cond (D.wakes_producers && nat_le (2 * (r.seen - 1)) C.slack) (waking p) going
+-- what a worker is about once it has taken a packet out of the ring: it wakes the producer if it knows of no other packet there
+abbrev pub after_move : Duties → ℕ → RingState → Doing
+after_move D p r = cond (D.wakes_producers && nat_le r.seen 1) (waking p) going
 
 abbrev pub after : Duties → Crew → World → Event → World
 after D C w (puts p c) = on_ring (on_worker w p (to_wake c)) p c one_more
@@ -90,7 +89,7 @@ after D C w (closes p c) = on_ring (on_worker w p (to_wake c)) p c closed_now
 after D C w (finds_full p c) = on_worker w p (now (waiting (place_at c)))
 after D C w (wakes_consumer p c) = on_worker (on_worker w c given_token) p (has_woken c)
 after D C w (looks c p) = on_ring (on_worker w c (has_looked p (w.ring p c).packets)) p c all_seen
-after D C w (moves c p) = on_ring (on_worker w c (now (after_move D C p (w.ring p c)))) p c one_moved
+after D C w (moves c p) = on_ring (on_worker w c (now (after_move D p (w.ring p c)))) p c one_moved
 after D C w (wakes_producer c p) = on_worker (on_worker w p given_token) c (now going)
 after D C w (reads c p) = on_ring w p c one_read
 after D C w (finds_none c p) = on_worker w c (now (waiting (packet_of p)))

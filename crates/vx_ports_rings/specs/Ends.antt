@@ -1,7 +1,7 @@
 -- What is known of the two ends of a ring, each by itself (our own; the ring is that of the crate rtrb).
 use Rattle.std.specs.Prelude.{◌≡◌, ℕ, ◌+◌, ◌≤◌, List, [], ◌∷◌, ◌++◌}
 use mathlib.Core.List.{IsPrefix}
-use Rattle.rtrb.specs.Ring.{sent, received, known_free, known_items, producer_capacity, consumer_capacity, IsPair, SameProducer, SameConsumer}
+use Rattle.rtrb.specs.Ring.{sent, received, known_free, known_items, producer_capacity, IsPair, SameProducer, SameConsumer}
 use Rattle.vx_ports.specs.Packets.{PacketView, closes, is_closed}
 use Rattle.vx_ports_rings.specs.declared.ring.RingOut.{RingOut}
 use Rattle.vx_ports_rings.specs.declared.ring.RingIn.{RingIn}
@@ -28,10 +28,6 @@ SameIn a b = SameConsumer a.consumer b.consumer
 -- how many packets the ring has places for
 abbrev pub slack_of : RingOut → ℕ
 slack_of o = producer_capacity o.producer
-
--- the same, of the end that takes
-abbrev pub places_of : RingIn → ℕ
-places_of i = consumer_capacity i.consumer
 
 -- how many of its places are free, as the end that puts last saw it: there may be more by now, and not fewer
 abbrev pub room_of : RingOut → ℕ

@@ -63,15 +63,14 @@ impl RingOut {
 }
 
 impl RingIn {
-    ghost use Rattle.std.specs.Prelude.{◌≤◌, ◌*◌, ◌↔◌, IsTrue, length};
-    ghost use Rattle.vx_ports_rings.specs.Ends.{seen_by, places_of};
+    ghost use Rattle.std.specs.Prelude.{◌≡◌, length};
+    ghost use Rattle.vx_ports_rings.specs.Ends.{seen_by};
 
-    /// Whether at most half the slots are occupied, by this end's cached count: a lower bound, the producer may have pushed
-    /// since.
-    pub fn is_half_free(&self) -> bool
-        ensures { IsTrue result ↔ (2 * length (seen_by self.now) ≤ places_of self.now) }
+    /// How many packets wait, as this end last saw it: there may be more by now. It looks at nothing that the other end writes.
+    pub fn seen(&self) -> usize
+        ensures { result ≡ length (seen_by self.now) }
     {
-        self.consumer.cached_slots() <= self.consumer.capacity() / 2
+        self.consumer.cached_slots()
     }
 }
 
